@@ -93,6 +93,7 @@ still-taken which taken more before (event.Lost host number cause) h =
     ∙ le-more (count_by (same_kind (Fates host)) taken) (count_by (same_kind (Fates host)) more) (count_by (is_of (Fates host)) before) (is_host which host) h
 still-taken which taken more before (event.Accepted host number) h = refl
 still-taken which taken more before (event.Slot table entry header) h = refl
+still-taken which taken more before event.Service h = refl
 still-taken which taken more before (event.Due node) h = refl
 still-taken which taken more before (event.Put node answer) h = refl
 still-taken which taken more before (event.Seen how) h = refl
@@ -139,6 +140,7 @@ not-left which taken before (event.Lost host number cause) es few =
     le-false (count_by (same_kind (Fates host)) taken) (count_by (is_of (Fates host)) before) (is_host which host) (omega (arith, few host, more))
 not-left which taken before (event.Accepted host number) es few = refl
 not-left which taken before (event.Slot table entry header) es few = refl
+not-left which taken before event.Service es few = refl
 not-left which taken before (event.Due node) es few = refl
 not-left which taken before (event.Put node answer) es few = refl
 not-left which taken before (event.Seen how) es few = refl

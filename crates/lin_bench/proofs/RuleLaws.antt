@@ -25,6 +25,7 @@ nothing-or false xs e = refl
 notes-nothing : (t : ℕ) (e : Event) → notes_for [] t e ≡ []
 notes-nothing t (event.Accepted host number) = refl
 notes-nothing t (event.Slot table entry header) = refl
+notes-nothing t event.Service = refl
 notes-nothing t (event.Due node) = refl
 notes-nothing t (event.Put node answer) = refl
 notes-nothing t (event.Seen how) = refl

@@ -10,7 +10,7 @@ use Rattle.lin_frame.specs.declared.value.Value.{Value}
 use Rattle.lin_frame.specs.declared.value.Value.TheVariants.{Scalar, Bytes}
 use Rattle.lin_parts.specs.Cluster.{line_of, nodes}
 use Rattle.lin_parts.specs.declared.parts.Entry.{Entry}
-use Rattle.lin_parts.specs.declared.parts.Entry.TheVariants.{MasterReq, SlaveResp}
+use Rattle.lin_parts.specs.declared.parts.Entry.TheVariants.{MasterReq, SlaveResp, Fixed}
 use Rattle.lin_parts.specs.declared.parts.Parts.{Parts}
 use Rattle.lin_core.specs.History.{Slot, asleep, did, events, is_finish, open_slot, time}
 use Rattle.lin_core.specs.Links.{waiting}
@@ -168,6 +168,7 @@ last_slot (e ∷ past) = if did is_finish e then open_slot past else last_slot p
 abbrev pub carried_for : Parts → Entry → Slot → Option Carried
 carried_for c MasterReq s = Some RequestFrame
 carried_for c SlaveResp s = Some Response
+carried_for c (Fixed request) s = Some Request
 carried_for c entry s = option_map Signals (carried_by c entry s)
 
 abbrev pub carried : Parts → Slot → Option Carried

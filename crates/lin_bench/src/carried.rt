@@ -243,7 +243,7 @@ pub(crate) fn signals_in(cluster: &Cluster, slot: &OpenSlot, entry: Entry) -> Op
         Entry::Event(event) => {
             frame_from(cluster, cluster.event_frames(event), slot.nodes.as_slice())
         }
-        Entry::MasterReq | Entry::SlaveResp | Entry::Quiet => None,
+        Entry::MasterReq | Entry::SlaveResp | Entry::Fixed(_) | Entry::Quiet => None,
     }
 }
 
@@ -252,7 +252,7 @@ fn carried(cluster: &Cluster, slot: &OpenSlot) -> Option<Carried>
     ensures { (s : Slot) → shape_in slot.now ≡ shape s → result ≡ carried cluster.now s }
 {
     match entry_at(cluster, slot.table, slot.entry) {
-        Entry::MasterReq => Some(Carried::Request),
+        Entry::MasterReq | Entry::Fixed(_) => Some(Carried::Request),
         Entry::SlaveResp => Some(Carried::Response),
         entry => match signals_in(cluster, slot, entry) {
             Some(frame) => Some(Carried::Signals(frame)),

@@ -110,4 +110,5 @@ described-cluster d sound members =
       tables = described-tables d none;
       times = described-times d none;
       errors = described-errors d;
+      identities = record { each = λ k i lt. absurd (omega (arith, lt)); rising = λ j k i lt there. absurd (omega (arith, there)) };
     }

@@ -254,6 +254,7 @@ parts_of d = record {
   events = events_of d;
   tables = tables_of d;
   errors = error_signals d;
+  identities = [];
   speed = d.speed.value;
   jitter_us = d.jitter.value;
   base_us = d.time_base.value;

@@ -5,7 +5,7 @@ use Rattle.lin_parts.specs.Cluster.{event_of, frame_of, sporadic_of}
 use Rattle.lin_parts.specs.declared.parts.Entry.{Entry}
 use Rattle.lin_parts.specs.declared.parts.Entry.TheVariants.{Frame, Sporadic, Event}
 use Rattle.lin_parts.specs.declared.parts.Entry.TheVariants.{MasterReq}
-use Rattle.lin_parts.specs.declared.parts.Entry.TheVariants.{SlaveResp, Quiet}
+use Rattle.lin_parts.specs.declared.parts.Entry.TheVariants.{SlaveResp, Fixed, Quiet}
 use Rattle.lin_parts.specs.declared.parts.Parts.{Parts}
 
 abbrev pub frame_bytes : Parts → ℕ → ℕ
@@ -23,6 +23,7 @@ slot_bytes c (Sporadic k) = greatest_bytes c (sporadic_of c k)
 slot_bytes c (Event e) = frame_bytes c (slice_index (event_of c e).frames 0)
 slot_bytes c MasterReq = 8
 slot_bytes c SlaveResp = 8
+slot_bytes c (Fixed request) = 8
 slot_bytes c Quiet = 8
 
 -- the time in microseconds that the slot takes at most

@@ -10,6 +10,7 @@ ghost use Rattle.lin_cluster.specs.Models.{frame_model};
 use lin_frame::SumKind;
 use lin_parts::Parts;
 use lin_parts::description::Description;
+use lin_text::Many;
 use signals::NumberedSignals;
 use std::alloc::{AllocError, Global};
 
@@ -45,6 +46,7 @@ pub(crate) fn parts_of(
         events: frames::events_of(alloc, d, models, d.events())?,
         tables: tables::tables_of(alloc, d, d.tables())?,
         errors,
+        identities: Many::new(Vec::new(alloc)),
         speed: d.speed().value,
         jitter_us: d.jitter().value,
         base_us: d.time_base().value,

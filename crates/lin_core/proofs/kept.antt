@@ -5,6 +5,7 @@ pub mod Keeping
 pub mod BusAndSenders
 pub mod SignalKeeping
 pub mod Bus
+pub mod Ready
 pub mod Receiving
 pub mod Passing
 pub mod Going

@@ -7,3 +7,4 @@ pub mod Reports
 pub mod Readings
 pub mod Defined
 pub mod Laws
+pub mod NoServices

@@ -96,7 +96,7 @@ pub data Sign : Type 0 where
   Put : (frame : List ℕ) → (how : Option Seen) → Sign
   Mark : (cause : Cause) → Sign
 
--- the frames that a slot puts on a link, in order: data bytes alone
+-- the frames that a slot of messages puts on a link, in order: data bytes alone
 abbrev pub put_by : Direction → ℕ → Option ℕ → Slot → List (List ℕ)
 put_by Down node k s =
     if header_is 0x3C s.header
@@ -110,8 +110,9 @@ put_by Up node k s =
     then map (λ (p : ℕ × List ℕ). take 8 p.1) (filter (λ (p : ℕ × List ℕ). p.0 == node) s.puts)
     else []
 
+-- a slot for a service has no frames of messages
 abbrev pub put_on : Parts → Link → Slot → List (List ℕ)
-put_on c l s = put_by l.dir l.node (nad c l.node) s
+put_on c l s = if s.service then [] else put_by l.dir l.node (nad c l.node) s
 
 abbrev pub is_timeout_of : Link → Step → Bool
 is_timeout_of l (Timeout node dir) = same_link l (record { node = node; dir = dir })
@@ -283,11 +284,15 @@ abbrev pub diagnostic_header : Direction → ℕ
 diagnostic_header Down = 0x3C
 diagnostic_header Up = 0x7D
 
+-- the bytes of a good frame of a message under this header
+abbrev pub message_under : ℕ → Slot → Option (List ℕ)
+message_under h s = if s.service then None else good_under h s
+
 abbrev pub heard_at : Parts → Link → LogEntry → List LogEntry → List Heard
 heard_at c l e past =
     (if is_some (mark l e past) then Reset ∷ [] else [])
     ++ option_map_or (heard_good (ear_on c l))
-    (option_map_or (good_under (diagnostic_header l.dir)) (finished_slot e past) None) []
+    (option_map_or (message_under (diagnostic_header l.dir)) (finished_slot e past) None) []
 
 abbrev pub heard_on : Parts → List LogEntry → Link → List Heard
 heard_on c [] l = []

@@ -1,12 +1,18 @@
 -- Promises rest on this: the laws, each as one statement over the history of a log.
-use Rattle.std.specs.Prelude.{◌≡◌, ℕ, ⊤, true, List, [], ◌∷◌, is_some, map}
-use Rattle.lin_parts.specs.Cluster.{nad}
+use Rattle.std.specs.Prelude.{◌≡◌, ℕ, ⊤, Bool, true, false, List, [], ◌∷◌, is_some, map}
+use Rattle.std.specs.List.{list_any}
+use Rattle.lin_parts.specs.Cluster.{line_of, nad}
+use Rattle.lin_parts.specs.declared.parts.Entry.{Entry}
+use Rattle.lin_parts.specs.declared.parts.Entry.TheVariants.{Fixed}
 use Rattle.lin_core.specs.Defined.{AreDefined, TellsDue}
 use Rattle.lin_core.specs.History.{done, events, LogEntry, Parts}
 use Rattle.lin_core.specs.Law.{InOrder, NoneLost, NoSendAfterClose, ReadsAll, ReadsSent, Stays}
 use Rattle.lin_core.specs.Law.{is_calm, outcomes_of, AgreesOn}
 use Rattle.lin_core.specs.Links.{Link, blocks, frames_to, messages_on}
 use Rattle.lin_core.specs.Reports.{ReportsFates, TellsReading}
+use Rattle.lin_core.specs.Slots.{due_nodes, plain_nodes, ready_responses}
+use Rattle.lin_core.specs.declared.event.Event.{Event}
+use Rattle.lin_core.specs.declared.event.Event.TheVariants.{Service}
 
 -- exact delivery: the receiver of each link reads the messages that were accepted for it and sent,
 -- in order and each once, and the message events of the link are these
@@ -56,3 +62,25 @@ LosesNothing c past =
     is_calm past ≡ true
     → ((h : ℕ) → NoneLost (outcomes_of c past h))
     × ((l : Link) → is_some (nad c l.node) ≡ true → ReadsAll c past l)
+
+-- no services: where no entry carries a request of node configuration, no response is ever ready, no
+-- open tells of a service, and the nodes that are due are those of slots of messages and signals
+abbrev pub is_request : Entry → Bool
+is_request (Fixed request) = true
+is_request entry = false
+
+abbrev pub HasNoRequest : Parts → Type 0
+HasNoRequest c = (table entry : ℕ) → is_request (line_of c table entry).entry ≡ false
+
+abbrev pub is_service_event : Event → Bool
+is_service_event Service = true
+is_service_event event = false
+
+abbrev pub NoServices : Parts → List LogEntry → Type 0
+NoServices c [] = ⊤
+NoServices c (e ∷ past) =
+    (list_any is_service_event (events e) ≡ false)
+    × (ready_responses c (e ∷ past) ≡ [])
+    × ((table entry : ℕ)
+    → due_nodes c past (line_of c table entry).entry ≡ plain_nodes c past (line_of c table entry).entry)
+    × NoServices c past

@@ -15,7 +15,7 @@ use Rattle.lin_core.specs.History.{is_in, is_sleep_slot, has_decided, LogEntry, 
 use Rattle.lin_core.specs.Links.{Link, Sending, Fate, accepted_from, host_of, same_link, waiting}
 use Rattle.lin_core.specs.Links.{is_begun, sendings, fate_of, waits, reading}
 use Rattle.lin_core.specs.Links.Fate.{Waiting, Sent as IsSent, Lost as IsLost}
-use Rattle.lin_core.specs.Slots.{next_due, header, due_nodes, put, model_of}
+use Rattle.lin_core.specs.Slots.{next_due, header, due_nodes, is_service, put_by, model_of}
 use Rattle.lin_core.specs.declared.port.PortId.{PortId}
 use Rattle.lin_core.specs.declared.port.PortId.TheVariants.{Bus, Host, Node}
 use Rattle.lin_core.specs.declared.link.Direction.{Direction}
@@ -24,7 +24,8 @@ use Rattle.lin_core.specs.declared.step.Step.TheVariants.{Send, Write, Open, Ans
 use Rattle.lin_core.specs.declared.step.Step.TheVariants.{Finish, Timeout, Switch, AskSleep, Wake}
 use Rattle.lin_core.specs.declared.step.Step.TheVariants.{Close}
 use Rattle.lin_core.specs.declared.event.Event.{Event}
-use Rattle.lin_core.specs.declared.event.Event.TheVariants.{Accepted, Slot, Due, Put, Seen, Message}
+use Rattle.lin_core.specs.declared.event.Event.TheVariants.{Accepted, Slot, Service, Due, Put, Seen}
+use Rattle.lin_core.specs.declared.event.Event.TheVariants.{Message}
 use Rattle.lin_core.specs.declared.event.Event.TheVariants.{Sent, Lost, Asleep as SleepEvent}
 use Rattle.lin_core.specs.declared.reply.Refusal.{Refusal}
 use Rattle.lin_core.specs.declared.reply.Refusal.TheVariants.{NoSuchNode, NoSuchSignal, NoSuchTable}
@@ -153,15 +154,21 @@ refusal c capacity past port step =
     (λ (r : Refusal × Bool). r.0)
     (find (λ (r : Refusal × Bool). r.1) (refusals c capacity past port step))
 
+-- the event of an open of a slot for a service
+abbrev pub service_events : Bool → List Event
+service_events served = if served then Service ∷ [] else []
+
+-- the events of an open: its slot, whether it is for a service, and who is due in it
 abbrev pub opening_events : Parts → ℕ → List LogEntry → List Event
 opening_events c opening past =
     let at : ℕ × ℕ = next_due c opening past
     in let entry = (line_of c at.0 at.1).entry
-    in Slot at.0 at.1 (header c past entry) ∷ map Due (due_nodes c past entry)
+    in Slot at.0 at.1 (header c past entry)
+    ∷ (service_events (is_service c past entry) ++ map Due (due_nodes c past entry))
 
 abbrev pub put_event : Parts → List LogEntry → ℕ → OpenSlot → List Event
 put_event c past n s =
-    option_map_or (λ h. Put n (put c past (line_of c s.table s.entry).entry h n) ∷ []) s.header []
+    option_map_or (λ h. Put n (put_by c past s h n) ∷ []) s.header []
 
 -- the links: each responder that has an address, down and up
 abbrev pub all_links : Parts → List Link

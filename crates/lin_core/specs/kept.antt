@@ -4,4 +4,5 @@ pub mod Signals
 pub mod Hosts
 pub mod Receivers
 pub mod Bus
+pub mod Ready
 pub mod State

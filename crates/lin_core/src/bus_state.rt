@@ -49,7 +49,7 @@ pub fn node_with(cluster: &Cluster, address: u8) -> Option<u8>
 
 /// The first byte of a master request that was seen good, the slot's only response; none of another
 /// slot.
-fn request_byte(slot: &OpenSlot) -> Option<u8>
+pub(crate) fn request_byte(slot: &OpenSlot) -> Option<u8>
     ensures { result
         ≡ option_map (λ bytes. slice_index bytes 0) (good_under 0x3C (slot_in slot.now)) }
 {

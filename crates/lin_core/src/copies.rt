@@ -96,6 +96,7 @@ impl Event {
                 entry,
                 header,
             }),
+            Event::Service => Ok(Event::Service),
             Event::Due { node } => Ok(Event::Due { node }),
             Event::Put { node, answer } => Ok(Event::Put { node, answer }),
             Event::Seen(seen) => Ok(Event::Seen(seen)),

@@ -31,6 +31,7 @@ pub(crate) fn header_of(cluster: &Cluster, due: Due, waits: bool) -> Option<u8>
         Due::Event(event) => Some(cluster.event_pid(event)),
         Due::MasterReq if waits => Some(MASTER_REQUEST),
         Due::SlaveResp => Some(SLAVE_RESPONSE),
+        Due::Fixed => Some(MASTER_REQUEST),
         Due::Sporadic(None) | Due::MasterReq | Due::Quiet => None,
     }
 }
@@ -69,7 +70,7 @@ fn is_due_of(
         }
         Due::MasterReq => node == 0 && waits,
         Due::SlaveResp => responder == Some(node),
-        Due::Quiet => false,
+        Due::Fixed | Due::Quiet => false,
     }
 }
 

@@ -62,6 +62,9 @@ pub enum Event {
         entry: u16,
         header: Option<u8>,
     },
+    /// The slot that was opened is for a service of node configuration (LIN 2.2A, section 4.2): it carries
+    /// no frame of a message.
+    Service,
     /// A node is due to answer in the open slot.
     Due {
         node: u8,

@@ -5,7 +5,8 @@ ghost use Rattle.std.specs.Prelude.{ℕ, List};
 ghost use Rattle.lin_parts.specs.Sound.{IsSound};
 ghost use Rattle.lin_parts.specs.declared.parts.Parts.{Parts};
 ghost use Rattle.lin_core.specs.Promises.{CarriesFrames, StaysClosed, DeliversExactly};
-ghost use Rattle.lin_core.specs.Promises.{FatesAreFinal, LosesNothing, PutsInOrder};
+ghost use Rattle.lin_core.specs.Promises.{FatesAreFinal, HasNoRequest, LosesNothing, NoServices};
+ghost use Rattle.lin_core.specs.Promises.{PutsInOrder};
 ghost use Rattle.lin_core.specs.Runs.{history};
 ghost use Rattle.lin_core.specs.declared.port.PortId.{PortId};
 ghost use Rattle.lin_core.specs.declared.step.Step.{Step};
@@ -47,4 +48,10 @@ pub fn stays_closed()
 pub fn loses_nothing()
     ensures { (c : Parts) (opening capacity : ℕ) (steps : List (PortId × Step)) → IsSound c
         → LosesNothing c (history c opening capacity steps) }
+{}
+
+/// Where no entry carries a request of node configuration, no slot is for a service.
+pub fn no_services()
+    ensures { (c : Parts) (opening capacity : ℕ) (steps : List (PortId × Step)) → HasNoRequest c
+        → NoServices c (history c opening capacity steps) }
 {}

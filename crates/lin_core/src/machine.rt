@@ -22,6 +22,7 @@ use crate::signals::Signals;
 use crate::slot::Slot;
 use crate::state::State;
 use crate::step::Step;
+use arrayvec::ArrayVec;
 use lin_frame::Value;
 use lin_parts::Cluster;
 use lin_schedule::Walker;
@@ -98,7 +99,8 @@ fn no_events(setup: &Setup) -> Events
 
 impl Core {
     ghost use Rattle.std.specs.Prelude.{◌≡◌, ◌<◌, ◌≤◌, ◌-◌, ◌^◌, [], length, OnOk, IfOk, ◌↔◌};
-    ghost use Rattle.std.specs.Prelude.{slice_index_or};
+    ghost use Rattle.std.specs.Prelude.{false, slice_index_or};
+    ghost use Rattle.std.specs.Option.{option_map_or};
     ghost use Rattle.lin_core.specs.Promises.{CarriesFrames, DeliversExactly, FatesAreFinal};
     ghost use Rattle.lin_core.specs.Promises.{LosesNothing, PutsInOrder, StaysClosed};
     ghost use Rattle.lin_parts.specs.Cluster.{nodes};
@@ -149,6 +151,7 @@ impl Core {
                     asked: false,
                     selected: None,
                 },
+                ready: ArrayVec::new(),
             },
         })
     }
@@ -238,6 +241,13 @@ impl Core {
             return slot.open().undecided();
         }
         0
+    }
+
+    /// Whether a slot is open that is for a service of node configuration (LIN 2.2A, section 4.2).
+    pub fn is_in_service(&self) -> bool
+        ensures { result ≡ option_map_or (λ s. s.service) (open_slot (past_of self.now)) false }
+    {
+        self.state.slot.is_open() && self.state.slot.open().service
     }
 
     /// The header of the open slot, where it has one, and the first node that has answered in it,

@@ -1,8 +1,10 @@
 //! What a slot carries of the transport.
 
-ghost use Rattle.std.specs.Prelude.{◌≡◌};
+ghost use Rattle.std.specs.Prelude.{◌≡◌, if◌then◌else◌};
+ghost use Rattle.lin_core.specs.History.{is_sleep_slot};
 ghost use Rattle.lin_core.specs.kept.Slots.{slot_in, pdu_of};
 
+use crate::bus_state::request_byte;
 use crate::slot::{MASTER_REQUEST, OpenSlot, SLAVE_RESPONSE};
 
 /// What a slot carries of the transport: nothing, the sleep frame, or a frame of a host's message
@@ -15,10 +17,23 @@ pub(crate) enum Pdu {
 }
 
 impl OpenSlot {
+    /// What a slot for a service carries: a FreeFormat frame may be the sleep frame.
+    fn service_pdu(&self) -> Pdu
+        ensures { result ≡ (if is_sleep_slot (slot_in self.now) then Pdu.Sleep else Pdu.Nothing) }
+    {
+        match request_byte(self) {
+            Some(0) => Pdu::Sleep,
+            _ => Pdu::Nothing,
+        }
+    }
+
     /// What the slot carries.
     pub(crate) fn pdu(&self) -> Pdu
         ensures { result ≡ pdu_of (slot_in self.now) }
     {
+        if self.service {
+            return self.service_pdu();
+        }
         let Some(put) = self.puts.as_slice().first() else {
             return Pdu::Nothing;
         };

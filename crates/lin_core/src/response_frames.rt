@@ -46,7 +46,7 @@ pub(crate) fn frame_by(cluster: &Cluster, entry: Entry, header: u8, node: u8) ->
         Entry::Frame(frame) => Some(frame),
         Entry::Sporadic(sporadic) => frame_under(cluster, cluster.sporadic(sporadic), header),
         Entry::Event(event) => frame_from(cluster, cluster.event_frames(event), node),
-        Entry::MasterReq | Entry::SlaveResp | Entry::Quiet => None,
+        Entry::MasterReq | Entry::SlaveResp | Entry::Fixed(_) | Entry::Quiet => None,
     }
 }
 
@@ -95,6 +95,6 @@ pub fn model_under(cluster: &Cluster, entry: Entry, header: u8) -> SumKind
             }
         }
         Entry::Event(event) => cluster.event_model(event),
-        Entry::MasterReq | Entry::SlaveResp | Entry::Quiet => SumKind::Classic,
+        Entry::MasterReq | Entry::SlaveResp | Entry::Fixed(_) | Entry::Quiet => SumKind::Classic,
     }
 }

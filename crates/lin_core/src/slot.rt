@@ -6,6 +6,8 @@ ghost use Rattle.std.specs.Prelude.{IfOk, Some, None, is_some, map, take};
 ghost use Rattle.std.specs.List.{list_any};
 ghost use Rattle.lin_schedule.specs.Walker.{HasEntry};
 ghost use Rattle.lin_core.specs.History.{first_node, good, has_decided, is_clash_seen, is_in, seen_of};
+ghost use Rattle.lin_core.specs.Slots.{has_put};
+ghost use Rattle.lin_core.specs.Replies.{service_events};
 ghost use Rattle.lin_core.specs.kept.Slots.{opening_slot_kept, slot_in};
 ghost use Rattle.lin_core.specs.declared.slot.OpenSlot.{OpenSlot};
 ghost use Rattle.lin_core.specs.declared.slot.Put.{Put};
@@ -55,6 +57,7 @@ pub(crate) struct OpenSlot {
     pub(crate) entry: u16,
     pub(crate) kind: Entry,
     pub(crate) header: Option<u8>,
+    pub(crate) service: bool,
     pub(crate) due: ArrayVec<u8, NODES>,
     pub(crate) puts: ArrayVec<Put, NODES>,
     pub(crate) left: ArrayVec<u8, NODES>,
@@ -75,27 +78,47 @@ fn has_left(left: &[u8], node: u8) -> bool
     left.iter().any(|other| *other == node)
 }
 
+/// The first events of an open, in a list with room for so many more. An error means out of memory.
+fn first_events(
+    alloc: Global,
+    opened: Event,
+    service: bool,
+    more: usize,
+) -> Result<Vec<Event>, AllocError>
+    requires { more ≤ 16 }
+    ensures { IfOk result (λ events. events.items ≡ opened ∷ service_events service) }
+{
+    let mut events = Vec::with_capacity(alloc, 2 + more)?;
+    events.push(opened)?;
+    if service {
+        events.push(Event::Service)?;
+    }
+    Ok(events)
+}
+
 /// The events of an open of a slot for an entry of a table, under a header, in which these nodes
-/// are due. An error means out of memory.
+/// are due, and which may be for a service. An error means out of memory.
 pub(crate) fn opening_events(
     alloc: Global,
     place: (u16, u16),
     header: Option<u8>,
+    service: bool,
     due: &[u8],
 ) -> Result<Events, AllocError>
+    requires { length due.now ≤ 16 }
     ensures { IfOk result
-        (λ events. events ≡ Event.Slot place.0 place.1 header ∷ map Event.Due due.now) }
+        (λ events. events
+        ≡ Event.Slot place.0 place.1 header ∷ (service_events service ++ map Event.Due due.now)) }
 {
     let opened = Event::Slot {
         table: place.0,
         entry: place.1,
         header,
     };
-    if due.is_empty() {
+    if due.is_empty() && !service {
         return Ok(Events::one(opened));
     }
-    let mut events = Vec::with_capacity(alloc, 1 + due.len())?;
-    events.push(opened)?;
+    let mut events = first_events(alloc, opened, service, due.len())?;
     for node in due {
         events.push(Event::Due { node: *node })?;
     }
@@ -115,6 +138,13 @@ impl OpenSlot {
         ensures { result ≡ has_decided (slot_in self.now) node }
     {
         has_put(self.puts.as_slice(), node) || has_left(self.left.as_slice(), node)
+    }
+
+    /// Whether a node has put a response in the slot.
+    pub(crate) fn has_put(&self, node: u8) -> bool
+        ensures { result ≡ has_put (slot_in self.now) node }
+    {
+        has_put(self.puts.as_slice(), node)
     }
 
     /// How many nodes that are due have decided nothing.
@@ -229,6 +259,7 @@ impl Slot {
                 entry: 0,
                 kind: Entry::Quiet,
                 header: None,
+                service: false,
                 due: ArrayVec::new(),
                 puts: ArrayVec::new(),
                 left: ArrayVec::new(),
@@ -258,10 +289,11 @@ impl Slot {
         cluster: &Cluster,
         place: (u16, u16),
         header: Option<u8>,
+        service: bool,
         due: ArrayVec<u8, NODES>,
     )
         requires { HasEntry cluster.now place }
-        ensures { self.new ≡ Some (opening_slot_kept cluster.now place header due.items) }
+        ensures { self.new ≡ Some (opening_slot_kept cluster.now place header service due.items) }
     {
         self.is_open = true;
         let slot = &mut self.kept;
@@ -269,6 +301,7 @@ impl Slot {
         slot.entry = place.1;
         slot.kind = cluster.entry(place.0, place.1);
         slot.header = header;
+        slot.service = service;
         slot.due = due;
         slot.puts.clear();
         slot.left.clear();

@@ -476,6 +476,7 @@ event-told c k at count (event.Sent host number) l = count-told c k at host (cou
 event-told c k at count (event.Lost host number why) l = count-told c k at host (count host) l
 event-told c k at count event.Asleep l = group-told c k none at (number_change 1 5 1) (quiet-change c k 1 5 1 (bus-other c 5 (omega arith)))
 event-told c k at count (event.Slot table entry header) l = quiet-groups c k
+event-told c k at count event.Service l = quiet-groups c k
 event-told c k at count (event.Due node) l = quiet-groups c k
 event-told c k at count (event.Put node answer) l = quiet-groups c k
 event-told c k at count (event.Seen how) l = quiet-groups c k

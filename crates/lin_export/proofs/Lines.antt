@@ -36,6 +36,7 @@ behind-good c (Some s) answer = good-shown c answer s
 behind-shown : (c : Parts) (o : Option Slot) (e : Event) → behind c (option_map shown_slot o) e ≡ behind c o e
 behind-shown c o (event.Accepted host number) = refl
 behind-shown c o (event.Slot table entry header) = refl
+behind-shown c o event.Service = refl
 behind-shown c o (event.Due node) = refl
 behind-shown c o (event.Put node answer) = refl
 behind-shown c o (event.Seen (seen.Good answer)) = behind-good c o answer
@@ -59,6 +60,7 @@ values-good c k (Some s) answer = values-shown c k answer s
 seen-shown : (c : Parts) (k : CodedData) (o : Option Slot) (e : Event) → seen_values c k (option_map shown_slot o) e ≡ seen_values c k o e
 seen-shown c k o (event.Accepted host number) = refl
 seen-shown c k o (event.Slot table entry header) = refl
+seen-shown c k o event.Service = refl
 seen-shown c k o (event.Due node) = refl
 seen-shown c k o (event.Put node answer) = refl
 seen-shown c k o (event.Seen (seen.Good answer)) = values-good c k o answer

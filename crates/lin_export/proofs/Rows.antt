@@ -42,6 +42,7 @@ carried-shown c (entries.Sporadic k) s = refl
 carried-shown c (entries.Event e) s = refl
 carried-shown c entries.MasterReq s = refl
 carried-shown c entries.SlaveResp s = refl
+carried-shown c (entries.Fixed request) s = refl
 carried-shown c entries.Quiet s = refl
 
 pub frame-shown : (c : Parts) (entry : Entry) (s : Slot) → slot_frame c entry (shown_slot s) ≡ slot_frame c entry s
@@ -50,6 +51,7 @@ frame-shown c (entries.Sporadic k) s = refl
 frame-shown c (entries.Event e) s = refl
 frame-shown c entries.MasterReq s = refl
 frame-shown c entries.SlaveResp s = refl
+frame-shown c (entries.Fixed request) s = refl
 frame-shown c entries.Quiet s = refl
 
 pub value-shown : (c : Parts) (s : Slot) (k : ℕ) → value_in c (shown_slot s) k ≡ value_in c s k

@@ -14,6 +14,7 @@ use Rattle.lin_export.specs.Track.{TrackData, shown_slot, track_of}
 told-shown : (e : Event) (s : Slot) → shown_slot (slot_after_event e (shown_slot s)) ≡ shown_slot (slot_after_event e s)
 told-shown (event.Accepted host number) s = refl
 told-shown (event.Slot table entry header) s = refl
+told-shown event.Service s = refl
 told-shown (event.Due node) s = refl
 told-shown (event.Put node answer) s = refl
 told-shown (event.Seen how) s = refl

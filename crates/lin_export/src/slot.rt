@@ -184,7 +184,7 @@ impl OpenSlot {
                 None => None,
             },
             Entry::Event(event) => frame_put(cluster, cluster.event_frames(event), self.puts()),
-            Entry::MasterReq | Entry::SlaveResp | Entry::Quiet => None,
+            Entry::MasterReq | Entry::SlaveResp | Entry::Fixed(_) | Entry::Quiet => None,
         }
     }
 

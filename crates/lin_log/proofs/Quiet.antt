@@ -103,6 +103,7 @@ quiet-cause cause.Slept = refl
 pub quiet-event : (l : Language) → HasNames l → (e : Event) → are_quiet (event_words l e) ≡ true
 quiet-event l a (event.Accepted host number) = rw (quiet-called l.nodes a.of_nodes host, quiet-decimal number) refl
 quiet-event l a (event.Slot table entry header) = rw (quiet-called l.tables a.of_tables table, quiet-decimal entry, quiet-header header) refl
+quiet-event l a event.Service = refl
 quiet-event l a (event.Due node) = rw (quiet-called l.nodes a.of_nodes node) refl
 quiet-event l a (event.Put node answer) = rw (quiet-called l.nodes a.of_nodes node, quiet-hex answer) refl
 quiet-event l a (event.Seen s) = quiet-seen s

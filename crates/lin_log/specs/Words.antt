@@ -87,6 +87,7 @@ event_words l (event.Accepted host number) =
     codes "accepted" ∷ word_of l.nodes host ∷ decimal number ∷ []
 event_words l (event.Slot table entry header) =
     codes "slot" ∷ word_of l.tables table ∷ decimal entry ∷ header_word header ∷ []
+event_words l event.Service = codes "service" ∷ []
 event_words l (event.Due node) = codes "due" ∷ word_of l.nodes node ∷ []
 event_words l (event.Put node answer) = codes "put" ∷ word_of l.nodes node ∷ hex_word answer ∷ []
 event_words l (event.Seen s) = codes "seen" ∷ seen_words s

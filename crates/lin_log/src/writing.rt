@@ -238,6 +238,7 @@ pub fn put_event<N: Naming, W: Write>(out: &mut TextWriter<'_, W>, names: &N, ev
             put_called(out, None, u64::from(*entry));
             put_header(out, *header);
         }
+        Event::Service => out.put_text(" service"),
         Event::Due { node } => put_lone_node(out, names, " due", *node),
         Event::Put { node, answer } => {
             put_lone_node(out, names, " put", *node);

@@ -3,3 +3,4 @@ pub mod Limits
 pub mod Pairs
 pub mod SoundClusters
 pub mod Carrying
+pub mod Configuring

@@ -1,15 +1,17 @@
 -- The parts of a cluster by their numbers. A number out of range gives a part that breaks no rule
 -- of clusters.
-use Rattle.std.specs.Prelude.{ℕ, ◌==◌, Bool, List, [], filter, length, slice_index_or, position}
-use Rattle.std.specs.Prelude.{Option, None, codes}
+use Rattle.std.specs.Prelude.{ℕ, ◌==◌, Bool, List, [], ◌∷◌, filter, length, slice_index_or, position}
+use Rattle.std.specs.Prelude.{Option, None, codes, flat_map}
 use Rattle.std.specs.List.{list_any, range_with_len}
+use Rattle.std.specs.Option.{option_map_or}
 use Rattle.std.specs.Str.{bytes_eq}
 use Rattle.lin_frame.specs.declared.sums.SumKind.TheVariants.{Enhanced}
 use Rattle.lin_frame.specs.declared.value.Value.TheVariants.{Scalar}
 use Rattle.lin_parts.specs.declared.parts.Entry.{Entry}
 use Rattle.lin_parts.specs.declared.parts.Entry.TheVariants.{Frame, Sporadic, Event}
 use Rattle.lin_parts.specs.declared.parts.Entry.TheVariants.{MasterReq}
-use Rattle.lin_parts.specs.declared.parts.Entry.TheVariants.{SlaveResp, Quiet}
+use Rattle.lin_parts.specs.declared.parts.Entry.TheVariants.{SlaveResp, Fixed, Quiet}
+use Rattle.lin_parts.specs.declared.parts.Identity.{Identity}
 use Rattle.lin_parts.specs.declared.parts.Node.{Node}
 use Rattle.lin_parts.specs.declared.parts.Signal.{Signal}
 use Rattle.lin_parts.specs.declared.parts.SignalFrame.{SignalFrame}
@@ -18,6 +20,7 @@ use Rattle.lin_parts.specs.declared.parts.EventFrame.{EventFrame}
 use Rattle.lin_parts.specs.declared.parts.Line.{Line}
 use Rattle.lin_parts.specs.declared.parts.Table.{Table}
 use Rattle.lin_parts.specs.declared.parts.Parts.{Parts}
+use Rattle.lin_parts.specs.Services.{service_name, response_by}
 
 -- how many nodes there are: their numbers are those below this
 abbrev pub nodes : Parts → ℕ
@@ -95,14 +98,15 @@ sporadic_name c k = (named_sporadic c k).name
 abbrev pub event_name : Parts → ℕ → List ℕ
 event_name c e = (event_of c e).name
 
--- the name of what an entry of a table is for (LIN 2.2A, section 9.2.5); `-` for a configuration
--- entry
+-- the name of what an entry of a table is for (LIN 2.2A, section 9.2.5): of a configuration entry that
+-- of its service, and `-` if it is silent
 abbrev pub entry_name : Parts → Entry → List ℕ
 entry_name c (Frame f) = frame_name c f
 entry_name c (Sporadic k) = sporadic_name c k
 entry_name c (Event e) = event_name c e
 entry_name c MasterReq = codes "MasterReq"
 entry_name c SlaveResp = codes "SlaveResp"
+entry_name c (Fixed b) = service_name b
 entry_name c Quiet = codes "-"
 
 -- what kind of frame an entry is for (ISO 17987-3, frame slots)
@@ -112,4 +116,14 @@ entry_kind (Sporadic k) = codes "sporadic"
 entry_kind (Event e) = codes "event"
 entry_kind MasterReq = codes "request"
 entry_kind SlaveResp = codes "response"
+entry_kind (Fixed b) = codes "configuration"
 entry_kind Quiet = codes "configuration"
+
+-- the response of a responder to a request of node configuration (LIN 2.2A, section 4.2)
+abbrev pub response_of : Parts → Identity → List ℕ → Option (List ℕ)
+response_of c i b = option_map_or (λ own. response_by i own b) (nad c i.node) None
+
+-- the responders that respond to a request, each with its response
+abbrev pub responses : Parts → List ℕ → List (ℕ × List ℕ)
+responses c b =
+    flat_map (λ i. option_map_or (λ r. (i.node, r) ∷ []) (response_of c i b) []) c.identities

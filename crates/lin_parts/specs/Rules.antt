@@ -2,7 +2,7 @@
 -- limits.
 use Rattle.std.specs.Prelude.{◌≡◌, ◌≢◌, ◌<◌, ◌≤◌, ℕ, Bool, true, false, ◌==◌, if◌then◌else◌, List}
 use Rattle.std.specs.Prelude.{◌++◌, length, map, All, AllPairs, EachIndex, Some, None, IfSome}
-use Rattle.std.specs.Prelude.{IsTrue}
+use Rattle.std.specs.Prelude.{IsTrue, is_some}
 use Rattle.std.specs.List.{AllZip, list_any}
 use Rattle.lin_frame.specs.Bits.{fits_place, is_good_layout, has_good_size}
 use Rattle.lin_frame.specs.Frame.{pid}
@@ -13,10 +13,12 @@ use Rattle.lin_parts.specs.Cluster.{nodes, nad, signal_of, frame_of, table_of}
 use Rattle.lin_parts.specs.declared.parts.Entry.{Entry}
 use Rattle.lin_parts.specs.declared.parts.Entry.TheVariants.{Frame, Sporadic, Event}
 use Rattle.lin_parts.specs.declared.parts.Entry.TheVariants.{MasterReq}
-use Rattle.lin_parts.specs.declared.parts.Entry.TheVariants.{SlaveResp, Quiet}
+use Rattle.lin_parts.specs.declared.parts.Entry.TheVariants.{SlaveResp, Fixed, Quiet}
 use Rattle.lin_parts.specs.declared.parts.ErrorSignal.{ErrorSignal}
+use Rattle.lin_parts.specs.declared.parts.Identity.{Identity}
 use Rattle.lin_parts.specs.declared.parts.Node.{Node}
 use Rattle.lin_parts.specs.declared.parts.Parts.{Parts}
+use Rattle.lin_parts.specs.declared.parts.Product.{Product}
 use Rattle.lin_parts.specs.declared.parts.Signal.{Signal}
 
 -- the diagnostic addresses of responders
@@ -138,6 +140,7 @@ IsEntry c (Sporadic k) = k < length c.sporadic
 IsEntry c (Event e) = e < length c.events
 IsEntry c MasterReq = Unit {0}
 IsEntry c SlaveResp = Unit {0}
+IsEntry c (Fixed b) = Unit {0}
 IsEntry c Quiet = Unit {0}
 
 -- a delay in microseconds
@@ -159,6 +162,26 @@ pub record IsErrorSignal (c : Parts) (e : ErrorSignal) : Type 0 where
   pub scalar : is_array (signal_of c e.signal).initial ≡ false
   pub frames : All (λ f. f < length c.frames) e.frames
 
+-- the NADs that a responder may have before it is configured (LIN 2.2A, section 9.2.2.2, initial_NAD)
+abbrev pub IsInitialNad : ℕ → Type 0
+IsInitialNad n = (1 ≤ n) × (n ≤ 127) × (n ≢ 126)
+
+-- the numbers of a product, which aren't the wildcards of requests (LIN 2.2A, section 4.2)
+abbrev pub IsProduct : Product → Type 0
+IsProduct p = (p.supplier < 0x7FFF) × (p.function < 0xFFFF)
+
+-- what is known of a responder that has an address
+pub record IsIdentity (c : Parts) (i : Identity) : Type 0 where
+  pub responder : (1 ≤ i.node) × (i.node < nodes c)
+  pub addressed : is_some (nad c i.node) ≡ true
+  pub initial : IsInitialNad i.initial
+  pub product : IfSome i.product IsProduct
+
+-- responders that have an address, by rising number
+pub record AreIdentities (c : Parts) (all : List Identity) : Type 0 where
+  pub each : All (IsIdentity c) all
+  pub rising : AllPairs (λ i j. i.node < j.node) all
+
 -- a speed of at most 20,000 bits per second, and times of at most 1,000 seconds
 pub record AreTimes (c : Parts) : Type 0 where
   pub speed : (1 ≤ c.speed) × (c.speed ≤ 20000)
@@ -175,4 +198,5 @@ pub record IsCluster (c : Parts) : Type 0 where
   pub events : AreEvents c
   pub tables : AreTables c
   pub errors : All (IsErrorSignal c) c.errors
+  pub identities : AreIdentities c c.identities
   pub times : AreTimes c

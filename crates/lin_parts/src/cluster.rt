@@ -6,16 +6,20 @@ ghost use Rattle.std.specs.List.{list_any};
 ghost use Rattle.std.specs.Str.{bytes_eq};
 ghost use Rattle.lin_parts.specs.Cluster.{has_signal, nodes, nad, node_of, signal_of};
 ghost use Rattle.lin_parts.specs.Cluster.{frame_of, named_sporadic, frame_name, sporadic_name};
-ghost use Rattle.lin_parts.specs.Cluster.{event_name, entry_name};
+ghost use Rattle.lin_parts.specs.Cluster.{event_name, entry_name, response_of};
+ghost use Rattle.lin_parts.specs.Configured.{configured};
 ghost use Rattle.lin_parts.specs.Cluster.{frames_with, sporadic_of, event_of, named_table};
 ghost use Rattle.lin_parts.specs.Cluster.{table_of, line_of, first_table};
-ghost use Rattle.lin_parts.specs.Rules.{IsCluster, IsDelay, IsEntry};
+ghost use Rattle.lin_parts.specs.Rules.{AreIdentities, IsCluster, IsDelay, IsEntry};
 ghost use Rattle.lin_parts.specs.Sound.{IsSound};
 
 use crate::carriers::all_carriers;
+use crate::configured::with_requests;
 use crate::parts::{
-    Entry, ErrorSignal, EventFrame, Line, Node, Parts, Signal, SignalFrame, SporadicFrame, Table,
+    Entry, ErrorSignal, EventFrame, Identity, Line, Node, Parts, Signal, SignalFrame,
+    SporadicFrame, Table,
 };
+use crate::service::service_name;
 use lin_frame::{Layout, SumKind, Value};
 use lin_text::Many;
 use std::alloc::{AllocError, Global};
@@ -451,7 +455,7 @@ impl Cluster {
     }
 
     /// The name of what an entry of a schedule table is for (LIN 2.2A, section 9.2.5): a frame's,
-    /// `MasterReq` or `SlaveResp`, and `-` for a configuration entry.
+    /// `MasterReq` or `SlaveResp`, the service of a configuration entry, and `-` if that is silent.
     pub fn entry_name(&self, entry: Entry) -> &[u8]
         ensures { result.now ≡ entry_name self.now entry }
     {
@@ -461,8 +465,52 @@ impl Cluster {
             Entry::Event(event) => self.event_name(event),
             Entry::MasterReq => b"MasterReq",
             Entry::SlaveResp => b"SlaveResp",
+            Entry::Fixed(bytes) => service_name(&bytes),
             Entry::Quiet => b"-",
         }
+    }
+
+    /// What node configuration needs to know of the responders that have an address, by rising number
+    /// (LIN 2.2A, section 4.2).
+    pub fn identities(&self) -> &[Identity]
+        ensures identities { result.now ≡ self.now.identities }
+        ensures there { All (λ i. i.node < nodes self.now) result.now }
+        ensures few { length result.now ≤ 15 }
+    {
+        self.parts.identities.as_slice()
+    }
+
+    /// The response of a responder to a request of node configuration, or `None` (LIN 2.2A, section
+    /// 4.2).
+    pub fn response_of(&self, identity: &Identity, request: &[u8; 8]) -> Option<[u8; 8]>
+        requires { identity.now.node < nodes self.now }
+        ensures { result ≡ response_of self.now identity.now request.now }
+    {
+        match self.nad(identity.node) {
+            Some(nad) => identity.response_by(nad, request),
+            None => None,
+        }
+    }
+
+    /// The same cluster, with what is known of its responders, and with requests for the silent entries
+    /// of its tables: for each table, the requests of its entries. Requests for no entry, or for one that
+    /// isn't silent, are ignored.
+    pub fn configured(
+        self,
+        identities: Many<Identity>,
+        requests: &[Many<Option<[u8; 8]>>],
+    ) -> Cluster
+        requires { AreIdentities self identities }
+        ensures { result ≡ configured self identities requests.now }
+    {
+        let Cluster { parts, carriers } = self;
+        let tables = Many::new(with_requests(parts.tables.into_vec(), requests));
+        let parts = Parts {
+            tables,
+            identities,
+            ..parts
+        };
+        Cluster { parts, carriers }
     }
 
     /// The signals by which responders tell errors in responses (LIN 2.2A, section 9.2.2.2,

@@ -13,12 +13,16 @@
 
 mod carriers;
 mod cluster;
+mod configured;
 pub mod description;
 mod parts;
 mod place;
+mod service;
 
 pub use cluster::Cluster;
 pub use parts::{
-    Entry, ErrorSignal, EventFrame, Line, Node, Parts, Signal, SignalFrame, SporadicFrame, Table,
+    Entry, ErrorSignal, EventFrame, Identity, Line, Node, Parts, Product, Signal, SignalFrame,
+    SporadicFrame, Table,
 };
 pub use place::Place;
+pub use service::service_name;

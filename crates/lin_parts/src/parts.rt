@@ -95,7 +95,9 @@ pub enum Entry {
     MasterReq,
     /// The slave response frame.
     SlaveResp,
-    /// A configuration entry, which stays silent.
+    /// A configuration entry: a master request frame with these data bytes.
+    Fixed([u8; 8]),
+    /// A configuration entry that stays silent.
     Quiet,
 }
 
@@ -111,7 +113,7 @@ impl Entry {
             Entry::Event(_) => b"event",
             Entry::MasterReq => b"request",
             Entry::SlaveResp => b"response",
-            Entry::Quiet => b"configuration",
+            Entry::Fixed(_) | Entry::Quiet => b"configuration",
         }
     }
 }
@@ -140,6 +142,27 @@ pub struct ErrorSignal {
     pub frames: Many<u16>,
 }
 
+/// A product identification: the numbers of the supplier (at most 0x7FFE), of its function (at most
+/// 0xFFFE) and of its variant (LIN 2.2A, section 9.2.2.2, product_id).
+#[derive(Clone, Copy, Debug, Drop, PartialEq, Eq)]
+pub struct Product {
+    pub supplier: u16,
+    pub function: u16,
+    pub variant: u8,
+}
+
+/// What node configuration needs to know of a responder that has an address: the NAD that it has
+/// before it is configured, its product identification, and for each of its configurable frames the
+/// message identifier, if the frame has one (LIN 2.2A, section 9.2.2.2, initial_NAD, product_id and
+/// configurable_frames).
+#[derive(Drop)]
+pub struct Identity {
+    pub node: u8,
+    pub initial: u8,
+    pub product: Option<Product>,
+    pub messages: Many<Option<u16>>,
+}
+
 /// All that a cluster is made of, with its speed in bits per second, and its jitter and time base in
 /// microseconds (LIN 2.2A, sections 9.2.1 and 9.2.2).
 #[derive(Drop)]
@@ -151,6 +174,7 @@ pub struct Parts {
     pub events: Many<EventFrame>,
     pub tables: Many<Table>,
     pub errors: Many<ErrorSignal>,
+    pub identities: Many<Identity>,
     pub speed: u32,
     pub jitter_us: u32,
     pub base_us: u32,

@@ -11,7 +11,7 @@ use Rattle.lin_parts.specs.declared.parts.Table.{Table}
 use Rattle.lin_parts.specs.declared.parts.EventFrame.{EventFrame}
 use Rattle.lin_parts.specs.declared.parts.Line.{Line}
 use Rattle.lin_parts.specs.declared.parts.Entry.{Entry}
-use Rattle.lin_parts.specs.declared.parts.Entry.TheVariants.{Frame, Sporadic, Event, MasterReq, SlaveResp, Quiet}
+use Rattle.lin_parts.specs.declared.parts.Entry.TheVariants.{Frame, Sporadic, Event, MasterReq, SlaveResp, Fixed, Quiet}
 use Rattle.lin_schedule.specs.Schedule.{resolving}
 use Rattle.lin_schedule.specs.Walker.{HasEntry}
 use Rattle.lin_schedule.proofs.Times.{AreDelays, no_line}
@@ -68,6 +68,8 @@ resolving-start c rules MasterReq has true t is = absurd (none-some t (sym is))
 resolving-start c rules MasterReq has false t is = absurd (none-some t (sym is))
 resolving-start c rules SlaveResp has true t is = absurd (none-some t (sym is))
 resolving-start c rules SlaveResp has false t is = absurd (none-some t (sym is))
+resolving-start c rules (Fixed b) has true t is = absurd (none-some t (sym is))
+resolving-start c rules (Fixed b) has false t is = absurd (none-some t (sym is))
 resolving-start c rules Quiet has true t is = absurd (none-some t (sym is))
 resolving-start c rules Quiet has false t is = absurd (none-some t (sym is))
 

@@ -12,7 +12,7 @@ use Rattle.lin_parts.specs.Rules.{IsCluster, IsEntry, is_event}
 use Rattle.lin_parts.specs.declared.parts.EventFrame.{EventFrame}
 use Rattle.lin_parts.specs.declared.parts.Line.{Line}
 use Rattle.lin_parts.specs.declared.parts.Entry.{Entry}
-use Rattle.lin_parts.specs.declared.parts.Entry.TheVariants.{Frame, Sporadic, Event, MasterReq, SlaveResp, Quiet}
+use Rattle.lin_parts.specs.declared.parts.Entry.TheVariants.{Frame, Sporadic, Event, MasterReq, SlaveResp, Fixed, Quiet}
 use Rattle.lin_schedule.specs.Carriers.{can_collide}
 use Rattle.lin_schedule.specs.Schedule.{Slot, resolving, standing}
 use Rattle.lin_schedule.specs.Walker.{Position, position_of}
@@ -70,6 +70,7 @@ plain-entry c (Frame f) is = refl
 plain-entry c (Sporadic s) is = refl
 plain-entry c MasterReq is = refl
 plain-entry c SlaveResp is = refl
+plain-entry c (Fixed b) is = refl
 plain-entry c Quiet is = refl
 
 pub resolving-plain : (c : Parts) → IsCluster c → (e : ℕ) → e < length c.events → (place : ℕ)
@@ -94,6 +95,7 @@ colliding-event c (Frame f) can = absurd (false≢true can)
 colliding-event c (Sporadic s) can = absurd (false≢true can)
 colliding-event c MasterReq can = absurd (false≢true can)
 colliding-event c SlaveResp can = absurd (false≢true can)
+colliding-event c (Fixed b) can = absurd (false≢true can)
 colliding-event c Quiet can = absurd (false≢true can)
 
 -- after a main slot, without a collision and with one

@@ -10,7 +10,7 @@ use Rattle.lin_parts.specs.declared.parts.Parts.{Parts}
 use Rattle.lin_parts.specs.declared.parts.Entry.{Entry}
 use Rattle.lin_parts.specs.declared.parts.Entry.TheVariants.{Frame, Sporadic, Event}
 use Rattle.lin_parts.specs.declared.parts.Entry.TheVariants.{MasterReq}
-use Rattle.lin_parts.specs.declared.parts.Entry.TheVariants.{SlaveResp, Quiet}
+use Rattle.lin_parts.specs.declared.parts.Entry.TheVariants.{SlaveResp, Fixed, Quiet}
 
 -- the entries whose slots carry it, unless the answers in the slot collide: those of frames,
 -- sporadic and event-triggered frames by their numbers, and the diagnostic ones
@@ -21,13 +21,14 @@ pub record Carriers : Type 0 where
   pub request : Bool
   pub response : Bool
 
--- whether an entry's slot carries it
+-- whether an entry's slot carries it (the frame of a configuration entry is none of a message)
 abbrev pub carries : Carriers → Entry → Bool
 carries k (Frame f) = slice_index_or k.frames f false
 carries k (Sporadic s) = slice_index_or k.sporadic s false
 carries k (Event e) = slice_index_or k.events e false
 carries k MasterReq = k.request
 carries k SlaveResp = k.response
+carries k (Fixed b) = false
 carries k Quiet = false
 
 -- whether a frame has a signal

@@ -5,7 +5,7 @@ use Rattle.lin_parts.specs.declared.parts.Parts.{Parts}
 use Rattle.lin_parts.specs.declared.parts.Entry.{Entry}
 use Rattle.lin_parts.specs.declared.parts.Entry.TheVariants.{Frame, Sporadic, Event}
 use Rattle.lin_parts.specs.declared.parts.Entry.TheVariants.{MasterReq}
-use Rattle.lin_parts.specs.declared.parts.Entry.TheVariants.{SlaveResp, Quiet}
+use Rattle.lin_parts.specs.declared.parts.Entry.TheVariants.{SlaveResp, Fixed, Quiet}
 use Rattle.lin_schedule.specs.declared.due.Due.{Due}
 use Rattle.lin_schedule.specs.declared.due.Due.TheVariants.{
   Frame as FrameDue,
@@ -13,6 +13,7 @@ use Rattle.lin_schedule.specs.declared.due.Due.TheVariants.{
   Event as EventDue,
   MasterReq as MasterReqDue,
   SlaveResp as SlaveRespDue,
+  Fixed as FixedDue,
   Quiet as QuietDue,
 }
 
@@ -25,4 +26,5 @@ due_for c pending (Sporadic k) =
 due_for c pending (Event e) = EventDue e
 due_for c pending MasterReq = MasterReqDue
 due_for c pending SlaveResp = SlaveRespDue
+due_for c pending (Fixed b) = FixedDue
 due_for c pending Quiet = QuietDue

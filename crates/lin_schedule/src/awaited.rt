@@ -112,7 +112,7 @@ impl Awaited {
             Entry::Event(event) => is_set(&self.events, event),
             Entry::MasterReq => self.request,
             Entry::SlaveResp => self.response,
-            Entry::Quiet => false,
+            Entry::Fixed(_) | Entry::Quiet => false,
         }
     }
 }

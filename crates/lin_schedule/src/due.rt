@@ -14,6 +14,8 @@ pub enum Due {
     MasterReq,
     /// The slave response frame.
     SlaveResp,
-    /// A configuration entry, which stays silent.
+    /// A configuration entry: a master request frame with its data bytes.
+    Fixed,
+    /// A configuration entry that stays silent.
     Quiet,
 }

@@ -80,6 +80,7 @@ impl Walker {
             Entry::Event(event) => Due::Event(event),
             Entry::MasterReq => Due::MasterReq,
             Entry::SlaveResp => Due::SlaveResp,
+            Entry::Fixed(_) => Due::Fixed,
             Entry::Quiet => Due::Quiet,
         }
     }

@@ -48,6 +48,7 @@ some-both false false m = refl
 agrees : (l : Link) (e : Event) → (if is_note_for (port_on l) e then message_from (host_of l) (note.Event e) else None) ≡ message_for l e
 agrees l (event.Accepted h number) = none-either (h == receiver_of l.dir l.node)
 agrees l (event.Slot table entry header) = refl
+agrees l event.Service = refl
 agrees l (event.Due k) = refl
 agrees l (event.Put k answer) = refl
 agrees l (event.Seen how) = refl

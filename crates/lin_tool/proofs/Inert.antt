@@ -231,6 +231,7 @@ cause-inert cause.Slept = refl
 event-inert : (e : Event) → are_inert (event_words plain e) ≡ true
 event-inert (event.Accepted host number) = rw (called-inert host, number-inert number) refl
 event-inert (event.Slot table entry header) = rw (called-inert table, number-inert entry, header-inert header) refl
+event-inert event.Service = refl
 event-inert (event.Due node) = rw (called-inert node) refl
 event-inert (event.Put node answer) = rw (called-inert node, hex-inert answer) refl
 event-inert (event.Seen s) = seen-inert s

@@ -29,6 +29,7 @@ cluster_a =
       events = [];
       tables = record { name = 84 ∷ []; lines = record { entry = MasterReq; delay_us = 10000 } ∷ record { entry = SlaveResp; delay_us = 10000 } ∷ [] } ∷ [];
       errors = [];
+      identities = [];
       speed = 19200;
       jitter_us = 100;
       base_us = 5000;

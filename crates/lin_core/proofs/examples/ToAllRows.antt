@@ -31,6 +31,7 @@ cluster =
       events = [];
       tables = record { name = 84 ∷ []; lines = record { entry = MasterReq; delay_us = 10000 } ∷ [] } ∷ [];
       errors = [];
+      identities = [];
       speed = 19200;
       jitter_us = 100;
       base_us = 5000;

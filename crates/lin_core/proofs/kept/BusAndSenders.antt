@@ -30,7 +30,7 @@ use Rattle.lin_core.specs.kept.Slots.{slot_in}
 use Rattle.lin_core.specs.Signals.{carried_frame, carried_by}
 use Rattle.lin_parts.specs.Cluster.{line_of}
 use Rattle.lin_parts.specs.declared.parts.Entry.{Entry}
-use Rattle.lin_parts.specs.declared.parts.Entry.TheVariants.{Frame, Sporadic, Event as EventEntry, MasterReq, SlaveResp, Quiet}
+use Rattle.lin_parts.specs.declared.parts.Entry.TheVariants.{Frame, Sporadic, Event as EventEntry, MasterReq, SlaveResp, Fixed, Quiet}
 use Rattle.lin_core.specs.declared.slot.Put.{Put}
 use Rattle.lin_core.proofs.sendings.Hosts.{eqb-self, HostState, IsCount}
 use Rattle.lin_core.proofs.slots.OpenSlots.{or-assoc, or-false}
@@ -289,6 +289,7 @@ carried-same c (Sporadic k) s t h p = rw h refl
 carried-same c (EventEntry e) s t h p = rw p refl
 carried-same c MasterReq s t h p = refl
 carried-same c SlaveResp s t h p = refl
+carried-same c (Fixed request) s t h p = refl
 carried-same c Quiet s t h p = refl
 
 -- what is kept of signals, where the slot's responses are the same
@@ -328,7 +329,7 @@ leave-keeps c opening capacity log past slot clock walker hosts signals by node 
     in let r = k.slot_there.room
     in record {
       slot_is = rw (← k.slot_is) refl;
-      slot_there = record { there = k.slot_there.there; kind_is = k.slot_there.kind_is; known = k.slot_there.known; request = k.slot_there.request; answers = k.slot_there.answers; room = simp length-append (omega arith) };
+      slot_there = record { there = k.slot_there.there; kind_is = k.slot_there.kind_is; known = k.slot_there.known; request = k.slot_there.request; answers = k.slot_there.answers; served = k.slot_there.served; room = simp length-append (omega arith) };
       clock_is = k.clock_is;
       clock_few = let t = k.clock_few in omega arith;
       stands = k.stands;
@@ -346,7 +347,7 @@ hurt-keeps c opening capacity log past slot clock walker hosts signals by bytes 
     in let known' : Known c (e ∷ past) = hurt-known c past by bytes [] known
     in record {
       slot_is = rw (← k.slot_is) refl;
-      slot_there = record { there = k.slot_there.there; kind_is = k.slot_there.kind_is; known = k.slot_there.known; request = k.slot_there.request; answers = k.slot_there.answers; room = k.slot_there.room };
+      slot_there = record { there = k.slot_there.there; kind_is = k.slot_there.kind_is; known = k.slot_there.known; request = k.slot_there.request; answers = k.slot_there.answers; served = k.slot_there.served; room = k.slot_there.room };
       clock_is = k.clock_is;
       clock_few = let t = k.clock_few in omega arith;
       stands = k.stands;

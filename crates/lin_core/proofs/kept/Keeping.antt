@@ -11,11 +11,11 @@ use Rattle.lin_core.specs.kept.Signals.{KeepsSignals, Ends}
 use Rattle.lin_core.specs.declared.signals.Signals.{Signals}
 use Rattle.lin_core.proofs.kept.SignalKeeping.{Writes, Answers, set-at, signals-same, open-signals, write-signals, write-fits, answer-signals, finish-signals}
 use Rattle.lin_core.proofs.slots.Opening.{with_put, put-open, answer-free}
-use Rattle.lin_core.specs.kept.Slots.{IsOpen, put_in, slot_in}
+use Rattle.lin_core.specs.kept.Slots.{IsOpen, opening_slot, put_in, slot_in}
 use Rattle.lin_frame.specs.declared.value.Value.{Value}
 use Rattle.lin_core.specs.Links.{Message, waiting, link_of, accepted_from, sent_from}
 use Rattle.lin_core.specs.Core.{CoreData, IsRefused, answered, IsAllowed, past_of}
-use Rattle.lin_core.specs.Replies.{reply, refusal, refusals, opening_events, done_events, put_event, finish_events}
+use Rattle.lin_core.specs.Replies.{reply, refusal, refusals, opening_events, service_events, done_events, put_event, finish_events}
 use Rattle.lin_core.specs.declared.log.LogEntry.{LogEntry}
 use Rattle.lin_core.specs.declared.port.PortId.{PortId}
 use Rattle.lin_core.specs.declared.step.Step.{Step}
@@ -31,18 +31,17 @@ use Rattle.lin_core.specs.declared.slot.OpenSlot.{OpenSlot}
 use Rattle.std.proofs.lemmas.List.Elements.{All-get_or}
 use Rattle.std.specs.Option.{option_map_or}
 use Rattle.lin_core.specs.declared.slot.Put.{Put}
-use Rattle.lin_core.specs.History.{done, open_slot, time, is_clash, slot_after_events}
+use Rattle.lin_core.specs.History.{Slot, done, open_slot, time, is_clash, slot_after_events}
 use Rattle.lin_parts.specs.Sound.{IsSound}
 use Rattle.lin_core.specs.declared.event.Event.TheVariants.{Accepted, Slot as SlotEvent, Due, Put as PutEvent}
 use Rattle.lin_core.specs.declared.step.Step.TheVariants.{Send, Write, Open, Answer, Finish, Switch}
 use Rattle.lin_core.proofs.sendings.Hosts.{HostState}
 use Rattle.lin_core.proofs.steps.Known.{Known, write-known, switch-known}
-use Rattle.lin_core.proofs.steps.Steps.{AllFalse, none-of, both-false, more_if, send-known, open-known, answer-known, told-due}
+use Rattle.lin_core.proofs.steps.Steps.{AllFalse, none-of, both-false, more_if, send-known, open-known, answer-known, told-open}
 use Rattle.lin_core.proofs.sendings.Queues.{waiting-are}
 use Rattle.lin_parts.specs.declared.parts.Entry.{Entry}
-use Rattle.lin_core.specs.Slots.{header, due_nodes, next_due, moves}
+use Rattle.lin_core.specs.Slots.{header, due_nodes, is_service, next_due, moves}
 use Rattle.lin_core.specs.declared.event.Event.{Event}
-use Rattle.lin_core.proofs.links.Finishes.{slot_of}
 use Rattle.lin_schedule.specs.Schedule.Move.{Slot as SlotMove, Switch as SwitchMove}
 
 -- as many messages of a host wait as its queue has places
@@ -231,28 +230,38 @@ switch-keeps c opening capacity log past slot clock walker walker' hosts signals
 
 -- == an open
 abbrev pub events_of_open : OpenSlot → List Event
-events_of_open s = SlotEvent s.table s.entry s.header ∷ map Due s.due.items
+events_of_open s = SlotEvent s.table s.entry s.header ∷ (service_events s.service ++ map Due s.due.items)
 
 -- a slot that opens where the schedule stands
 pub record Opens (c : Parts) (opening : ℕ) (past : List LogEntry) (slot : OpenSlot) : Type 0 where
   pub at : (slot.table, slot.entry) ≡ next_due c opening past
   pub is_open : IsOpen c slot
   pub header_is : slot.header ≡ header c past (line_of c slot.table slot.entry).entry
+  pub service_is : slot.service ≡ is_service c past (line_of c slot.table slot.entry).entry
   pub due_is : slot.due.items ≡ due_nodes c past (line_of c slot.table slot.entry).entry
   pub empty : slot.puts.items ≡ []
   pub none_left : slot.left.items ≡ []
   pub calm : slot.hurt ≡ false
 
+abbrev opened_events : Parts → List LogEntry → ℕ × ℕ → List Event
+opened_events c past at =
+    SlotEvent at.0 at.1 (header c past (line_of c at.0 at.1).entry)
+    ∷ (service_events (is_service c past (line_of c at.0 at.1).entry) ++ map Due (due_nodes c past (line_of c at.0 at.1).entry))
+
 pub opening-is : (c : Parts) (opening : ℕ) (past : List LogEntry) (slot : OpenSlot) → Opens c opening past slot → events_of_open slot ≡ opening_events c opening past
 opening-is c opening past slot o =
     let kind : Entry = (line_of c slot.table slot.entry).entry
-    in let told : events_of_open slot ≡ SlotEvent slot.table slot.entry (header c past kind) ∷ map Due (due_nodes c past kind)
-    = ap (λ (h : Option ℕ). SlotEvent slot.table slot.entry h ∷ map Due slot.due.items) o.header_is ∙ ap (λ (ns : List ℕ). SlotEvent slot.table slot.entry (header c past kind) ∷ map Due ns) o.due_is
-    in subst (λ (at : ℕ × ℕ). events_of_open slot ≡ SlotEvent at.0 at.1 (header c past (line_of c at.0 at.1).entry) ∷ map Due (due_nodes c past (line_of c at.0 at.1).entry)) o.at told
+    in let told : events_of_open slot ≡ opened_events c past (slot.table, slot.entry)
+    = ap (λ (h : Option ℕ). SlotEvent slot.table slot.entry h ∷ (service_events slot.service ++ map Due slot.due.items)) o.header_is
+    ∙ ap (λ (b : Bool). SlotEvent slot.table slot.entry (header c past kind) ∷ (service_events b ++ map Due slot.due.items)) o.service_is
+    ∙ ap (λ (ns : List ℕ). SlotEvent slot.table slot.entry (header c past kind) ∷ (service_events (is_service c past kind) ++ map Due ns)) o.due_is
+    in subst (λ (at : ℕ × ℕ). events_of_open slot ≡ opened_events c past at) o.at told
 
-opened-slot : (c : Parts) (past : List LogEntry) (slot : OpenSlot) → slot.header ≡ header c past (line_of c slot.table slot.entry).entry → slot.due.items ≡ due_nodes c past (line_of c slot.table slot.entry).entry → slot.puts.items ≡ [] → slot.left.items ≡ [] → slot.hurt ≡ false
-    → slot_in slot ≡ slot_of slot.table slot.entry (header c past (line_of c slot.table slot.entry).entry) (due_nodes c past (line_of c slot.table slot.entry).entry) [] [] false
-opened-slot c past slot h d e l u = rw (h, d, e, l, u) refl
+abbrev slot_at : Parts → List LogEntry → ℕ × ℕ → Slot
+slot_at c past at = opening_slot at.0 at.1 (header c past (line_of c at.0 at.1).entry) (is_service c past (line_of c at.0 at.1).entry) (due_nodes c past (line_of c at.0 at.1).entry)
+
+opened-slot : (c : Parts) (opening : ℕ) (past : List LogEntry) (slot : OpenSlot) → Opens c opening past slot → slot_in slot ≡ slot_at c past (slot.table, slot.entry)
+opened-slot c opening past slot o = rw (o.header_is, o.service_is, o.due_is, o.empty, o.none_left, o.calm) refl
 
 -- no slot is open where one may be opened
 shut-by : (o : Option OpenSlot) → is_some (option_map slot_in o) ≡ false → o ≡ None
@@ -279,9 +288,9 @@ open-keeps c opening capacity log past old slot clock walker hosts signals by so
     in let shut : KeepsSignals c past None signals = subst (λ (x : Option OpenSlot). KeepsSignals c past x signals) (shut-slot c capacity past by old allowed k.slot_is) k.signals_are
     in record {
       slot_is = ap Some (
-          opened-slot c past slot o.header_is o.due_is o.empty o.none_left o.calm
-          ∙ ap (λ (p : ℕ × ℕ). slot_of p.0 p.1 (header c past (line_of c p.0 p.1).entry) (due_nodes c past (line_of c p.0 p.1).entry) [] [] false) o.at
-          ∙ sym (told-due (due_nodes c past (line_of c at.0 at.1).entry) at.0 at.1 (header c past (line_of c at.0 at.1).entry) []));
+          opened-slot c opening past slot o
+          ∙ ap (slot_at c past) o.at
+          ∙ sym (told-open (is_service c past (line_of c at.0 at.1).entry) (due_nodes c past (line_of c at.0 at.1).entry) at.0 at.1 (header c past (line_of c at.0 at.1).entry)));
       slot_there = o.is_open;
       clock_is = k.clock_is;
       clock_few = let t = k.clock_few in omega arith;
@@ -304,7 +313,7 @@ answer-keeps c opening capacity log past slot clock walker hosts signals signals
     in let known' : Known c (e ∷ past) = answer-known c capacity past by node sound allowed known
     in let is : open_slot past ≡ Some (slot_in slot) = sym k.slot_is
     in let put : Some (slot_in (with_put slot p)) ≡ option_map (slot_after_events (PutEvent node p.answer ∷ [])) (open_slot past)
-    = rw (is, ← own) (ap (λ (ps : List (ℕ × List ℕ)). Some (slot_of slot.table slot.entry slot.header slot.due.items ps slot.left.items slot.hurt)) (map-append put_in slot.puts.items (p ∷ [])))
+    = rw (is, ← own) (ap (λ (ps : List (ℕ × List ℕ)). Some (record (slot_in slot) { puts = ps })) (map-append put_in slot.puts.items (p ∷ [])))
     in record {
       slot_is = subst (λ (es : List Event). Some (slot_in (with_put slot p)) ≡ option_map (slot_after_events es) (open_slot past)) told put;
       slot_there = put-open c slot p k.slot_there (answer-free c capacity past by node slot p own allowed is);

@@ -11,7 +11,7 @@ use Rattle.lin_transport.specs.Receiver.{HasHeard, Reads, Reception}
 use Rattle.lin_parts.specs.Cluster.{nad}
 use Rattle.lin_parts.specs.Sound.{IsSound}
 use Rattle.lin_parts.specs.declared.parts.Parts.{Parts}
-use Rattle.lin_core.specs.History.{Slot, is_sleep_asked, open_slot}
+use Rattle.lin_core.specs.History.{Slot, is_sleep_asked, is_sleep_slot, open_slot}
 use Rattle.lin_core.specs.kept.Receivers.{AreAlike, AreReset, HearAll, HearsOn, HearsToo, IsReset, KeepsHeard, KeepsReceiver, opposite, receiver_in}
 use Rattle.lin_core.specs.Links.{Link, Message, accepted_from, address, ear_on, goes_over, heard_on, is_down, is_to_all, reading, same_link, signs}
 use Rattle.lin_core.specs.kept.Slots.{is_still, pdu_of}
@@ -27,14 +27,14 @@ use Rattle.lin_core.specs.declared.port.PortId.{PortId}
 use Rattle.lin_core.specs.declared.receivers.Receivers.{Receivers}
 use Rattle.lin_core.specs.declared.step.Step.TheVariants.{Finish, Timeout}
 use Rattle.lin_transport.proofs.Frames.{frame-address}
-use Rattle.lin_core.proofs.links.Finishes.{IsPlace, empty-quiet, finish-heard, frame-adds, frame-is, frame_slot, other-quiet, same-cond, sleep-good, sleep-hurt, sleep_slot, slot_of, some-address}
+use Rattle.lin_core.proofs.links.Finishes.{IsPlace, empty-quiet, finish-heard, frame-adds, frame-is, frame_slot, other-quiet, same-cond, served-quiet, served-sleeps, sleep-good, sleep-hurt, sleep_slot, slot_of, some-address}
 use Rattle.lin_core.proofs.sendings.Hosts.{CanGo, IsLink, same-self}
 use Rattle.lin_core.proofs.steps.Known.{Known, SlotIs, entry_is, has-nad, place-of}
-use Rattle.lin_core.proofs.steps.Known.SlotIs.{carries, closed, master, other, slave, sleep}
+use Rattle.lin_core.proofs.steps.Known.SlotIs.{carries, closed, master, other, served, slave, sleep}
 use Rattle.lin_core.proofs.sendings.Moves.{heard_by, over-all, over-host, over-is, over-self, record_of, same-is, to-all-is}
 use Rattle.lin_core.proofs.kept.Places.{get-there, set-other, set-own}
 use Rattle.lin_core.proofs.steps.Steps.{first-go}
-use Rattle.lin_core.proofs.sendings.Turns.{pdu-frame, other-pdu}
+use Rattle.lin_core.proofs.sendings.Turns.{asleep-unhurt, pdu-frame, other-pdu, served-pdu}
 
 -- == nothing is heard
 receiver-same : (c : Parts) (past past' : List LogEntry) (l : Link) (r : Reception) → heard_on c past' l ≡ heard_on c past l → KeepsReceiver c past l r → KeepsReceiver c past' l r
@@ -104,8 +104,13 @@ pub record CarriesFrame (c : Parts) (past : List LogEntry) (by : PortId) (k : Kn
   pub heard : (es : List Event) (l : Link) → is_some (nad c l.node) ≡ true
       → heard_on c (entry_is by Finish es ∷ past) l ≡ (if goes_over message.link l then heard_by s.hurt (frame (address c message.link) message.bytes (k.states h).count) else []) ++ heard_on c past l
 
+served-none : (s : Slot) (h : ℕ) (b : Bool) → s.service ≡ true → is_sleep_slot s ≡ b → pdu_of s ≡ OfMessage h → ⊥
+served-none s h true serving e pdu = let bad : Sleep ≡ OfMessage h = sym (served-pdu s true serving e) ∙ pdu in cc
+served-none s h false serving e pdu = let bad : Nothing ≡ OfMessage h = sym (served-pdu s false serving e) ∙ pdu in cc
+
 frame-by : (c : Parts) (past : List LogEntry) (by : PortId) (sound : IsSound c) (k : Known c past) (o : Option Slot) (s : Slot) (h : ℕ) → open_slot past ≡ o → SlotIs c (is_sleep_asked past) k.states o → o ≡ Some s → pdu_of s ≡ OfMessage h → CarriesFrame c past by k s h
 frame-by c past by sound k None s h is closed e pdu = cc
+frame-by c past by sound k (Some _) s h is (served t serving) e pdu = absurd (let same : t ≡ s = cc in served-none t h (is_sleep_slot t) serving refl (ap pdu_of same ∙ pdu))
 frame-by c past by sound k (Some _) s h is (other t p q) e pdu = absurd (let same : t ≡ s = cc in let bad : Nothing ≡ OfMessage h = sym (other-pdu t p q) ∙ ap pdu_of same ∙ pdu in cc)
 frame-by c past by sound k (Some _) s h is (master table entry due left hurt line only w) e pdu =
     absurd (let t : Slot = slot_of table entry (Some 0x3C) due [] left hurt in let same : t ≡ s = cc in let bad : Nothing ≡ OfMessage h = ap pdu_of same ∙ pdu in cc)
@@ -141,9 +146,15 @@ pub hurt-heard : (c : Parts) (past : List LogEntry) (by : PortId) (k : Known c p
 hurt-heard c past by k s h i hurt es l a = i.heard es l a ∙ rw (hurt, same-cond (goes_over i.message.link l)) refl
 
 -- a slot by which nothing moves adds nothing
+served-still : (c : Parts) (past : List LogEntry) (by : PortId) (es : List Event) (s : Slot) (b : Bool) → open_slot past ≡ Some s → s.service ≡ true → is_sleep_slot s ≡ b → is_still (pdu_of s) s.hurt ≡ true → (l : Link) → heard_on c (entry_is by Finish es ∷ past) l ≡ heard_on c past l
+served-still c past by es s true is serving asleep still l = absurd (let bad : false ≡ true = rw (served-pdu s true serving asleep, asleep-unhurt s asleep) at still in cc)
+served-still c past by es s false is serving awake still l = finish-heard c past by es s l is ∙ ap (λ (x : List Heard). x ++ heard_on c past l) (served-quiet c s l serving awake).heard
+
 still-by : (c : Parts) (past : List LogEntry) (by : PortId) (es : List Event) (sound : IsSound c) (k : Known c past) (o : Option Slot) (s : Slot) → open_slot past ≡ o → SlotIs c (is_sleep_asked past) k.states o → o ≡ Some s → is_still (pdu_of s) s.hurt ≡ true
     → (l : Link) → is_some (nad c l.node) ≡ true → heard_on c (entry_is by Finish es ∷ past) l ≡ heard_on c past l
 still-by c past by es sound k None s is closed e still l a = cc
+still-by c past by es sound k (Some _) s is (served t serving) e still l a =
+    let same : t ≡ s = cc in served-still c past by es t (is_sleep_slot t) is serving refl (subst (λ (y : Slot). is_still (pdu_of y) y.hurt ≡ true) (sym same) still) l
 still-by c past by es sound k (Some _) s is (other t p q) e still l a = finish-heard c past by es t l is ∙ ap (λ (x : List Heard). x ++ heard_on c past l) (other-quiet c t l.node l.dir p q).heard
 still-by c past by es sound k (Some _) s is (master table entry due left hurt line only w) e still l a =
     finish-heard c past by es (slot_of table entry (Some 0x3C) due [] left hurt) l is ∙ ap (λ (x : List Heard). x ++ heard_on c past l) (empty-quiet c table entry (Some 0x3C) due left hurt l.node l.dir).heard
@@ -169,9 +180,15 @@ pub still-heard : (c : Parts) (past : List LogEntry) (by : PortId) (es : List Ev
 still-heard c past by es sound k s is still l a = still-by c past by es sound k (open_slot past) s refl k.slot is still l a
 
 -- the sleep frame resets each receiver
+served-asleep : (c : Parts) (past : List LogEntry) (by : PortId) (es : List Event) (s : Slot) (b : Bool) → open_slot past ≡ Some s → s.service ≡ true → is_sleep_slot s ≡ b → pdu_of s ≡ Sleep → (l : Link) → heard_on c (entry_is by Finish es ∷ past) l ≡ Reset ∷ heard_on c past l
+served-asleep c past by es s true is serving asleep pdu l = finish-heard c past by es s l is ∙ ap (λ (x : List Heard). x ++ heard_on c past l) (served-sleeps c s l serving asleep).heard
+served-asleep c past by es s false is serving awake pdu l = absurd (let bad : Nothing ≡ Sleep = sym (served-pdu s false serving awake) ∙ pdu in cc)
+
 sleep-by : (c : Parts) (past : List LogEntry) (by : PortId) (es : List Event) (sound : IsSound c) (k : Known c past) (o : Option Slot) (s : Slot) → open_slot past ≡ o → SlotIs c (is_sleep_asked past) k.states o → o ≡ Some s → pdu_of s ≡ Sleep → s.hurt ≡ false
     → (l : Link) → is_some (nad c l.node) ≡ true → heard_on c (entry_is by Finish es ∷ past) l ≡ Reset ∷ heard_on c past l
 sleep-by c past by es sound k None s is closed e pdu calm l a = cc
+sleep-by c past by es sound k (Some _) s is (served t serving) e pdu calm l a =
+    let same : t ≡ s = cc in served-asleep c past by es t (is_sleep_slot t) is serving refl (ap pdu_of same ∙ pdu) l
 sleep-by c past by es sound k (Some _) s is (other t p q) e pdu calm l a = absurd (let same : t ≡ s = cc in let bad : Nothing ≡ Sleep = sym (other-pdu t p q) ∙ ap pdu_of same ∙ pdu in cc)
 sleep-by c past by es sound k (Some _) s is (master table entry due left hurt line only w) e pdu calm l a =
     absurd (let t : Slot = slot_of table entry (Some 0x3C) due [] left hurt in let same : t ≡ s = cc in let bad : Nothing ≡ Sleep = ap pdu_of same ∙ pdu in cc)

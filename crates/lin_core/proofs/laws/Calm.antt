@@ -6,9 +6,9 @@ use Rattle.std.proofs.lemmas.List.{append-nil}
 use Rattle.std.specs.Option.{option_map_or}
 use Rattle.lin_parts.specs.declared.parts.Parts.{Parts}
 use Rattle.lin_parts.specs.Cluster.{nad, line_of}
-use Rattle.lin_core.specs.History.{Slot, open_slot, slot_after_events, leave, is_sleep_asked}
+use Rattle.lin_core.specs.History.{Slot, open_slot, slot_after_events, leave, is_sleep_asked, is_sleep_slot}
 use Rattle.lin_core.specs.Links.{Link, link_of, Message, host_of, accepted_from, Fate, ear_on, signs, heard_on, blocks, waits, is_waiting, sendings, Sending}
-use Rattle.lin_core.specs.Slots.{put, header, due_nodes, next_due}
+use Rattle.lin_core.specs.Slots.{put_by, header, due_nodes, is_service, next_due}
 use Rattle.lin_core.specs.Replies.{refusal, put_event, done_events, reply}
 use Rattle.lin_parts.specs.Sound.{IsSound}
 use Rattle.lin_core.specs.declared.log.LogEntry.{LogEntry}
@@ -25,10 +25,10 @@ use Rattle.lin_core.proofs.sendings.Moves.{advanced, is_last}
 use Rattle.lin_core.proofs.links.Finishes.{finish_entry}
 use Rattle.lin_core.specs.Links.Fate.{Sent}
 use Rattle.lin_core.specs.Runs.{history}
-use Rattle.lin_core.proofs.steps.Known.{SlotIs, Known, finish-known}
-use Rattle.lin_core.proofs.steps.Known.SlotIs.{closed, other, master, slave, sleep, carries}
+use Rattle.lin_core.proofs.steps.Known.{SlotIs, Known, finish-known, served-known}
+use Rattle.lin_core.proofs.steps.Known.SlotIs.{closed, served, other, master, slave, sleep, carries}
 use Rattle.lin_core.proofs.links.Results.{outcomes, track-reads, waiting_one}
-use Rattle.lin_core.proofs.steps.Steps.{step-known, more_if, and-parts, told-due, start-known}
+use Rattle.lin_core.proofs.steps.Steps.{step-known, more_if, and-parts, told-open, start-known}
 use Rattle.lin_core.proofs.laws.Ends.{Held, held-now}
 use Rattle.lin_core.proofs.links.Tracks.{sent_of}
 
@@ -66,15 +66,21 @@ told-unhurt (Some h) n f s = refl
 
 answer-unhurt : (c : Parts) (past : List LogEntry) (node : ℕ) (o : Option Slot) → is_hurt o ≡ false → is_hurt (option_map (slot_after_events (option_map_or (put_event c past node) o [])) o) ≡ false
 answer-unhurt c past node None h = refl
-answer-unhurt c past node (Some s) h = told-unhurt s.header node (λ x. put c past (line_of c s.table s.entry).entry x node) s ∙ h
+answer-unhurt c past node (Some s) h = told-unhurt s.header node (λ x. put_by c past s x node) s ∙ h
 
 leave-unhurt : (node : ℕ) (o : Option Slot) → is_hurt o ≡ false → is_hurt (option_map (leave node) o) ≡ false
 leave-unhurt node None h = refl
 leave-unhurt node (Some s) h = h
 
+served-calm : (c : Parts) (past : List LogEntry) (port : PortId) (es : List Event) (s : Slot) (b : Bool) (is : open_slot past ≡ Some s) (e : s.service ≡ true) (h : is_sleep_slot s ≡ b) (k : Known c past)
+    → (is_calm past ≡ true → Calm past k.states) → is_calm (finish_entry port es ∷ past) ≡ true → (x : ℕ) → AllSent ((served-known c past port es s b is e h k).states x).done
+served-calm c past port es s true is e h k p q x = absurd (let bad : false ≡ true = rw (is, h) at q in cc)
+served-calm c past port es s false is e h k p q x = (p (and-parts _ (is_calm past) q).1).sent x
+
 finish-calm : (c : Parts) (past : List LogEntry) (port : PortId) (es : List Event) (sound : IsSound c) (k : Known c past) (o : Option Slot) (is : open_slot past ≡ o) (shape : SlotIs c (is_sleep_asked past) k.states o)
     → (is_calm past ≡ true → Calm past k.states) → is_calm (finish_entry port es ∷ past) ≡ true → (x : ℕ) → AllSent ((finish-known c past port es sound k o is shape).states x).done
 finish-calm c past port es sound k None is closed p q x = (p (and-parts _ (is_calm past) q).1).sent x
+finish-calm c past port es sound k (Some _) is (served s e) p q x = served-calm c past port es s (is_sleep_slot s) is e refl k p q x
 finish-calm c past port es sound k (Some _) is (other s a b) p q x = (p (and-parts _ (is_calm past) q).1).sent x
 finish-calm c past port es sound k (Some _) is (master table entry due left hurt line only w) p q x = (p (and-parts _ (is_calm past) q).1).sent x
 finish-calm c past port es sound k (Some _) is (slave table entry due left hurt h line only w) p q x = (p (and-parts _ (is_calm past) q).1).sent x
@@ -92,7 +98,7 @@ step-calm : (c : Parts) (opening capacity : ℕ) (past : List LogEntry) (port : 
 step-calm c opening capacity past port step sound k (Some r) e p q = record { unhurt = (p q).unhurt; sent = (p q).sent }
 step-calm c opening capacity past port (Send from to message) sound k None e p q = record { unhurt = (p q).unhurt; sent = λ x. send-sent (from == x) (record { link = link_of from to; bytes = message }) (k.states x) ((p q).sent x) }
 step-calm c opening capacity past port (Write by signal value) sound k None e p q = record { unhurt = (p q).unhurt; sent = (p q).sent }
-step-calm c opening capacity past port Open sound k None e p q = record { unhurt = let at : ℕ × ℕ = next_due c opening past in let kind : Entry = (line_of c at.0 at.1).entry in ap (λ (s : Slot). s.hurt) (told-due (due_nodes c past kind) at.0 at.1 (header c past kind) []); sent = (p q).sent }
+step-calm c opening capacity past port Open sound k None e p q = record { unhurt = let at : ℕ × ℕ = next_due c opening past in let kind : Entry = (line_of c at.0 at.1).entry in ap (λ (s : Slot). s.hurt) (told-open (is_service c past kind) (due_nodes c past kind) at.0 at.1 (header c past kind)); sent = (p q).sent }
 step-calm c opening capacity past port (Answer node) sound k None e p q = record { unhurt = answer-unhurt c past node (open_slot past) (p q).unhurt; sent = (p q).sent }
 step-calm c opening capacity past port (Leave node) sound k None e p q = record { unhurt = leave-unhurt node (open_slot past) (p q).unhurt; sent = (p q).sent }
 step-calm c opening capacity past port (Hurt bytes) sound k None e p q = cc

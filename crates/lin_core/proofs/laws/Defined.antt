@@ -7,8 +7,8 @@ use Rattle.lin_parts.specs.declared.parts.Parts.{Parts}
 use Rattle.lin_parts.specs.Cluster.{nad, nodes, line_of}
 use Rattle.lin_core.specs.History.{Slot, open_slot, seen_of, reply_events, done, done_step, events}
 use Rattle.lin_core.specs.Links.{Link, host_of, Sign, Fate, waits, frames_of, reading, fate, is_waiting, Sending, sendings, fate_of}
-use Rattle.lin_core.specs.Slots.{put, due_nodes, next_due}
-use Rattle.lin_core.specs.Replies.{refusal, put_event, done_events, reply, receiver_of, report, reports, all_reports, new_messages, all_links, quiet_entry, sleeps}
+use Rattle.lin_core.specs.Slots.{put_by, due_nodes, is_service, next_due}
+use Rattle.lin_core.specs.Replies.{refusal, put_event, done_events, reply, receiver_of, report, reports, all_reports, new_messages, all_links, quiet_entry, service_events, sleeps}
 use Rattle.lin_parts.specs.Sound.{IsSound}
 use Rattle.lin_core.specs.declared.log.LogEntry.{LogEntry}
 use Rattle.lin_core.specs.declared.port.PortId.{PortId}
@@ -64,8 +64,12 @@ due-defined : (c : Parts) (o : ℕ) (past : List LogEntry) (ns : List ℕ) → A
 due-defined c o past [] = tt
 due-defined c o past (n ∷ ns) = (refl, due-defined c o past ns)
 
+opening-defined : (c : Parts) (o : ℕ) (past : List LogEntry) (service : Bool) (ns : List ℕ) → AreDefined c o (Some Open) past (service_events service ++ map Due ns)
+opening-defined c o past true ns = (refl, due-defined c o past ns)
+opening-defined c o past false ns = due-defined c o past ns
+
 put-defined : (c : Parts) (o : ℕ) (d : Option Step) (past : List LogEntry) (node : ℕ) (s : Slot) (h : Option ℕ) → open_slot past ≡ Some s → s.header ≡ h
-    → AreDefined c o d past (option_map_or (λ x. PutEvent node (put c past (line_of c s.table s.entry).entry x node) ∷ []) h [])
+    → AreDefined c o d past (option_map_or (λ x. PutEvent node (put_by c past s x node) ∷ []) h [])
 put-defined c o d past node s None is e = tt
 put-defined c o d past node s (Some x) is e = ((s, x, is, e, refl), tt)
 
@@ -81,7 +85,7 @@ step-defined : (c : Parts) (opening : ℕ) (past : List LogEntry) (port : PortId
 step-defined c o past port step (Some r) = tt
 step-defined c o past port (Send from to message) None = (tt, tt)
 step-defined c o past port (Write by signal value) None = tt
-step-defined c o past port Open None = let at : ℕ × ℕ = next_due c o past in ((refl, refl, refl), due-defined c o past (due_nodes c past (line_of c at.0 at.1).entry))
+step-defined c o past port Open None = let at : ℕ × ℕ = next_due c o past in ((refl, refl, refl), opening-defined c o past (is_service c past (line_of c at.0 at.1).entry) (due_nodes c past (line_of c at.0 at.1).entry))
 step-defined c o past port (Answer node) None = answer-defined c o (Some (Answer node)) past node (open_slot past) refl
 step-defined c o past port (Leave node) None = tt
 step-defined c o past port (Hurt bytes) None = tt

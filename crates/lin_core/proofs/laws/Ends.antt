@@ -20,7 +20,7 @@ use Rattle.lin_core.specs.declared.link.Direction.TheVariants.{Down, Up}
 use Rattle.lin_transport.proofs.Frames.{and-false, first-cons, frame-begins, frame-continues}
 use Rattle.lin_core.proofs.sendings.Hosts.{HostState, HostIs, IsLink, addressed, on_link, outcome_on, part, message_of, on, HasBlocks, tail_of, track-blocks, Track}
 use Rattle.lin_core.proofs.sendings.Moves.{record_of, over-all, over-one, to-all-is, count-less, part-busy, busy_if}
-use Rattle.lin_core.proofs.links.Finishes.{sleep_slot, frame_slot, HasNad, IsPlace, frame-is, IsFrameOf, not-all, other-nad, zero-not, nad-is}
+use Rattle.lin_core.proofs.links.Finishes.{same-cond, sleep_slot, frame_slot, HasNad, IsPlace, frame-is, IsFrameOf, not-all, other-nad, zero-not, nad-is}
 use Rattle.std.specs.List.{cons_option}
 use Rattle.std.proofs.lemmas.List.Elements.{filter-append}
 use Rattle.lin_core.specs.Runs.{history}
@@ -28,7 +28,7 @@ use Rattle.lin_core.specs.Law.{ReadsSent, InOrder}
 use Rattle.lin_core.proofs.links.Fates.{good_sign, goods, goods-wait, goods-prefix, goods-unknown, more-prefix}
 use Rattle.lin_core.proofs.links.Tracks.{in_last-append}
 use Rattle.lin_core.proofs.steps.Known.{SlotIs, Known, as-state, has-nad, other-host, place-of}
-use Rattle.lin_core.proofs.steps.Known.SlotIs.{closed, other, master, slave, sleep, carries}
+use Rattle.lin_core.proofs.steps.Known.SlotIs.{closed, served, other, master, slave, sleep, carries}
 use Rattle.lin_core.proofs.steps.Steps.{history-known, blocks-closed, blocks-empty}
 use Rattle.lin_core.proofs.links.Results.{tails_with, IsPart, Waits, Holds, frames_of_each, sent-are, track-reads, in-order}
 
@@ -112,8 +112,11 @@ put-sleep c table entry due left hurt node Down sound a = rw (a.is, zero-not a.n
 put-sleep c table entry due left hurt node Up sound a = refl
 
 pub put-other : (c : Parts) (s : Slot) (node : ℕ) (dir : Direction) → header_is 0x3C s.header ≡ false → header_is 0x7D s.header ≡ false → put_on c (record_of node dir) s ≡ []
-put-other c s node Down p q = rw p
-put-other c s node Up p q = rw q
+put-other c s node Down p q = rw (p, same-cond s.service)
+put-other c s node Up p q = rw (q, same-cond s.service)
+
+pub put-served : (c : Parts) (s : Slot) (l : Link) → s.service ≡ true → put_on c l s ≡ []
+put-served c s l e = rw e
 
 -- a link with the frame of the open slot
 abbrev pub sign_if : Bool → List ℕ → List Sign → List Sign
@@ -184,6 +187,7 @@ sign-none false f signs e = refl
 
 pub held : (c : Parts) (past : List LogEntry) (h : ℕ) → IsSound c → (k : Known c past) → (o : Option Slot) → open_slot past ≡ o → SlotIs c (is_sleep_asked past) k.states o → Held c past h (k.states h).done
 held c past h sound k None is closed = plainly c past h k (λ l i. blocks-closed c past l is)
+held c past h sound k (Some _) is (served s e) = plainly c past h k (λ l i. put-no c past l s is (put-served c s l e))
 held c past h sound k (Some _) is (other s p q) = plainly c past h k (λ l i. put-no c past l s is (put-other c s l.node l.dir p q))
 held c past h sound k (Some _) is (master table entry due left hurt line only w) = plainly c past h k (λ l i. blocks-empty c past l table entry (Some 0x3C) due left hurt is)
 held c past h sound k (Some _) is (slave table entry due left hurt x line only w) = plainly c past h k (λ l i. blocks-empty c past l table entry (Some 0x7D) due left hurt is)

@@ -5,7 +5,7 @@ use Rattle.std.proofs.lemmas.Bool.Decides.{nat_tests}
 use Rattle.std.proofs.lemmas.List.{append-nil, map-append, append_cancel_left}
 use Rattle.std.specs.Option.{option_map_or}
 use Rattle.lin_parts.specs.declared.parts.Parts.{Parts}
-use Rattle.lin_core.specs.History.{Slot, open_slot, is_sleep_asked, is_host_closed as is_closed, done}
+use Rattle.lin_core.specs.History.{Slot, open_slot, is_sleep_asked, is_sleep_slot, is_host_closed as is_closed, done}
 use Rattle.lin_core.specs.Links.{Link, same_link, link_of, Message, accepted_from, Fate, blocks, sent_from}
 use Rattle.lin_core.specs.Replies.{refusal, refusals, done_events, reply}
 use Rattle.lin_parts.specs.Sound.{IsSound}
@@ -22,8 +22,8 @@ use Rattle.lin_core.proofs.sendings.Hosts.{HostState, message_of}
 use Rattle.lin_core.proofs.sendings.Moves.{record_of, advanced, is_last, marked}
 use Rattle.lin_core.specs.Links.Fate.{Lost}
 use Rattle.lin_core.specs.Runs.{history, entry_of}
-use Rattle.lin_core.proofs.steps.Known.{SlotIs, Known, finish-known}
-use Rattle.lin_core.proofs.steps.Known.SlotIs.{closed, other, master, slave, sleep, carries}
+use Rattle.lin_core.proofs.steps.Known.{SlotIs, Known, finish-known, served-known}
+use Rattle.lin_core.proofs.steps.Known.SlotIs.{closed, served, other, master, slave, sleep, carries}
 use Rattle.lin_core.proofs.steps.Steps.{history-known, step-known, none-of, AllFalse, more_if}
 use Rattle.lin_core.proofs.links.Results.{outcomes, waiting_one}
 use Rattle.lin_core.specs.Law.{outcomes_of, Stays, NoSendAfterClose}
@@ -60,9 +60,15 @@ pub more-grows : (b : Bool) (m : Message) (s : HostState) → Grows s (more_if b
 more-grows true m s = record { more = []; is = sym (append-nil s.done) }
 more-grows false m s = same-grows s
 
+served-grows : (c : Parts) (past : List LogEntry) (port : PortId) (es : List Event) (s : Slot) (b : Bool) (is : open_slot past ≡ Some s) (e : s.service ≡ true) (h : is_sleep_slot s ≡ b) (k : Known c past) (x : ℕ)
+    → Grows (k.states x) ((served-known c past port es s b is e h k).states x)
+served-grows c past port es s true is e h k x = marked-grows (λ l. true) Slept (k.states x).done (k.states x).rest (k.states x).count
+served-grows c past port es s false is e h k x = same-grows (k.states x)
+
 pub finish-grows : (c : Parts) (past : List LogEntry) (port : PortId) (es : List Event) (sound : IsSound c) (k : Known c past) (o : Option Slot) (is : open_slot past ≡ o) (shape : SlotIs c (is_sleep_asked past) k.states o) (x : ℕ)
     → Grows (k.states x) ((finish-known c past port es sound k o is shape).states x)
 finish-grows c past port es sound k None is closed x = same-grows (k.states x)
+finish-grows c past port es sound k (Some _) is (served s e) x = served-grows c past port es s (is_sleep_slot s) is e refl k x
 finish-grows c past port es sound k (Some _) is (other s p q) x = same-grows (k.states x)
 finish-grows c past port es sound k (Some _) is (master table entry due left hurt line only w) x = same-grows (k.states x)
 finish-grows c past port es sound k (Some _) is (slave table entry due left hurt h line only w) x = same-grows (k.states x)

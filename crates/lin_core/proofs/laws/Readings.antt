@@ -13,8 +13,8 @@ use Rattle.lin_parts.specs.Cluster.{nad, nodes, line_of}
 use Rattle.lin_core.specs.History.{Slot, open_slot, seen_of, reply_events}
 use Rattle.lin_core.specs.Links.{Link, same_dir, same_link, Message, host_of, Fate, ear_on, signs, heard_on, waits, reading, Sending, sendings, fate_of}
 use Rattle.lin_core.specs.Links.Sign.{Mark}
-use Rattle.lin_core.specs.Slots.{put, due_nodes, next_due}
-use Rattle.lin_core.specs.Replies.{refusal, put_event, done_events, reply, receiver_of, report, reports, all_reports, new_messages, all_links, finish_events, quiet_entry, sleeps, link_at}
+use Rattle.lin_core.specs.Slots.{put_by, due_nodes, is_service, next_due}
+use Rattle.lin_core.specs.Replies.{refusal, put_event, done_events, reply, receiver_of, report, reports, all_reports, new_messages, all_links, finish_events, quiet_entry, service_events, sleeps, link_at}
 use Rattle.lin_parts.specs.Sound.{IsSound}
 use Rattle.lin_core.specs.declared.log.LogEntry.{LogEntry}
 use Rattle.lin_core.specs.declared.port.PortId.{PortId}
@@ -173,13 +173,17 @@ no-due : (l : Link) (ns : List ℕ) → filter_map (message_for l) (map Due ns) 
 no-due l [] = refl
 no-due l (n ∷ ns) = no-due l ns
 
+no-opening : (l : Link) (service : Bool) (ns : List ℕ) → filter_map (message_for l) (service_events service ++ map Due ns) ≡ []
+no-opening l true ns = no-due l ns
+no-opening l false ns = no-due l ns
+
 no-put-event : (l : Link) (node : ℕ) (o : Option ℕ) (f : ℕ → List ℕ) → filter_map (message_for l) (option_map_or (λ x. PutEvent node (f x) ∷ []) o []) ≡ []
 no-put-event l node None f = refl
 no-put-event l node (Some x) f = refl
 
 no-answer : (c : Parts) (past : List LogEntry) (l : Link) (node : ℕ) (o : Option Slot) → filter_map (message_for l) (option_map_or (put_event c past node) o []) ≡ []
 no-answer c past l node None = refl
-no-answer c past l node (Some s) = no-put-event l node s.header (λ x. put c past (line_of c s.table s.entry).entry x node)
+no-answer c past l node (Some s) = no-put-event l node s.header (λ x. put_by c past s x node)
 
 quiet-reading : (xs ys : List (List ℕ)) → ys ≡ [] → xs ++ ys ≡ xs
 quiet-reading xs ys e = ap (λ (z : List (List ℕ)). xs ++ z) e ∙ append-nil xs
@@ -189,7 +193,7 @@ step-reading : (c : Parts) (opening capacity : ℕ) (past : List LogEntry) (port
 step-reading c opening capacity past port step l sound a k (Some r) e = append-nil (reading c past l)
 step-reading c opening capacity past port (Send from to message) l sound a k None e = append-nil (reading c past l)
 step-reading c opening capacity past port (Write by signal value) l sound a k None e = append-nil (reading c past l)
-step-reading c opening capacity past port Open l sound a k None e = let at : ℕ × ℕ = next_due c opening past in quiet-reading (reading c past l) _ (no-due l (due_nodes c past (line_of c at.0 at.1).entry))
+step-reading c opening capacity past port Open l sound a k None e = let at : ℕ × ℕ = next_due c opening past in quiet-reading (reading c past l) _ (no-opening l (is_service c past (line_of c at.0 at.1).entry) (due_nodes c past (line_of c at.0 at.1).entry))
 step-reading c opening capacity past port (Answer node) l sound a k None e = quiet-reading (reading c past l) _ (no-answer c past l node (open_slot past))
 step-reading c opening capacity past port (Leave node) l sound a k None e = append-nil (reading c past l)
 step-reading c opening capacity past port (Hurt bytes) l sound a k None e = append-nil (reading c past l)

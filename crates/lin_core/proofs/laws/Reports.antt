@@ -8,10 +8,10 @@ use Rattle.std.proofs.lemmas.List.{append-nil, map-append, append_cancel_left}
 use Rattle.lin_frame.specs.Words.{numbers}
 use Rattle.lin_parts.specs.declared.parts.Parts.{Parts}
 use Rattle.lin_parts.specs.Cluster.{nodes, line_of}
-use Rattle.lin_core.specs.History.{Slot, open_slot, is_sleep_asked, seen_of}
+use Rattle.lin_core.specs.History.{Slot, open_slot, is_sleep_asked, is_sleep_slot, seen_of}
 use Rattle.lin_core.specs.Links.{Link, same_link, link_of, Message, host_of, home, accepted_from, Sign, Fate, blocks, waits, reading, is_waiting, Sending, sendings, sendings_from, fate_of}
-use Rattle.lin_core.specs.Slots.{put, due_nodes, next_due}
-use Rattle.lin_core.specs.Replies.{refusal, refusals, put_event, opening_events, done_events, reply, receiver_of, report, reports, all_reports, new_messages, all_links, finish_events, quiet_entry, sleeps}
+use Rattle.lin_core.specs.Slots.{put_by, due_nodes, is_service, next_due}
+use Rattle.lin_core.specs.Replies.{refusal, refusals, put_event, opening_events, done_events, reply, receiver_of, report, reports, all_reports, new_messages, all_links, finish_events, quiet_entry, service_events, sleeps}
 use Rattle.lin_parts.specs.Sound.{IsSound}
 use Rattle.lin_core.specs.declared.log.LogEntry.{LogEntry}
 use Rattle.lin_core.specs.declared.port.PortId.{PortId}
@@ -31,8 +31,8 @@ use Rattle.lin_core.proofs.links.Finishes.{finish_entry}
 use Rattle.std.proofs.lemmas.List.Elements.{filter-append}
 use Rattle.lin_core.specs.Links.Fate.{Waiting, Sent, Lost}
 use Rattle.lin_core.specs.Runs.{history}
-use Rattle.lin_core.proofs.steps.Known.{SlotIs, Known, finish-known}
-use Rattle.lin_core.proofs.steps.Known.SlotIs.{closed, other, master, slave, sleep, carries}
+use Rattle.lin_core.proofs.steps.Known.{SlotIs, Known, finish-known, served-same}
+use Rattle.lin_core.proofs.steps.Known.SlotIs.{closed, served, other, master, slave, sleep, carries}
 use Rattle.lin_core.proofs.links.Results.{outcomes, waiting_one}
 use Rattle.lin_core.proofs.steps.Steps.{step-known, none-of, more_if, start-known, timeout-known, is_open-false}
 use Rattle.lin_core.proofs.laws.Ends.{Held, held-now}
@@ -215,17 +215,22 @@ none-due : (h : ℕ) (ns : List ℕ) → filter (is_report h) (map Due ns) ≡ [
 none-due h [] = refl
 none-due h (n ∷ ns) = none-due h ns
 
+none-opening : (h : ℕ) (service : Bool) (ns : List ℕ) → filter (is_report h) (service_events service ++ map Due ns) ≡ []
+none-opening h true ns = none-due h ns
+none-opening h false ns = none-due h ns
+
 none-put : (h node : ℕ) (o : Option ℕ) (f : ℕ → List ℕ) → filter (is_report h) (option_map_or (λ x. PutEvent node (f x) ∷ []) o []) ≡ []
 none-put h node None f = refl
 none-put h node (Some x) f = refl
 
 none-answer : (c : Parts) (past : List LogEntry) (h node : ℕ) (o : Option Slot) → filter (is_report h) (option_map_or (put_event c past node) o []) ≡ []
 none-answer c past h node None = refl
-none-answer c past h node (Some s) = none-put h node s.header (λ x. put c past (line_of c s.table s.entry).entry x node)
+none-answer c past h node (Some s) = none-put h node s.header (λ x. put_by c past s x node)
 
 finish-same : (c : Parts) (past : List LogEntry) (port : PortId) (es : List Event) (sound : IsSound c) (k : Known c past) (o : Option Slot) (is : open_slot past ≡ o) (shape : SlotIs c (is_sleep_asked past) k.states o) (x : ℕ)
     → (finish-known c past port es sound k o is shape).states x ≡ (finish-known c past port [] sound k o is shape).states x
 finish-same c past port es sound k None is closed x = refl
+finish-same c past port es sound k (Some _) is (served s e) x = served-same c past port es [] s (is_sleep_slot s) is e refl k x
 finish-same c past port es sound k (Some _) is (other s p q) x = refl
 finish-same c past port es sound k (Some _) is (master table entry due left hurt line only w) x = refl
 finish-same c past port es sound k (Some _) is (slave table entry due left hurt h line only w) x = refl
@@ -249,7 +254,7 @@ step-told : (c : Parts) (opening capacity : ℕ) (past : List LogEntry) (port : 
 step-told c opening capacity past port step sound k (Some r) e p h = append-nil (reports_to past h) ∙ p h
 step-told c opening capacity past port (Send from to message) sound k None e p h = append-nil (reports_to past h) ∙ p h ∙ ap (reports_from h 1) (sym (send-done (from == h) (record { link = link_of from to; bytes = message }) (k.states h)))
 step-told c opening capacity past port (Write by signal value) sound k None e p h = append-nil (reports_to past h) ∙ p h
-step-told c opening capacity past port Open sound k None e p h = let at : ℕ × ℕ = next_due c opening past in let kind : Entry = (line_of c at.0 at.1).entry in quiet-told past h (opening_events c opening past) _ (none-due h (due_nodes c past kind)) (p h)
+step-told c opening capacity past port Open sound k None e p h = let at : ℕ × ℕ = next_due c opening past in let kind : Entry = (line_of c at.0 at.1).entry in quiet-told past h (opening_events c opening past) _ (none-opening h (is_service c past kind) (due_nodes c past kind)) (p h)
 step-told c opening capacity past port (Answer node) sound k None e p h = quiet-told past h (option_map_or (put_event c past node) (open_slot past) []) _ (none-answer c past h node (open_slot past)) (p h)
 step-told c opening capacity past port (Leave node) sound k None e p h = append-nil (reports_to past h) ∙ p h
 step-told c opening capacity past port (Hurt bytes) sound k None e p h = append-nil (reports_to past h) ∙ p h

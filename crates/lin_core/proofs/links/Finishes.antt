@@ -11,8 +11,8 @@ use Rattle.lin_transport.specs.Transport.{frame, functional, Heard}
 use Rattle.lin_transport.specs.Transport.Heard.{Reset}
 use Rattle.lin_parts.specs.declared.parts.Parts.{Parts}
 use Rattle.lin_parts.specs.Cluster.{nad}
-use Rattle.lin_core.specs.History.{Slot, open_slot, seen_of, header_is, good_under, is_sleep_slot}
-use Rattle.lin_core.specs.Links.{Link, same_dir, host_of, Sign, address, is_down, is_to_all, ear_on, goes_over, nad_on, put_signs, signs, heard_on, heard_good, diagnostic_header}
+use Rattle.lin_core.specs.History.{Slot, open_slot, seen_of, header_is, is_sleep_slot}
+use Rattle.lin_core.specs.Links.{Link, same_dir, host_of, Sign, address, is_down, is_to_all, ear_on, goes_over, message_under, nad_on, put_signs, signs, heard_on, heard_good, diagnostic_header}
 use Rattle.lin_core.specs.Links.Sign.{Mark}
 use Rattle.lin_core.specs.Slots.{with_classic, sleep_frame}
 use Rattle.lin_parts.specs.Sound.{IsSound}
@@ -36,7 +36,7 @@ abbrev pub slot_signs : Parts → Slot → Link → List Sign
 slot_signs c s l = cons_option (if is_sleep_slot s then Some (Mark Slept) else None) (put_signs c l (Some (seen_of s)) s)
 
 abbrev pub slot_heard : Parts → Slot → Link → List Heard
-slot_heard c s l = (if is_sleep_slot s then Reset ∷ [] else []) ++ option_map_or (heard_good (ear_on c l)) (good_under (diagnostic_header l.dir) s) []
+slot_heard c s l = (if is_sleep_slot s then Reset ∷ [] else []) ++ option_map_or (heard_good (ear_on c l)) (message_under (diagnostic_header l.dir) s) []
 
 pub mark-some : (b : Bool) → is_some (if b then Some (Mark Slept) else None) ≡ b
 mark-some true = refl
@@ -59,11 +59,11 @@ same-cond false x = refl
 
 -- a slot of signals
 pub other-quiet : (c : Parts) (s : Slot) (node : ℕ) (dir : Direction) → header_is 0x3C s.header ≡ false → header_is 0x7D s.header ≡ false → IsQuiet c s (record_of node dir)
-other-quiet c s node Down a b = record { signs = rw a; heard = rw a }
-other-quiet c s node Up a b = record { signs = rw (a, b); heard = rw (a, b) }
+other-quiet c s node Down a b = record { signs = rw (a, same-cond s.service); heard = rw (a, same-cond s.service) }
+other-quiet c s node Up a b = record { signs = rw (a, b, same-cond s.service); heard = rw (a, b, same-cond s.service) }
 
 abbrev pub slot_of : ℕ → ℕ → Option ℕ → List ℕ → List (ℕ × List ℕ) → List ℕ → Bool → Slot
-slot_of table entry header due puts left hurt = record { table = table; entry = entry; header = header; due = due; puts = puts; left = left; hurt = hurt }
+slot_of table entry header due puts left hurt = record { table = table; entry = entry; header = header; service = false; due = due; puts = puts; left = left; hurt = hurt }
 
 -- a slot in which nothing was put
 pub empty-quiet : (c : Parts) (table entry : ℕ) (header : Option ℕ) (due left : List ℕ) (hurt : Bool) (node : ℕ) (dir : Direction) → IsQuiet c (slot_of table entry header due [] left hurt) (record_of node dir)
@@ -99,6 +99,13 @@ pub record Sleeps (c : Parts) (s : Slot) (l : Link) : Type 0 where
 pub sleep-good : (c : Parts) (table entry : ℕ) (due left : List ℕ) (node : ℕ) (dir : Direction) → IsSound c → HasNad c node → Sleeps c (sleep_slot table entry due left false) (record_of node dir)
 sleep-good c table entry due left node Down sound a = record { signs = rw (a.is, zero-not a.n (sound.some node a.n a.is)); heard = rw (a.is, zero-not a.n (sound.some node a.n a.is)) }
 sleep-good c table entry due left node Up sound a = record { signs = refl; heard = refl }
+
+-- a slot for a service adds nothing but its mark
+pub served-quiet : (c : Parts) (s : Slot) (l : Link) → s.service ≡ true → is_sleep_slot s ≡ false → IsQuiet c s l
+served-quiet c s l served awake = record { signs = rw (served, awake); heard = rw (served, awake) }
+
+pub served-sleeps : (c : Parts) (s : Slot) (l : Link) → s.service ≡ true → is_sleep_slot s ≡ true → Sleeps c s l
+served-sleeps c s l served asleep = record { signs = rw (served, asleep); heard = rw (served, asleep) }
 
 -- a slot of a frame on a link
 abbrev pub frame_slot : ℕ → ℕ → List ℕ → List ℕ → Bool → Link → List ℕ → Slot

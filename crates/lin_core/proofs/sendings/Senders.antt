@@ -13,12 +13,12 @@ use Rattle.lin_core.specs.kept.Hosts.{sender_now, sender_of}
 use Rattle.lin_core.specs.Links.{Link, Message, Sending, Sign, Fate, accepted_from, address, begins_good, blocks, blocks_of, fate_of, heard_on, is_begun, goes_over, home, is_good, is_waiting, sendings_from, signs}
 use Rattle.lin_core.specs.Links.Sign.{Put}
 use Rattle.lin_core.specs.declared.log.LogEntry.{LogEntry}
-use Rattle.lin_core.proofs.laws.Ends.{begun_block, blocks-carried, carried-held, plain-held, put-no, put-other, put-sleep, put_block, sign-none}
+use Rattle.lin_core.proofs.laws.Ends.{begun_block, blocks-carried, carried-held, plain-held, put-no, put-other, put-served, put-sleep, put_block, sign-none}
 use Rattle.lin_core.proofs.links.Fates.{good_sign, goods}
 use Rattle.lin_core.proofs.links.Finishes.{frame-is}
 use Rattle.lin_core.proofs.sendings.Hosts.{HostIs, HostState, IsCount, IsLink, OnLinks, all-fresh, block-after, done-outcomes, fresh-begun, none-begun, on, outcome, sendings-append, settled_ones, AllDone, message_of}
 use Rattle.lin_core.proofs.steps.Known.{Known, SlotIs, as-state, has-nad, other-host, place-of}
-use Rattle.lin_core.proofs.steps.Known.SlotIs.{carries, closed, master, other, slave, sleep}
+use Rattle.lin_core.proofs.steps.Known.SlotIs.{carries, closed, master, other, served, slave, sleep}
 use Rattle.lin_core.proofs.links.Results.{Holds, few-held, tail-first, tails_with}
 use Rattle.lin_core.proofs.steps.Steps.{blocks-closed, blocks-empty}
 
@@ -109,6 +109,7 @@ plain-sender c past h k e =
 
 sender-by : (c : Parts) (past : List LogEntry) (h : ℕ) → IsSound c → (k : Known c past) → (o : Option Slot) → open_slot past ≡ o → SlotIs c (is_sleep_asked past) k.states o → sender_now c past h ≡ sender_for c (k.states h).rest (k.states h).count
 sender-by c past h sound k None is closed = plain-sender c past h k (λ l i. blocks-closed c past l is)
+sender-by c past h sound k (Some _) is (served s e) = plain-sender c past h k (λ l i. put-no c past l s is (put-served c s l e))
 sender-by c past h sound k (Some _) is (other s p q) = plain-sender c past h k (λ l i. put-no c past l s is (put-other c s l.node l.dir p q))
 sender-by c past h sound k (Some _) is (master table entry due left hurt line only w) = plain-sender c past h k (λ l i. blocks-empty c past l table entry (Some 0x3C) due left hurt is)
 sender-by c past h sound k (Some _) is (slave table entry due left hurt x line only w) = plain-sender c past h k (λ l i. blocks-empty c past l table entry (Some 0x7D) due left hurt is)

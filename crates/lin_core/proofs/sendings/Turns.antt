@@ -1,6 +1,7 @@
 -- What an answer puts, and what a finish and a timeout make of the messages that wait, by the open slot.
 use Rattle.std.proofs.Common.{◌≡◌, ◌≢◌, ℕ, zero, suc, ◌≤◌, Bool, true, false, List, [], ◌∷◌, ◌++◌, map, refl, ap, sym, ◌∙◌, subst, arith}
-use Rattle.std.specs.Prelude.{Option, Some, None, ◌==◌, ◌||◌, ◌&&◌, if◌then◌else◌, find, is_some}
+use Rattle.std.specs.Prelude.{Option, Some, None, ◌==◌, ◌||◌, ◌&&◌, if◌then◌else◌, find, is_some, slice_index}
+use Rattle.std.specs.Option.{option_map_or}
 use Rattle.std.specs.List.{list_any}
 use Rattle.std.proofs.lemmas.Bool.{ne_eqb}
 use Rattle.std.proofs.lemmas.List.{append-nil}
@@ -9,7 +10,7 @@ use Rattle.lin_transport.proofs.Frames.{and-false}
 use Rattle.lin_parts.specs.Cluster.{line_of}
 use Rattle.lin_parts.specs.Sound.{IsSound}
 use Rattle.lin_parts.specs.declared.parts.Parts.{Parts}
-use Rattle.lin_core.specs.History.{Slot, is_sleep_asked, has_decided, header_is, is_in, is_sleep_slot, open_slot}
+use Rattle.lin_core.specs.History.{Slot, good_bytes, is_sleep_asked, has_decided, header_is, is_in, is_sleep_slot, open_slot, seen_by}
 use Rattle.lin_core.specs.Links.{Fate, Link, Message, Sending, Sign, accepted_from, begun_sending, blocks, heard_on, diagnostic_header, host_of, is_begun, address, same_link, sendings, sendings_from, signs, waiting}
 use Rattle.lin_core.specs.Replies.{begun_on, in_slot, link_at, refusal}
 use Rattle.lin_core.specs.Slots.{next_frame, put, sleep_frame, with_classic}
@@ -23,10 +24,10 @@ use Rattle.lin_core.specs.declared.log.LogEntry.{LogEntry}
 use Rattle.lin_core.specs.declared.port.PortId.{PortId}
 use Rattle.lin_core.specs.declared.step.Step.TheVariants.{Answer}
 use Rattle.lin_core.proofs.steps.FinishEvents.{empty-awake, frame-awake, other-awake}
-use Rattle.lin_core.proofs.links.Finishes.{IsFrameOf, frame-is, frame_slot, slot_of, some-address}
+use Rattle.lin_core.proofs.links.Finishes.{IsFrameOf, frame-is, frame_slot, same-cond, slot_of, some-address}
 use Rattle.lin_core.proofs.sendings.Hosts.{CanGo, HostIs, HostState, Stands, begun-fresh, begun-none, first-begun, fresh-begun, message_of, next-begun, none-begun, ones-done, ones-fresh, sending_of, sendings-split, settled_ones, waiting-fresh, waiting-none}
-use Rattle.lin_core.proofs.steps.Known.{Known, SlotIs, finish-known, has_rest, place-of}
-use Rattle.lin_core.proofs.steps.Known.SlotIs.{carries, closed, master, other, slave, sleep}
+use Rattle.lin_core.proofs.steps.Known.{Known, SlotIs, finish-known, has_rest, place-of, served-known}
+use Rattle.lin_core.proofs.steps.Known.SlotIs.{carries, closed, master, other, served, slave, sleep}
 use Rattle.lin_core.proofs.sendings.Moves.{advanced, is_last, marked, record_of}
 use Rattle.lin_core.proofs.steps.Steps.{IsQuietNow, answer-allowed, any-of, blocks-closed, blocks-empty, first-go, stands}
 
@@ -111,6 +112,7 @@ begun-is c past n d none k =
 
 -- what an answer that is done finds, and what it puts
 pub data AnswerIs (c : Parts) (past : List LogEntry) (states : ℕ → HostState) (node : ℕ) : Slot → Type 0 where
+  serves : (s : Slot) → s.service ≡ true → AnswerIs c past states node s
   signals : (s : Slot) → header_is 0x3C s.header ≡ false → header_is 0x7D s.header ≡ false → AnswerIs c past states node s
   request : (s : Slot) → s.header ≡ Some 0x3C → s.puts ≡ [] → node ≡ 0 → (has_rest (states 0).rest || is_sleep_asked past) ≡ true
       → put c past (line_of c s.table s.entry).entry 0x3C node ≡ with_classic (next_of c (states 0).rest (states 0).count (is_sleep_asked past)) → AnswerIs c past states node s
@@ -120,6 +122,7 @@ pub data AnswerIs (c : Parts) (past : List LogEntry) (states : ℕ → HostState
 answer-by : (c : Parts) (past : List LogEntry) (node : ℕ) → (k : Known c past) → (o : Option Slot) → open_slot past ≡ o → SlotIs c (is_sleep_asked past) k.states o
     → in_slot past (λ s. is_in s.due node) ≡ true → in_slot past (λ s. has_decided s node) ≡ false → (s : Slot) → o ≡ Some s → AnswerIs c past k.states node s
 answer-by c past node k None is closed d decided s e = cc
+answer-by c past node k (Some _) is (served t serving) d decided s e = subst (AnswerIs c past k.states node) (let same : t ≡ s = cc in same) (serves t serving)
 answer-by c past node k (Some _) is (other t p q) d decided s e = subst (AnswerIs c past k.states node) (let same : t ≡ s = cc in same) (signals t p q)
 answer-by c past node k (Some _) is (master table entry due left hurt line only w) d decided s e =
     let t : Slot = slot_of table entry (Some 0x3C) due [] left hurt
@@ -172,11 +175,33 @@ pub data FinishIs (c : Parts) (states states' : ℕ → HostState) : Option Slot
       → ((x : ℕ) → states' x ≡ (if h == x then advanced s.hurt (is_last m.bytes k) (states h).done m ms k else states x)) → FinishIs c states states' (Some s)
 
 pub other-pdu : (s : Slot) → header_is 0x3C s.header ≡ false → header_is 0x7D s.header ≡ false → pdu_of s ≡ Nothing
-other-pdu s p q = rw (p, q)
+other-pdu s p q = rw (p, q, same-cond s.service)
+
+-- a slot for a service
+pub served-pdu : (s : Slot) (b : Bool) → s.service ≡ true → is_sleep_slot s ≡ b → pdu_of s ≡ (if b then Sleep else Nothing)
+served-pdu s true e h = rw (e, h)
+served-pdu s false e h = rw (e, h)
+
+sleep-unhurt : (header : Option ℕ) (puts : List (ℕ × List ℕ)) (hurt b : Bool) → option_map_or (λ bytes. slice_index bytes 0 == 0) (if b then good_bytes (seen_by header puts hurt) else None) false ≡ true → hurt ≡ false
+sleep-unhurt header puts false b e = refl
+sleep-unhurt header puts true false e = cc
+sleep-unhurt None puts true true e = cc
+sleep-unhurt (Some h) [] true true e = cc
+sleep-unhurt (Some h) (p ∷ []) true true e = cc
+sleep-unhurt (Some h) (p ∷ q ∷ ps) true true e = cc
+
+pub asleep-unhurt : (s : Slot) → is_sleep_slot s ≡ true → s.hurt ≡ false
+asleep-unhurt s e = sleep-unhurt s.header s.puts s.hurt (header_is 0x3C s.header) e
+
+served-finish : (c : Parts) (past : List LogEntry) (port : PortId) (es : List Event) (s : Slot) (b : Bool) (is : open_slot past ≡ Some s) (e : s.service ≡ true) (h : is_sleep_slot s ≡ b) (k : Known c past)
+    → FinishIs c k.states (served-known c past port es s b is e h k).states (Some s)
+served-finish c past port es s true is e h k = asleep s (served-pdu s true e h) (asleep-unhurt s h) h (λ x. refl)
+served-finish c past port es s false is e h k = still s (served-pdu s false e h) h (λ x. refl)
 
 pub finish-is : (c : Parts) (past : List LogEntry) (port : PortId) (es : List Event) (sound : IsSound c) (k : Known c past) → (o : Option Slot) (is : open_slot past ≡ o) (shape : SlotIs c (is_sleep_asked past) k.states o)
     → FinishIs c k.states ((finish-known c past port es sound k o is shape).states) o
 finish-is c past port es sound k None is closed = shut (λ x. refl)
+finish-is c past port es sound k (Some _) is (served s e) = served-finish c past port es s (is_sleep_slot s) is e refl k
 finish-is c past port es sound k (Some _) is (other s p q) = still s (other-pdu s p q) (other-awake s p) (λ x. refl)
 finish-is c past port es sound k (Some _) is (master table entry due left hurt line only w) = still _ refl (empty-awake table entry (Some 0x3C) due left hurt) (λ x. refl)
 finish-is c past port es sound k (Some _) is (slave table entry due left hurt h line only w) = still _ refl (empty-awake table entry (Some 0x7D) due left hurt) (λ x. refl)

@@ -13,7 +13,7 @@ use Rattle.lin_frame.specs.declared.value.Value.TheVariants.{Scalar, Bytes}
 use Rattle.lin_parts.specs.Cluster.{frame_of, sporadic_of, event_of, line_of}
 use Rattle.lin_parts.specs.declared.parts.Parts.{Parts}
 use Rattle.lin_parts.specs.declared.parts.Entry.{Entry}
-use Rattle.lin_parts.specs.declared.parts.Entry.TheVariants.{Frame, Sporadic, Event, MasterReq, SlaveResp, Quiet}
+use Rattle.lin_parts.specs.declared.parts.Entry.TheVariants.{Frame, Sporadic, Event, MasterReq, SlaveResp, Fixed, Quiet}
 use Rattle.lin_core.specs.kept.Slots.{frame_by, slot_in, put_in}
 use Rattle.lin_core.specs.History.{Slot, good, header_is, good_bytes, seen_by}
 use Rattle.lin_core.specs.Signals.{ArePointwise, carried_frame, carried_by, place_in, value_in}
@@ -89,6 +89,7 @@ carried-one c (Event v) o h n bytes e p =
     ∙ ap (λ (test : ℕ → Bool). find test (event_of c v).frames) (fun_ext {f = λ f. (n == (frame_of c f).publisher) || false} {g = λ f. n == (frame_of c f).publisher} (λ f. or-false (n == (frame_of c f).publisher)))
 carried-one c MasterReq o h n bytes e p = refl
 carried-one c SlaveResp o h n bytes e p = refl
+carried-one c (Fixed request) o h n bytes e p = refl
 carried-one c Quiet o h n bytes e p = refl
 
 first-of : (ps : List Put) (p q : Put) → ps ≡ p ∷ [] → slice_get ps 0 ≡ Some q → p ≡ q

@@ -14,17 +14,17 @@ use Rattle.lin_parts.specs.Rules.{IsCluster, IsEntry}
 use Rattle.lin_parts.specs.Sound.{IsSignalPid, IsSound}
 use Rattle.lin_parts.specs.declared.parts.Parts.{Parts}
 use Rattle.lin_parts.specs.declared.parts.Entry.{Entry}
-use Rattle.lin_parts.specs.declared.parts.Entry.TheVariants.{Frame, Sporadic, Event, MasterReq, SlaveResp, Quiet}
+use Rattle.lin_parts.specs.declared.parts.Entry.TheVariants.{Frame, Sporadic, Event, MasterReq, SlaveResp, Fixed, Quiet}
 use Rattle.lin_schedule.specs.Due.{due_for}
 use Rattle.lin_schedule.specs.Walker.{HasEntry}
 use Rattle.lin_transport.proofs.Frames.{and-false}
 use Rattle.lin_core.proofs.links.Finishes.{and-true}
-use Rattle.lin_core.specs.kept.Slots.{HasDue, header_of, is_due_of, CanAnswer, IsOpen, put_in, slot_in}
+use Rattle.lin_core.specs.kept.Slots.{HasDue, header_of, is_due_of, served_by, CanAnswer, IsOpen, IsServed, put_in, slot_in}
 use Rattle.lin_core.specs.History.{is_sleep_asked, has_decided, header_is, is_in, open_slot}
 use Rattle.lin_core.specs.Links.{waiting}
 use Rattle.lin_core.specs.Replies.{refusal}
 use Rattle.lin_core.specs.Signals.{is_pending}
-use Rattle.lin_core.specs.Slots.{due_nodes, header, is_due, selected_node}
+use Rattle.lin_core.specs.Slots.{due_nodes, header, is_due, is_service, plain_nodes, ready_responses, served_nodes, selected_node}
 use Rattle.lin_core.specs.declared.log.LogEntry.{LogEntry}
 use Rattle.lin_core.specs.declared.port.PortId.{PortId}
 use Rattle.lin_core.specs.declared.slot.OpenSlot.{OpenSlot}
@@ -52,6 +52,7 @@ header-due c past flags waits (Sporadic k) e w = ap (λ (p : ℕ → Bool). opti
 header-due c past flags waits (Event v) e w = refl
 header-due c past flags waits MasterReq e w = rw w refl
 header-due c past flags waits SlaveResp e w = refl
+header-due c past flags waits (Fixed request) e w = refl
 header-due c past flags waits Quiet e w = refl
 
 responder-by : (c : Parts) (past : List LogEntry) (n k : ℕ) (b : Bool) → nat_lt 0 (length (waiting c past k)) ≡ b → option_map_or (λ x. n == x) (if b then Some k else None) false ≡ (n == k && nat_lt 0 (length (waiting c past k)))
@@ -76,10 +77,11 @@ due-due c past flags waits responder (Sporadic k) n e w r =
 due-due c past flags waits responder (Event v) n e w r = ap (λ (p : ℕ → Bool). list_any (λ f. n == (frame_of c f).publisher && p f) (event_of c v).frames) (same-flags flags (is_pending c past) e)
 due-due c past flags waits responder MasterReq n e w r = ap (λ (b : Bool). n == 0 && b) (sym w ∙ sym (some-if (nat_lt 0 (length (waiting c past 0)) || is_sleep_asked past)))
 due-due c past flags waits responder SlaveResp n e w r = rw r (responder-due c past n (selected_node c past))
+due-due c past flags waits responder (Fixed request) n e w r = refl
 due-due c past flags waits responder Quiet n e w r = refl
 
 pub nodes-due : (c : Parts) (past : List LogEntry) (flags : List Bool) (waits : Bool) (responder : Option ℕ) (kind : Entry) → ((f : ℕ) → slice_index_or flags f false ≡ is_pending c past f) → (nat_lt 0 (length (waiting c past 0)) || is_sleep_asked past) ≡ waits → responder ≡ responder_now c past
-    → filter (is_due_of c flags waits responder (due_for c flags kind)) (numbers (nodes c)) ≡ due_nodes c past kind
+    → filter (is_due_of c flags waits responder (due_for c flags kind)) (numbers (nodes c)) ≡ plain_nodes c past kind
 nodes-due c past flags waits responder kind e w r =
     ap (λ (p : ℕ → Bool). filter p (numbers (nodes c))) (fun_ext {f = is_due_of c flags waits responder (due_for c flags kind)} {g = is_due c past kind} (λ n. due-due c past flags waits responder kind n e w r))
 
@@ -89,6 +91,7 @@ has-due c flags (Sporadic k) rules e = if-found (λ f. f < length c.frames) (λ 
 has-due c flags (Event v) rules e = e
 has-due c flags MasterReq rules e = tt
 has-due c flags SlaveResp rules e = tt
+has-due c flags (Fixed request) rules e = tt
 has-due c flags Quiet rules e = tt
 
 -- == the header of a master request
@@ -99,13 +102,14 @@ request-some : (c : Parts) (o : Option ℕ) (kind : Entry) → IsSound c → hea
 request-some c None kind sound h = cc
 request-some c (Some f) kind sound h = request-pid (frame_of c f).pid kind (sound.frames f) h
 
-pub request-is : (c : Parts) (past : List LogEntry) (kind : Entry) → IsSound c → header_is 0x3C (header c past kind) ≡ true → kind ≡ MasterReq
-request-is c past (Frame f) sound h = request-pid (frame_of c f).pid (Frame f) (sound.frames f) h
-request-is c past (Sporadic k) sound h = request-some c (find (is_pending c past) (sporadic_of c k)) (Sporadic k) sound h
-request-is c past (Event e) sound h = request-pid (event_of c e).pid (Event e) (sound.events e) h
-request-is c past MasterReq sound h = refl
-request-is c past SlaveResp sound h = cc
-request-is c past Quiet sound h = cc
+pub request-is : (c : Parts) (past : List LogEntry) (kind : Entry) → is_service c past kind ≡ false → IsSound c → header_is 0x3C (header c past kind) ≡ true → kind ≡ MasterReq
+request-is c past (Frame f) plain sound h = request-pid (frame_of c f).pid (Frame f) (sound.frames f) h
+request-is c past (Sporadic k) plain sound h = request-some c (find (is_pending c past) (sporadic_of c k)) (Sporadic k) sound h
+request-is c past (Event e) plain sound h = request-pid (event_of c e).pid (Event e) (sound.events e) h
+request-is c past MasterReq plain sound h = refl
+request-is c past SlaveResp plain sound h = cc
+request-is c past (Fixed request) plain sound h = absurd (cc)
+request-is c past Quiet plain sound h = cc
 
 -- == those that are due can answer
 found-by : (q : ℕ → Bool) (x : ℕ) (xs : List ℕ) (b : Bool) → q x ≡ b → (g : ℕ) × (find q xs ≡ Some g) → (g : ℕ) × (find q (x ∷ xs) ≡ Some g)
@@ -155,7 +159,30 @@ can-answer c past MasterReq n h =
     let waits : Bool = nat_lt 0 (length (waiting c past 0)) || is_sleep_asked past
     in request-answers c n waits (and-parts (n == 0) (is_some {T = ℕ} (if waits then Some 0x3C else None)) h).1
 can-answer c past SlaveResp n h = (0x7D, refl, inr (inr (refl, refl)))
+can-answer c past (Fixed request) n h = absurd (cc)
 can-answer c past Quiet n h = absurd (cc)
+
+-- == a slot for a service
+pub is-served : (c : Parts) (past : List LogEntry) (kind : Entry) → is_service c past kind ≡ true → IsServed c kind (header c past kind)
+is-served c past (Frame f) e = cc
+is-served c past (Sporadic k) e = cc
+is-served c past (Event v) e = cc
+is-served c past MasterReq e = cc
+is-served c past SlaveResp e = record { pid = 0x7D; is = refl; none = λ h n. refl }
+is-served c past (Fixed request) e = record { pid = 0x3C; is = refl; none = λ h n. refl }
+is-served c past Quiet e = cc
+
+pub served-due : (c : Parts) (past : List LogEntry) (flags : List Bool) (kind : Entry) (ready : List ℕ) → ready ≡ map (λ (r : ℕ × List ℕ). r.0) (ready_responses c past) → served_by (due_for c flags kind) ready ≡ served_nodes c past kind
+served-due c past flags (Frame f) ready e = refl
+served-due c past flags (Sporadic k) ready e = refl
+served-due c past flags (Event v) ready e = refl
+served-due c past flags MasterReq ready e = refl
+served-due c past flags SlaveResp ready e = e
+served-due c past flags (Fixed request) ready e = refl
+served-due c past flags Quiet ready e = refl
+
+plain-due : (c : Parts) (past : List LogEntry) (kind : Entry) → is_service c past kind ≡ false → due_nodes c past kind ≡ plain_nodes c past kind
+plain-due c past kind e = rw e refl
 
 -- == room for the responses
 few-by : (p q : ℕ → Bool) (x : ℕ) (xs : List ℕ) (a b : Bool) → q x ≡ a → p x ≡ b → (a ≡ true → b ≡ true) → length (filter q xs) ≤ length (filter p xs) → length (filter q (x ∷ xs)) ≤ length (filter p (x ∷ xs))
@@ -246,17 +273,19 @@ put-open c s p o free = record {
   known = o.known;
   request = o.request;
   answers = o.answers;
+  served = o.served;
   room = let f = fewer s p free in let r = o.room in let n = length-append s.puts.items (p ∷ []) in omega arith;
 }
 
 -- a slot that has just opened
-pub new-open : (c : Parts) (past : List LogEntry) (s : OpenSlot) (kind : Entry) → IsSound c → HasEntry c (s.table, s.entry) → s.kind ≡ (line_of c s.table s.entry).entry → IsEntry c s.kind → (line_of c s.table s.entry).entry ≡ kind → s.header ≡ header c past kind → s.due.items ≡ due_nodes c past kind
+pub new-open : (c : Parts) (past : List LogEntry) (s : OpenSlot) (kind : Entry) → IsSound c → HasEntry c (s.table, s.entry) → s.kind ≡ (line_of c s.table s.entry).entry → IsEntry c s.kind → (line_of c s.table s.entry).entry ≡ kind → s.header ≡ header c past kind → s.service ≡ is_service c past kind → s.due.items ≡ due_nodes c past kind
     → s.puts.items ≡ [] → s.left.items ≡ [] → length s.due.items ≤ 16 → IsOpen c s
-new-open c past s kind sound there own known line h d e l few = record {
+new-open c past s kind sound there own known line h served d e l few = record {
   there = there;
   kind_is = own;
   known = known;
-  request = λ t. line ∙ request-is c past kind sound (ap (header_is 0x3C) (sym h) ∙ t);
-  answers = λ n i. rw (line, h) (can-answer c past kind n (in-filter (is_due c past kind) (numbers (nodes c)) n (ap (λ (ns : List ℕ). is_in ns n) (sym d) ∙ i)));
+  request = λ plain t. line ∙ request-is c past kind (sym served ∙ plain) sound (ap (header_is 0x3C) (sym h) ∙ t);
+  answers = λ plain n i. rw (line, h) (can-answer c past kind n (in-filter (is_due c past kind) (numbers (nodes c)) n (ap (λ (ns : List ℕ). is_in ns n) (sym (d ∙ plain-due c past kind (sym served ∙ plain))) ∙ i)));
+  served = λ yes. rw (line, h) (is-served c past kind (sym served ∙ yes));
   room = let none : length s.puts.items ≡ 0 = ap length e in let no : length s.left.items ≡ 0 = ap length l in let f = filter-all (λ n. not (has_decided (slot_in s) n)) s.due.items in omega arith;
 }

@@ -45,6 +45,7 @@ made-kept a by step es new log r m e =
       kept = rw (reverse-more a.log (done_of a by step)) m.kept;
       late = rw (reverse-more a.log (done_of a by step)) m.late;
       heard = rw (reverse-more a.log (done_of a by step)) m.heard;
+      ready = rw (reverse-more a.log (done_of a by step)) m.ready;
       history = rw (done-answered (stage_data a) by step (done_events a.cluster a.opening (past_in a) by step) r.allowed refl) (history-more (stage_data a) by step r.whole.history);
     }
     in rw (e, m.told) whole

@@ -1,6 +1,6 @@
 -- An answer: the slot in which it is made, and what it makes of what is kept of signals.
 use Rattle.std.proofs.Common.{◌≡◌, ℕ, ◌<◌, ◌≤◌, Bool, true, false, List, [], ◌∷◌, ◌++◌, map, length, refl, ap, sym, ◌∙◌, subst, arith, inl, inr, get_or-set_same}
-use Rattle.std.specs.Prelude.{Option, Some, None, IfSome, ◌&&◌, ◌||◌, ◌==◌, if◌then◌else◌, is_some, slice_index_or, slice_set, vec_capacity}
+use Rattle.std.specs.Prelude.{Option, Some, None, IfSome, ◌&&◌, ◌||◌, ◌==◌, if◌then◌else◌, is_some, option_map, slice_index_or, slice_set, vec_capacity}
 use Rattle.std.proofs.lemmas.Bool.Decides.{nat_tests}
 use Rattle.std.proofs.Math.ListN.{length-set}
 use Rattle.std.specs.Option.{option_map_or}
@@ -8,13 +8,13 @@ use Rattle.lin_frame.specs.Frame.{answer_of}
 use Rattle.lin_parts.specs.Cluster.{frame_of, line_of}
 use Rattle.lin_parts.specs.declared.parts.Parts.{Parts}
 use Rattle.lin_parts.specs.declared.parts.Entry.{Entry}
-use Rattle.lin_parts.specs.declared.parts.Entry.TheVariants.{Frame, Sporadic, Event as EventEntry, MasterReq, SlaveResp, Quiet}
+use Rattle.lin_parts.specs.declared.parts.Entry.TheVariants.{Frame, Sporadic, Event as EventEntry, MasterReq, SlaveResp, Fixed, Quiet}
 use Rattle.lin_core.specs.kept.Slots.{frame_answered, frame_by, frame_model, CanAnswer, IsOpen, IsThere, put_in, slot_in}
 use Rattle.lin_core.specs.History.{Slot, header_is, is_in, has_decided, open_slot}
 use Rattle.lin_core.specs.kept.Signals.{KeepsSignals}
 use Rattle.lin_core.specs.Replies.{put_event}
 use Rattle.lin_core.specs.Signals.{carried_frame, signal_bytes}
-use Rattle.lin_core.specs.Slots.{put}
+use Rattle.lin_core.specs.Slots.{put, ready_responses, service_bytes, with_classic}
 use Rattle.lin_core.specs.kept.State.{IsKept, Stage}
 use Rattle.lin_core.specs.declared.event.Event.TheVariants.{Put as PutEvent}
 use Rattle.lin_core.specs.declared.log.LogEntry.{LogEntry}
@@ -39,17 +39,36 @@ pub record AnswerSlot (a : Stage) (node : ℕ) : Type 0 where
   pub at : a.state.slot ≡ Some slot
   pub is : open_slot (past_in a) ≡ Some (slot_in slot)
   pub is_open : IsOpen a.cluster slot
+  pub plain : slot.service ≡ false
   pub can : CanAnswer a.cluster (line_of a.cluster slot.table slot.entry).entry slot.header node
   pub free : Free slot node
 
-pub answer-slot : (a : Stage) (by : PortId) (node : ℕ) → IsKept a → Allowed a by (Answer node) → AnswerSlot a node
-answer-slot a by node w s =
+-- the slot in which a node answers
+pub record DueSlot (a : Stage) (node : ℕ) : Type 0 where
+  pub slot : OpenSlot
+  pub at : a.state.slot ≡ Some slot
+  pub is : open_slot (past_in a) ≡ Some (slot_in slot)
+  pub is_open : IsOpen a.cluster slot
+  pub free : Free slot node
+
+pub due-slot : (a : Stage) (by : PortId) (node : ℕ) → IsKept a → Allowed a by (Answer node) → DueSlot a node
+due-slot a by node w s =
     let both = answer-allowed a.cluster a.capacity (past_in a) by node s.allowed
     in let k = open-some a.state.slot (open_slot (past_in a)) w.kept.slot_is (in-some (open_slot (past_in a)) (λ o. is_in o.due node) both.0)
     in let there : IsOpen a.cluster k.0 = subst (IsThere a.cluster) k.1 w.kept.slot_there
     in let due : is_in k.0.due.items node ≡ true = rw k.2 at both.0
     in let undecided : has_decided (slot_in k.0) node ≡ false = rw k.2 at both.1
-    in record { slot = k.0; at = k.1; is = k.2; is_open = there; can = there.answers node due; free = record { due = due; undecided = undecided } }
+    in record { slot = k.0; at = k.1; is = k.2; is_open = there; free = record { due = due; undecided = undecided } }
+
+-- the open slot of a history is for no service
+abbrev pub IsPlain : Stage → Type 0
+IsPlain a = (s : Slot) → open_slot (past_in a) ≡ Some s → s.service ≡ false
+
+pub answer-slot : (a : Stage) (by : PortId) (node : ℕ) → IsKept a → Allowed a by (Answer node) → IsPlain a → AnswerSlot a node
+answer-slot a by node w s plain =
+    let d = due-slot a by node w s
+    in let none : d.slot.service ≡ false = plain (slot_in d.slot) d.is
+    in record { slot = d.slot; at = d.at; is = d.is; is_open = d.is_open; plain = none; can = d.is_open.answers none node d.free.due; free = d.free }
 
 -- the slot that is read is that one
 pub same-slot : (a : Stage) (node : ℕ) (s : AnswerSlot a node) (o : OpenSlot) → a.state.slot ≡ Some o → o ≡ s.slot
@@ -92,12 +111,25 @@ put-is c past (Sporadic k) h n frame e = rw e refl
 put-is c past (EventEntry v) h n frame e = rw e refl
 put-is c past MasterReq h n frame e = cc
 put-is c past SlaveResp h n frame e = cc
+put-is c past (Fixed request) h n frame e = cc
 put-is c past Quiet h n frame e = cc
 
-pub put-told : (c : Parts) (past : List LogEntry) (slot : OpenSlot) (h n frame : ℕ) (bytes : List ℕ) → open_slot past ≡ Some (slot_in slot) → slot.header ≡ Some h → frame_by c (line_of c slot.table slot.entry).entry h n ≡ Some frame
+pub put-told : (c : Parts) (past : List LogEntry) (slot : OpenSlot) (h n frame : ℕ) (bytes : List ℕ) → slot.service ≡ false → open_slot past ≡ Some (slot_in slot) → slot.header ≡ Some h → frame_by c (line_of c slot.table slot.entry).entry h n ≡ Some frame
     → bytes ≡ answer_of (frame_model c (line_of c slot.table slot.entry).entry frame) h (signal_bytes c past frame) → PutEvent n bytes ∷ [] ≡ option_map_or (put_event c past n) (open_slot past) []
-put-told c past slot h n frame bytes is e by made =
-    rw (is, e) (ap (λ (xs : List ℕ). PutEvent n xs ∷ []) (made ∙ sym (put-is c past (line_of c slot.table slot.entry).entry h n frame by)))
+put-told c past slot h n frame bytes plain is e by made =
+    rw (is, e, plain) (ap (λ (xs : List ℕ). PutEvent n xs ∷ []) (made ∙ sym (put-is c past (line_of c slot.table slot.entry).entry h n frame by)))
+
+-- the bytes of a slot for a service
+pub service-told : (c : Parts) (past : List LogEntry) (slot : OpenSlot) (pid n : ℕ) (bytes : List ℕ) → open_slot past ≡ Some (slot_in slot) → slot.header ≡ Some pid → slot.service ≡ true
+    → bytes ≡ with_classic (service_bytes (ready_responses c past) (line_of c slot.table slot.entry).entry n) → PutEvent n bytes ∷ [] ≡ option_map_or (put_event c past n) (open_slot past) []
+service-told c past slot pid n bytes is e served made = rw (is, e, served) (ap (λ (xs : List ℕ). PutEvent n xs ∷ []) made)
+
+-- what the kept slot says of the open one
+pub same-service : (a : Stage) (o : OpenSlot) (b : Bool) → IsKept a → a.state.slot ≡ Some o → o.service ≡ b → (s : Slot) → open_slot (past_in a) ≡ Some s → s.service ≡ b
+same-service a o b w at e s is =
+    let t : Some (slot_in o) ≡ Some s = sym (ap (option_map slot_in) at) ∙ w.kept.slot_is ∙ is
+    in let same : slot_in o ≡ s = cc
+    in ap (λ (x : Slot). x.service) (sym same) ∙ e
 
 -- == what it makes of what is kept
 carried-now : (c : Parts) (slot : OpenSlot) (p : Put) (h : ℕ) → slot.header ≡ Some h → slot.puts.items ≡ [] → carried_frame c (slot_in (with_put slot p)) ≡ frame_by c (line_of c slot.table slot.entry).entry h p.node

@@ -24,8 +24,8 @@ use Rattle.lin_core.proofs.steps.FinishEvents.{ToldIs, finish-one, finish-quiet,
 use Rattle.lin_core.proofs.steps.FinishEvents.ToldIs.{lost}
 use Rattle.lin_core.proofs.kept.Going.{GoesOn}
 use Rattle.lin_core.proofs.sendings.Hosts.{CanGo, HostState, eqb-self}
-use Rattle.lin_core.proofs.steps.Known.{Known, SlotIs, entry_is, finish-known}
-use Rattle.lin_core.proofs.steps.Known.SlotIs.{carries, closed, master, other, slave, sleep}
+use Rattle.lin_core.proofs.steps.Known.{Known, SlotIs, entry_is, finish-known, served-same}
+use Rattle.lin_core.proofs.steps.Known.SlotIs.{carries, closed, master, other, served, slave, sleep}
 use Rattle.lin_core.proofs.sendings.Moves.{advanced, is_last, marked}
 use Rattle.lin_core.proofs.laws.Reports.{host-below}
 use Rattle.lin_core.proofs.kept.Settling.{Settles}
@@ -43,6 +43,7 @@ known_after c past by es sound k = finish-known c past by es sound k (open_slot 
 states-same : (c : Parts) (past : List LogEntry) (by : PortId) (es ds : List Event) (sound : IsSound c) (k : Known c past) (o : Option Slot) (is : open_slot past ≡ o) (shape : SlotIs c (is_sleep_asked past) k.states o) (x : ℕ)
     → (finish-known c past by es sound k o is shape).states x ≡ (finish-known c past by ds sound k o is shape).states x
 states-same c past by es ds sound k None is closed x = refl
+states-same c past by es ds sound k (Some _) is (served s e) x = served-same c past by es ds s (is_sleep_slot s) is e refl k x
 states-same c past by es ds sound k (Some _) is (other s p q) x = refl
 states-same c past by es ds sound k (Some _) is (master table entry due left hurt line only w) x = refl
 states-same c past by es ds sound k (Some _) is (slave table entry due left hurt h line only w) x = refl

@@ -6,7 +6,7 @@ use Rattle.std.proofs.lemmas.Bool.Decides.{eqb_tells}
 use Rattle.lin_transport.specs.Transport.{frame, Heard}
 use Rattle.lin_parts.specs.declared.parts.Parts.{Parts}
 use Rattle.lin_parts.specs.Cluster.{nad, line_of}
-use Rattle.lin_core.specs.History.{Slot, open_slot, leave, slot_after_hurt, header_is, is_sleep_asked, is_in}
+use Rattle.lin_core.specs.History.{Slot, open_slot, leave, slot_after_hurt, header_is, is_sleep_asked, is_sleep_slot, is_in}
 use Rattle.lin_core.specs.Links.{Link, Message, host_of, accepted_from, Sign, address, goes_over, signs, heard_on}
 use Rattle.lin_parts.specs.Sound.{IsSound}
 use Rattle.lin_core.specs.declared.log.LogEntry.{LogEntry}
@@ -20,7 +20,7 @@ use Rattle.lin_core.specs.declared.reply.Refusal.{Refusal}
 use Rattle.lin_core.specs.declared.link.Cause.TheVariants.{Slept}
 use Rattle.lin_core.proofs.sendings.Hosts.{HostState, HostIs, CanGo}
 use Rattle.lin_core.proofs.sendings.Moves.{Puts, advanced, is_last, marked, host-put, host-same, host-mark, over-host}
-use Rattle.lin_core.proofs.links.Finishes.{finish_entry, slot_of, sleep_slot, frame_slot, finish-signs, finish-heard, IsQuiet, other-quiet, empty-quiet, sleep-hurt, sleep-good, Sleeps, HasNad, IsPlace, value-of, Adds, frame-adds, frame-is}
+use Rattle.lin_core.proofs.links.Finishes.{finish_entry, slot_of, sleep_slot, frame_slot, finish-signs, finish-heard, IsQuiet, other-quiet, empty-quiet, sleep-hurt, sleep-good, served-quiet, served-sleeps, Sleeps, HasNad, IsPlace, value-of, Adds, frame-adds, frame-is}
 
 -- whether a host has something that waits
 abbrev pub has_rest : List Message → Bool
@@ -33,6 +33,7 @@ OnlyDue due h = (n : ℕ) → is_in due n ≡ true → n ≡ h
 -- the shapes of the open slot
 pub data SlotIs (c : Parts) (asked : Bool) (states : ℕ → HostState) : Option Slot → Type 0 where
   closed : SlotIs c asked states None
+  served : (s : Slot) → s.service ≡ true → SlotIs c asked states (Some s)
   other : (s : Slot) → header_is 0x3C s.header ≡ false → header_is 0x7D s.header ≡ false → SlotIs c asked states (Some s)
   master : (table entry : ℕ) (due left : List ℕ) (hurt : Bool) → (line_of c table entry).entry ≡ MasterReq → OnlyDue due 0 → (has_rest (states 0).rest || asked) ≡ true
       → SlotIs c asked states (Some (slot_of table entry (Some 0x3C) due [] left hurt))
@@ -73,6 +74,7 @@ or-right false = refl
 
 pub slot-asked : (c : Parts) (a : Bool) (states : ℕ → HostState) (o : Option Slot) → SlotIs c a states o → SlotIs c true states o
 slot-asked c a states None closed = closed
+slot-asked c a states (Some _) (served s e) = served s e
 slot-asked c a states (Some _) (other s p q) = other s p q
 slot-asked c a states (Some _) (master table entry due left hurt line only w) = master table entry due left hurt line only (or-right (has_rest (states 0).rest))
 slot-asked c a states (Some _) (slave table entry due left hurt h line only w) = slave table entry due left hurt h line only w
@@ -85,6 +87,7 @@ ask-known c past port es k = record { states = k.states; hosts = k.hosts; slot =
 -- a leave and a hurt
 pub slot-left : (c : Parts) (a : Bool) (states : ℕ → HostState) (node : ℕ) (o : Option Slot) → SlotIs c a states o → SlotIs c a states (option_map (leave node) o)
 slot-left c a states node None closed = closed
+slot-left c a states node (Some _) (served s e) = served (leave node s) e
 slot-left c a states node (Some _) (other s p q) = other (leave node s) p q
 slot-left c a states node (Some _) (master table entry due left hurt line only w) = master table entry due (left ++ node ∷ []) hurt line only w
 slot-left c a states node (Some _) (slave table entry due left hurt h line only w) = slave table entry due (left ++ node ∷ []) hurt h line only w
@@ -96,6 +99,7 @@ leave-known c past port node es k = record { states = k.states; hosts = k.hosts;
 
 pub slot-hurt : (c : Parts) (a : Bool) (states : ℕ → HostState) (o : Option Slot) → SlotIs c a states o → SlotIs c a states (option_map slot_after_hurt o)
 slot-hurt c a states None closed = closed
+slot-hurt c a states (Some _) (served s e) = served (slot_after_hurt s) e
 slot-hurt c a states (Some _) (other s p q) = other (slot_after_hurt s) p q
 slot-hurt c a states (Some _) (master table entry due left x line only w) = master table entry due left true line only w
 slot-hurt c a states (Some _) (slave table entry due left x h line only w) = slave table entry due left true h line only w
@@ -131,17 +135,26 @@ quiet-known c past port es s is q k = record {
 pub has-nad : (c : Parts) (node : ℕ) → is_some (nad c node) ≡ true → HasNad c node
 has-nad c node h = let v = value-of (nad c node) h in record { n = v.0; is = v.1 }
 
-abbrev pub sleep-known : (c : Parts) (past : List LogEntry) (port : PortId) (es : List Event) (table entry : ℕ) (due left : List ℕ) → IsSound c → open_slot past ≡ Some (sleep_slot table entry due left false)
+abbrev pub sleep-known : (c : Parts) (past : List LogEntry) (port : PortId) (es : List Event) (s : Slot) → open_slot past ≡ Some s → ((l : Link) → is_some (nad c l.node) ≡ true → Sleeps c s l)
     → Known c past → Known c (finish_entry port es ∷ past)
-sleep-known c past port es table entry due left sound is k =
-    let s : Slot = sleep_slot table entry due left false
-    in record {
+sleep-known c past port es s is sleeps k =
+    record {
       states = λ h. marked (λ l. true) Slept (k.states h).done (k.states h).rest (k.states h).count;
       hosts = λ h. host-mark c h (accepted_from past h) (heard_on c past) (heard_on c (finish_entry port es ∷ past)) (signs c past) (signs c (finish_entry port es ∷ past)) (k.states h).done (k.states h).rest (k.states h).count (λ l. true) Slept (k.hosts h)
-          (λ l i. let sl : Sleeps c s l = sleep-good c table entry due left l.node l.dir sound (has-nad c l.node i.address)
+          (λ l i. let sl : Sleeps c s l = sleeps l i.address
           in record { heard_is = finish-heard c past port es s l is ∙ ap (λ (x : List Heard). x ++ heard_on c past l) sl.heard; signs_is = finish-signs c past port es s l is ∙ ap (λ (x : List Sign). x ++ signs c past l) sl.signs });
       slot = closed;
     }
+
+-- a slot for a service
+abbrev pub served-known : (c : Parts) (past : List LogEntry) (port : PortId) (es : List Event) (s : Slot) (b : Bool) → open_slot past ≡ Some s → s.service ≡ true → is_sleep_slot s ≡ b → Known c past → Known c (finish_entry port es ∷ past)
+served-known c past port es s true is e b k = sleep-known c past port es s is (λ l i. served-sleeps c s l e b) k
+served-known c past port es s false is e b k = quiet-known c past port es s is (λ l i. served-quiet c s l e b) k
+
+pub served-same : (c : Parts) (past : List LogEntry) (port : PortId) (es ds : List Event) (s : Slot) (b : Bool) (is : open_slot past ≡ Some s) (e : s.service ≡ true) (h : is_sleep_slot s ≡ b) (k : Known c past) (x : ℕ)
+    → (served-known c past port es s b is e h k).states x ≡ (served-known c past port ds s b is e h k).states x
+served-same c past port es ds s true is e h k x = refl
+served-same c past port es ds s false is e h k x = refl
 
 -- the place of a message of a host
 pub place-of : (c : Parts) (h : ℕ) (m : Message) → CanGo c h m → IsPlace c m.link
@@ -189,11 +202,12 @@ host-frame c past port es table entry due left hurt h m ms j x sound host states
 
 abbrev pub finish-known : (c : Parts) (past : List LogEntry) (port : PortId) (es : List Event) → IsSound c → (k : Known c past) → (o : Option Slot) → open_slot past ≡ o → SlotIs c (is_sleep_asked past) k.states o → Known c (finish_entry port es ∷ past)
 finish-known c past port es sound k None is closed = none-known c past port es is k
+finish-known c past port es sound k (Some _) is (served s e) = served-known c past port es s (is_sleep_slot s) is e refl k
 finish-known c past port es sound k (Some _) is (other s p q) = quiet-known c past port es s is (λ l i. other-quiet c s l.node l.dir p q) k
 finish-known c past port es sound k (Some _) is (master table entry due left hurt line only w) = quiet-known c past port es _ is (λ l i. empty-quiet c table entry (Some 0x3C) due left hurt l.node l.dir) k
 finish-known c past port es sound k (Some _) is (slave table entry due left hurt h line only w) = quiet-known c past port es _ is (λ l i. empty-quiet c table entry (Some 0x7D) due left hurt l.node l.dir) k
 finish-known c past port es sound k (Some _) is (sleep table entry due left true only) = quiet-known c past port es _ is (λ l i. sleep-hurt c table entry due left l.node l.dir sound (has-nad c l.node i)) k
-finish-known c past port es sound k (Some _) is (sleep table entry due left false only) = sleep-known c past port es table entry due left sound is k
+finish-known c past port es sound k (Some _) is (sleep table entry due left false only) = sleep-known c past port es (sleep_slot table entry due left false) is (λ l i. sleep-good c table entry due left l.node l.dir sound (has-nad c l.node i)) k
 finish-known c past port es sound k (Some _) is (carries table entry due left hurt h m ms j only host r n) = record {
   states = λ x. if h == x then advanced hurt (is_last m.bytes j) (k.states h).done m ms j else k.states x;
   hosts = λ x. host-frame c past port es table entry due left hurt h m ms j x sound host k.states r n is k.hosts;

@@ -1,10 +1,12 @@
 -- What stands inside a core as it makes a step.
-use Rattle.std.proofs.Common.{◌≡◌, ℕ, zero, suc, ◌+◌, ◌-◌, ◌^◌, ◌<◌, ◌≤◌, List, [], reverse, length, refl, ap, sym, ◌∙◌, subst, arith}
-use Rattle.std.specs.Prelude.{Some, None, slice_get, slice_index_or, Bool, not, ◌==◌, nat_lt, Option, option_map, true, false, is_some, filter, ◌||◌}
+use Rattle.std.proofs.Common.{◌≡◌, ℕ, zero, suc, ◌+◌, ◌-◌, ◌^◌, ◌<◌, ◌≤◌, List, [], ◌∷◌, reverse, length, map, refl, ap, sym, ◌∙◌, subst, arith}
+use Rattle.std.specs.Prelude.{Some, None, slice_get, slice_index_or, Bool, not, ◌==◌, nat_lt, Option, option_map, true, false, is_some, filter, if◌then◌else◌, ◌||◌}
 use Rattle.lin_parts.specs.Cluster.{nodes, line_of}
 use Rattle.lin_core.specs.History.{is_sleep_asked, Slot, open_slot}
 use Rattle.lin_core.specs.kept.Hosts.{KeepsHost}
-use Rattle.lin_core.specs.kept.Slots.{slot_in, opening_slot, header_of, is_due_of}
+use Rattle.lin_core.specs.kept.Slots.{slot_in, opening_slot, header_of, is_due_of, served_by}
+use Rattle.lin_core.specs.kept.Ready.{node_in, response_in}
+use Rattle.lin_core.specs.declared.ready.Response.{Response}
 use Rattle.lin_core.specs.kept.Signals.{is_cleared_in}
 use Rattle.lin_core.specs.Links.{waiting}
 use Rattle.lin_core.specs.Replies.{refusal, refusals}
@@ -19,11 +21,11 @@ use Rattle.lin_core.proofs.kept.Keeping.{host-few, host-at, send-room, queue-len
 use Rattle.std.proofs.lemmas.Bool.Decides.{nat_tests}
 use Rattle.std.proofs.lemmas.Option.{slice_get_read}
 use Rattle.lin_parts.specs.declared.parts.Entry.{Entry}
-use Rattle.lin_core.specs.Slots.{header, due_nodes}
+use Rattle.lin_core.specs.Slots.{header, due_nodes, is_service, plain_nodes, ready_responses, served_nodes}
 use Rattle.lin_core.specs.declared.slot.OpenSlot.{OpenSlot}
 use Rattle.lin_core.proofs.steps.Known.{Known}
 use Rattle.lin_core.proofs.slots.OpenSlots.{or-false}
-use Rattle.lin_core.proofs.slots.Opening.{header-due, nodes-due, new-open, responder_now}
+use Rattle.lin_core.proofs.slots.Opening.{header-due, nodes-due, new-open, responder_now, served-due}
 use Rattle.lin_core.specs.Signals.{is_pending}
 use Rattle.lin_frame.specs.Words.{numbers}
 use Rattle.lin_schedule.specs.Due.{due_for}
@@ -79,11 +81,16 @@ flags-inside a w shut f =
     sym (or-false (slice_index_or a.state.signals.pending.items f false))
     ∙ (let t : (slice_index_or a.state.signals.pending.items f false || is_cleared_in None f) ≡ is_pending a.cluster (past_in a) f = subst (λ (o : Option OpenSlot). (slice_index_or a.state.signals.pending.items f false || is_cleared_in o f) ≡ is_pending a.cluster (past_in a) f) shut (w.kept.signals_are.each_pending f) in t)
 
-pub opens-inside : (a : Stage) (by : PortId) (host : Host) (slot : OpenSlot) (waits : Bool) (responder : Option ℕ) (place : ℕ × ℕ) (due : Due) → IsKept a → Allowed a by Open → host ≡ slice_index_or a.state.hosts.items 0 host
+nodes-ready : (ready : List Response) → map node_in ready ≡ map (λ (x : ℕ × List ℕ). x.0) (map response_in ready)
+nodes-ready [] = refl
+nodes-ready (r ∷ rs) = ap (λ (ns : List ℕ). r.node ∷ ns) (nodes-ready rs)
+
+pub opens-inside : (a : Stage) (by : PortId) (host : Host) (slot : OpenSlot) (served : List ℕ) (waits : Bool) (responder : Option ℕ) (place : ℕ × ℕ) (due : Due) → IsKept a → Allowed a by Open → host ≡ slice_index_or a.state.hosts.items 0 host
     → waits ≡ (not (length host.queue.items == 0) || a.state.bus.asked) → responder ≡ responder_now a.cluster (past_in a) → place ≡ a.state.walker.place → due ≡ due_for a.cluster a.state.signals.pending.items (line_of a.cluster a.state.walker.place.0 a.state.walker.place.1).entry
-    → slot_in slot ≡ opening_slot place.0 place.1 (header_of a.cluster waits due) (filter (is_due_of a.cluster a.state.signals.pending.items waits responder due) (numbers (nodes a.cluster)))
+    → served ≡ served_by due (map node_in a.state.ready.items)
+    → slot_in slot ≡ opening_slot place.0 place.1 (header_of a.cluster waits due) (nat_lt 0 (length served)) (if nat_lt 0 (length served) then served else filter (is_due_of a.cluster a.state.signals.pending.items waits responder due) (numbers (nodes a.cluster)))
     → slot.kind ≡ (line_of a.cluster slot.table slot.entry).entry → length slot.due.items ≤ 16 → slot.puts.items ≡ [] → slot.left.items ≡ [] → slot.hurt ≡ false → Opens a.cluster a.opening (past_in a) slot
-opens-inside a by host slot waits responder place due w s e b r at d is own few empty none calm =
+opens-inside a by host slot served waits responder place due w s e b r at d serves is own few empty none calm =
     let past : List LogEntry = past_in a
     in let kept : KeepsHost a.cluster a.capacity a.log past 0 host = w.kept.each_host 0 host (commander-at a host w e)
     in let n = queue-length a.cluster a.capacity a.log past 0 host kept
@@ -97,13 +104,19 @@ opens-inside a by host slot waits responder place due w s e b r at d is own few 
     in let pair : (slot.table, slot.entry) ≡ a.state.walker.place = (let t : (slot.table, slot.entry) ≡ place = rw (table, entry) refl in t) ∙ at
     in let line : (line_of a.cluster slot.table slot.entry).entry ≡ kind = ap (λ (p : ℕ × ℕ). (line_of a.cluster p.0 p.1).entry) pair
     in let head : slot.header ≡ header a.cluster past kind = ap (λ (x : Slot). x.header) is ∙ ap (header_of a.cluster waits) d ∙ header-due a.cluster past a.state.signals.pending.items waits kind flags waiting_is
+    in let ready : map node_in a.state.ready.items ≡ map (λ (x : ℕ × List ℕ). x.0) (ready_responses a.cluster past) = nodes-ready a.state.ready.items ∙ ap (map (λ (x : ℕ × List ℕ). x.0)) w.ready.0
+    in let serving : served ≡ served_nodes a.cluster past kind = serves ∙ ap (λ (x : Due). served_by x (map node_in a.state.ready.items)) d ∙ served-due a.cluster past a.state.signals.pending.items kind (map node_in a.state.ready.items) ready
+    in let service : slot.service ≡ is_service a.cluster past kind = ap (λ (x : Slot). x.service) is ∙ ap (λ (ns : List ℕ). nat_lt 0 (length ns)) serving
+    in let plain : filter (is_due_of a.cluster a.state.signals.pending.items waits responder due) (numbers (nodes a.cluster)) ≡ plain_nodes a.cluster past kind
+    = ap (λ (x : Due). filter (is_due_of a.cluster a.state.signals.pending.items waits responder x) (numbers (nodes a.cluster))) d ∙ nodes-due a.cluster past a.state.signals.pending.items waits responder kind flags waiting_is r
     in let dues : slot.due.items ≡ due_nodes a.cluster past kind
-    = ap (λ (x : Slot). x.due) is ∙ ap (λ (x : Due). filter (is_due_of a.cluster a.state.signals.pending.items waits responder x) (numbers (nodes a.cluster))) d ∙ nodes-due a.cluster past a.state.signals.pending.items waits responder kind flags waiting_is r
+    = ap (λ (x : Slot). x.due) is ∙ ap (λ (ns : List ℕ). if nat_lt 0 (length served) then served else ns) plain ∙ ap (λ (ns : List ℕ). if nat_lt 0 (length ns) then ns else plain_nodes a.cluster past kind) serving
     in let there : HasEntry a.cluster (slot.table, slot.entry) = subst (HasEntry a.cluster) (sym pair) w.kept.walks.place
     in record {
       at = pair ∙ ap (λ (p : Position). p.place) w.kept.stands;
-      is_open = new-open a.cluster past slot kind w.sound there own (rw own (line-entry a.cluster w.rules (slot.table, slot.entry) there)) line head dues empty none few;
+      is_open = new-open a.cluster past slot kind w.sound there own (rw own (line-entry a.cluster w.rules (slot.table, slot.entry) there)) line head service dues empty none few;
       header_is = rw line head;
+      service_is = rw line service;
       due_is = rw line dues;
       empty = empty;
       none_left = none;

@@ -16,8 +16,9 @@ use Rattle.lin_core.specs.History.{finished_slot, is_sleep_mark, Slot, open_slot
 use Rattle.lin_core.specs.Signals.{is_pending}
 use Rattle.lin_core.specs.Links.{Link, same_link, link_of, Message, host_of, accepted_from, Sign, Fate, address, ear_on, goes_over, home, is_down, is_to_all, nad_on, put_on, signs, heard_on, blocks, blocks_of, waiting, begun_sending}
 use Rattle.lin_core.specs.Links.Sign.{Mark}
-use Rattle.lin_core.specs.Slots.{with_classic, sleep_frame, next_frame, first_frame, put, header, is_due, due_nodes, selected_node, addressee, node_with, next_due}
-use Rattle.lin_core.specs.Replies.{refusal, refusals, in_slot, has_address, is_addressed, longest, put_event, opening_events, done_events, reply}
+use Rattle.lin_core.specs.Slots.{with_classic, sleep_frame, next_frame, first_frame, put_by, header, is_due, due_nodes, is_service, plain_nodes, served_nodes, selected_node, addressee, node_with, next_due}
+use Rattle.lin_core.specs.Replies.{refusal, refusals, in_slot, has_address, is_addressed, longest, put_event, opening_events, service_events, done_events, reply}
+use Rattle.lin_core.specs.kept.Slots.{opening_slot}
 use Rattle.lin_parts.specs.Sound.{IsSound, IsSignalPid}
 use Rattle.lin_core.specs.declared.log.LogEntry.{LogEntry}
 use Rattle.lin_core.specs.declared.port.PortId.{PortId}
@@ -26,7 +27,7 @@ use Rattle.lin_core.specs.declared.step.Step.TheVariants.{Send, Write, Open, Ans
 use Rattle.lin_core.specs.declared.event.Event.{Event}
 use Rattle.lin_core.specs.declared.event.Event.TheVariants.{Due, Put as PutEvent}
 use Rattle.lin_parts.specs.declared.parts.Entry.{Entry}
-use Rattle.lin_parts.specs.declared.parts.Entry.TheVariants.{Frame as FrameEntry, Sporadic, Event as EventEntry, MasterReq, SlaveResp, Quiet}
+use Rattle.lin_parts.specs.declared.parts.Entry.TheVariants.{Frame as FrameEntry, Sporadic, Event as EventEntry, MasterReq, SlaveResp, Fixed, Quiet}
 use Rattle.lin_core.specs.declared.reply.Reply.TheVariants.{Done, Refused}
 use Rattle.lin_core.specs.declared.reply.Refusal.{Refusal}
 use Rattle.lin_core.specs.declared.link.Cause.TheVariants.{TimedOut}
@@ -39,7 +40,7 @@ use Rattle.lin_core.proofs.links.Fates.{or-true}
 use Rattle.lin_core.proofs.links.Finishes.{HasNad, nad-is, one-by, slot_of, frame_slot, same-cond}
 use Rattle.lin_core.specs.Runs.{history}
 use Rattle.lin_core.proofs.steps.Known.{or-right, has-nad, has_rest, OnlyDue, SlotIs, Known, entry_is, refused-known, write-known, switch-known, wake-known, close-known, ask-known, leave-known, hurt-known, finish-known}
-use Rattle.lin_core.proofs.steps.Known.SlotIs.{closed, other, master, slave, sleep, carries}
+use Rattle.lin_core.proofs.steps.Known.SlotIs.{closed, served, other, master, slave, sleep, carries}
 
 -- a timeout
 pub marks-by : (b : Bool) (heard : List Heard) (signs : List Sign)
@@ -197,6 +198,7 @@ or-more false m s a h = h
 
 pub slot-more : (c : Parts) (a : Bool) (states : ℕ → HostState) (from : ℕ) (m : Message) (o : Option Slot) → SlotIs c a states o → SlotIs c a (λ x. more_if (from == x) m (states x)) o
 slot-more c a states from m None closed = closed
+slot-more c a states from m (Some _) (served s e) = served s e
 slot-more c a states from m (Some _) (other s p q) = other s p q
 slot-more c a states from m (Some _) (master table entry due left hurt line only w) = master table entry due left hurt line only (or-more (from == 0) m (states 0) a w)
 slot-more c a states from m (Some _) (slave table entry due left hurt h line only w) = slave table entry due left hurt h line only (λ d. ((w d).0, has-more (from == h) m (states h) (w d).1))
@@ -369,6 +371,10 @@ pub told-header : (o : Option ℕ) (n : ℕ) (f : ℕ → List ℕ) (s : Slot) �
 told-header None n f s = refl
 told-header (Some h) n f s = refl
 
+pub told-service : (o : Option ℕ) (n : ℕ) (f : ℕ → List ℕ) (s : Slot) → (slot_after_events (option_map_or (λ h. PutEvent n (f h) ∷ []) o []) s).service ≡ s.service
+told-service None n f s = refl
+told-service (Some h) n f s = refl
+
 pub any-of : (xs : List ℕ) (h n : ℕ) (f : List ℕ) → n ≡ h → (list_any (λ (p : ℕ × List ℕ). p.0 == n) ((h, f) ∷ []) || is_in xs n) ≡ true
 any-of xs h n f e = let t : (h == n) ≡ true = grind (arith, nat_tests, e) in rw t
 
@@ -404,9 +410,12 @@ pub answer-slot : (c : Parts) (past : List LogEntry) (port : PortId) (node : ℕ
     → in_slot past (λ s. is_in s.due node) ≡ true → in_slot past (λ s. has_decided s node) ≡ false
     → SlotIs c (is_sleep_asked past) k.states (open_slot (answer_entry c past port node ∷ past))
 answer-slot c past port node sound k None is closed due decided = rw is closed
+answer-slot c past port node sound k (Some _) is (served s e) due decided =
+    let es : List Event = put_event c past node s
+    in rw is (served (slot_after_events es s) (told-service s.header node (λ h. put_by c past s h node) s ∙ e))
 answer-slot c past port node sound k (Some _) is (other s p q) due decided =
     let es : List Event = put_event c past node s
-    in let e : (slot_after_events es s).header ≡ s.header = told-header s.header node (λ h. put c past (line_of c s.table s.entry).entry h node) s
+    in let e : (slot_after_events es s).header ≡ s.header = told-header s.header node (λ h. put_by c past s h node) s
     in rw is (other (slot_after_events es s) (rw e p) (rw e q))
 answer-slot c past port node sound k (Some _) is (master table entry due left hurt line only w) d decided =
     let quiet : IsQuietNow c past = record { blocks = λ l. blocks-empty c past l table entry (Some 0x3C) due left hurt is }
@@ -435,9 +444,13 @@ answer-known c capacity past port node sound h k =
     in record { states = k.states; hosts = k.hosts; slot = answer-slot c past port node sound k (open_slot past) refl k.slot a.0 a.1 }
 
 -- an open
-pub told-due : (ns : List ℕ) (table entry : ℕ) (header : Option ℕ) (due : List ℕ) → slot_after_events (map Due ns) (slot_of table entry header due [] [] false) ≡ slot_of table entry header (due ++ ns) [] [] false
-told-due [] table entry header due = rw (append-nil due)
-told-due (n ∷ ns) table entry header due = told-due ns table entry header (due ++ n ∷ []) ∙ rw (append_assoc due (n ∷ []) ns)
+told-due : (ns : List ℕ) (table entry : ℕ) (header : Option ℕ) (service : Bool) (due : List ℕ) → slot_after_events (map Due ns) (opening_slot table entry header service due) ≡ opening_slot table entry header service (due ++ ns)
+told-due [] table entry header service due = rw (append-nil due)
+told-due (n ∷ ns) table entry header service due = told-due ns table entry header service (due ++ n ∷ []) ∙ rw (append_assoc due (n ∷ []) ns)
+
+pub told-open : (service : Bool) (ns : List ℕ) (table entry : ℕ) (header : Option ℕ) → slot_after_events (service_events service ++ map Due ns) (opening_slot table entry header false []) ≡ opening_slot table entry header service ns
+told-open true ns table entry header = told-due ns table entry header true []
+told-open false ns table entry header = told-due ns table entry header false []
 
 pub in-filter-by : (p : ℕ → Bool) (x : ℕ) (xs : List ℕ) (n : ℕ) (b : Bool) → (is_in (filter p xs) n ≡ true → p n ≡ true) → p x ≡ b → is_in (cond b (x ∷ filter p xs) (filter p xs)) n ≡ true → p n ≡ true
 in-filter-by p x xs n true r e h = elim (eqb_tells x n) [ inl same ↦ subst (λ (y : ℕ). p y ≡ true) same.1 e | inr differ ↦ r (rw differ.0 at h) ]
@@ -524,17 +537,23 @@ slave-by c past table entry (Some h) k q line some due d =
     (λ n i. let e : (n == h) ≡ true = (and-parts (n == h) (nat_lt 0 (length (waiting c past h))) (d n i)).0 in grind (arith, nat_tests, e))
     (λ i. (some h refl, rest-some c past h (k.states h) q (k.hosts h) (and-parts (h == h) (nat_lt 0 (length (waiting c past h))) (d h i)).1))
 
-pub opened : (c : Parts) (past : List LogEntry) (table entry : ℕ) (kind : Entry) → IsSound c → (k : Known c past) → IsQuietNow c past → (line_of c table entry).entry ≡ kind
-    → SlotIs c (is_sleep_asked past) k.states (Some (slot_of table entry (header c past kind) (due_nodes c past kind) [] [] false))
-opened c past table entry (FrameEntry f) sound k q line = signal-other c (is_sleep_asked past) k.states table entry (frame_of c f).pid _ (sound.frames f)
-opened c past table entry (Sporadic j) sound k q line = sporadic-other c (is_sleep_asked past) k.states table entry (find (is_pending c past) (sporadic_of c j)) _ sound
-opened c past table entry (EventEntry e) sound k q line = signal-other c (is_sleep_asked past) k.states table entry (event_of c e).pid _ (sound.events e)
-opened c past table entry MasterReq sound k q line =
-    master-by c past table entry (due_nodes c past MasterReq) (nat_lt 0 (length (waiting c past 0)) || is_sleep_asked past) k q line
+opened : (c : Parts) (past : List LogEntry) (table entry : ℕ) (kind : Entry) → is_service c past kind ≡ false → IsSound c → (k : Known c past) → IsQuietNow c past → (line_of c table entry).entry ≡ kind
+    → SlotIs c (is_sleep_asked past) k.states (Some (slot_of table entry (header c past kind) (plain_nodes c past kind) [] [] false))
+opened c past table entry (FrameEntry f) plain sound k q line = signal-other c (is_sleep_asked past) k.states table entry (frame_of c f).pid _ (sound.frames f)
+opened c past table entry (Sporadic j) plain sound k q line = sporadic-other c (is_sleep_asked past) k.states table entry (find (is_pending c past) (sporadic_of c j)) _ sound
+opened c past table entry (EventEntry e) plain sound k q line = signal-other c (is_sleep_asked past) k.states table entry (event_of c e).pid _ (sound.events e)
+opened c past table entry MasterReq plain sound k q line =
+    master-by c past table entry (plain_nodes c past MasterReq) (nat_lt 0 (length (waiting c past 0)) || is_sleep_asked past) k q line
     (λ n i. eq-zero n (is_some (header c past MasterReq)) (in-filter (is_due c past MasterReq) (numbers (nodes c)) n i)) refl
-opened c past table entry SlaveResp sound k q line =
-    slave-by c past table entry (selected_node c past) k q line (selected-some c past sound) (due_nodes c past SlaveResp) (λ n i. in-filter (is_due c past SlaveResp) (numbers (nodes c)) n i)
-opened c past table entry Quiet sound k q line = none-other c (is_sleep_asked past) k.states table entry _
+opened c past table entry SlaveResp plain sound k q line =
+    slave-by c past table entry (selected_node c past) k q line (selected-some c past sound) (plain_nodes c past SlaveResp) (λ n i. in-filter (is_due c past SlaveResp) (numbers (nodes c)) n i)
+opened c past table entry (Fixed request) plain sound k q line = absurd (cc)
+opened c past table entry Quiet plain sound k q line = none-other c (is_sleep_asked past) k.states table entry _
+
+pub opened-by : (c : Parts) (past : List LogEntry) (table entry : ℕ) (kind : Entry) (b : Bool) → is_service c past kind ≡ b → IsSound c → (k : Known c past) → IsQuietNow c past → (line_of c table entry).entry ≡ kind
+    → SlotIs c (is_sleep_asked past) k.states (Some (opening_slot table entry (header c past kind) b (if b then served_nodes c past kind else plain_nodes c past kind)))
+opened-by c past table entry kind true e sound k q line = served (opening_slot table entry (header c past kind) true (served_nodes c past kind)) refl
+opened-by c past table entry kind false e sound k q line = opened c past table entry kind e sound k q line
 
 abbrev pub open-known : (c : Parts) (opening capacity : ℕ) (past : List LogEntry) (port : PortId) → IsSound c
     → refusal c capacity past port Open ≡ None → Known c past → Known c (entry_is port Open (opening_events c opening past) ∷ past)
@@ -545,8 +564,8 @@ open-known c opening capacity past port sound h k =
     in record {
       states = k.states;
       hosts = k.hosts;
-      slot = subst (λ (s : Slot). SlotIs c (is_sleep_asked past) k.states (Some s)) (sym (told-due (due_nodes c past kind) at.0 at.1 (header c past kind) []))
-          (opened c past at.0 at.1 kind sound k (record { blocks = λ l. blocks-closed c past l none }) refl);
+      slot = subst (λ (s : Slot). SlotIs c (is_sleep_asked past) k.states (Some s)) (sym (told-open (is_service c past kind) (due_nodes c past kind) at.0 at.1 (header c past kind)))
+          (opened-by c past at.0 at.1 kind (is_service c past kind) refl sound k (record { blocks = λ l. blocks-closed c past l none }) refl);
     }
 
 -- each step, and each history

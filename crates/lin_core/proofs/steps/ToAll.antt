@@ -149,5 +149,6 @@ alike-inside a rs alike w = record {
   kept = w.kept;
   late = w.late;
   heard = heard-alike a.cluster (past_in a) a.state.receivers.items rs.items alike w.heard;
+  ready = w.ready;
   history = w.history;
 }

@@ -20,9 +20,11 @@ use Rattle.lin_schedule.specs.declared.due.Due.TheVariants.{
   Event as EventDue,
   MasterReq as MasterReqDue,
   SlaveResp as SlaveRespDue,
+  Fixed as FixedDue,
   Quiet as QuietDue,
 }
-use Rattle.lin_core.specs.History.{Slot, has_decided, header_is, is_in, no_slot, open_slot}
+use Rattle.lin_core.specs.History.{Slot, has_decided, header_is, is_in, is_sleep_slot, no_slot}
+use Rattle.lin_core.specs.History.{open_slot}
 use Rattle.lin_core.specs.History.{LogEntry, Parts}
 use Rattle.lin_core.specs.declared.pdu.Pdu.{Pdu}
 use Rattle.lin_core.specs.declared.pdu.Pdu.TheVariants.{Nothing, Sleep, OfMessage}
@@ -38,6 +40,7 @@ slot_in s = record {
   table = s.table;
   entry = s.entry;
   header = s.header;
+  service = s.service;
   due = s.due.items;
   puts = map put_in s.puts.items;
   left = s.left.items;
@@ -45,20 +48,22 @@ slot_in s = record {
 }
 
 -- a slot that opens, and as it is kept
-abbrev pub opening_slot : ℕ → ℕ → Option ℕ → List ℕ → Slot
-opening_slot table entry header due = record no_slot {
+abbrev pub opening_slot : ℕ → ℕ → Option ℕ → Bool → List ℕ → Slot
+opening_slot table entry header service due = record no_slot {
   table = table;
   entry = entry;
   header = header;
+  service = service;
   due = due;
 }
 
-abbrev pub opening_slot_kept : Parts → ℕ × ℕ → Option ℕ → List ℕ → OpenSlot
-opening_slot_kept c place header due = record {
+abbrev pub opening_slot_kept : Parts → ℕ × ℕ → Option ℕ → Bool → List ℕ → OpenSlot
+opening_slot_kept c place header service due = record {
   table = place.0;
   entry = place.1;
   kind = (line_of c place.0 place.1).entry;
   header = header;
+  service = service;
   due = record { items = due };
   puts = record { items = [] };
   left = record { items = [] };
@@ -79,6 +84,7 @@ header_of c waits (SporadicDue o) = option_map (λ f. (frame_of c f).pid) o
 header_of c waits (EventDue e) = Some (event_of c e).pid
 header_of c waits MasterReqDue = if waits then Some 0x3C else None
 header_of c waits SlaveRespDue = Some 0x7D
+header_of c waits FixedDue = Some 0x3C
 header_of c waits QuietDue = None
 
 -- whether a node is due in it, by the frames that are pending and the responder
@@ -90,7 +96,14 @@ is_due_of c flags waits responder (EventDue e) n =
     (event_of c e).frames
 is_due_of c flags waits responder MasterReqDue n = n == 0 && waits
 is_due_of c flags waits responder SlaveRespDue n = option_map_or (λ k. n == k) responder false
+is_due_of c flags waits responder FixedDue n = false
 is_due_of c flags waits responder QuietDue n = false
+
+-- the nodes that are due in a slot for a service, where these have a response ready
+abbrev pub served_by : Due → List ℕ → List ℕ
+served_by FixedDue ready = 0 ∷ []
+served_by SlaveRespDue ready = ready
+served_by due ready = []
 
 -- the frame of a node's response in a slot for an entry, under its header, and in the open slot
 abbrev pub frame_by : Parts → Entry → ℕ → ℕ → Option ℕ
@@ -117,15 +130,23 @@ CanAnswer c entry header n =
     × (((f : ℕ) × (frame_by c entry h n ≡ Some f))
     ⊎ (((entry ≡ MasterReq) × (h ≡ 0x3C)) ⊎ ((entry ≡ SlaveResp) × (h ≡ 0x7D))))
 
+-- a slot for a service has a header, and no frame of signals
+pub record IsServed (c : Parts) (entry : Entry) (header : Option ℕ) : Type 0 where
+  pub pid : ℕ
+  pub is : header ≡ Some pid
+  pub none : (h n : ℕ) → frame_by c entry h n ≡ None
+
 -- an open slot is one of the schedule, whose entry is kept, those that are due can answer, and
 -- there is room for the responses that are left
 pub record IsOpen (c : Parts) (s : OpenSlot) : Type 0 where
   pub there : HasEntry c (s.table, s.entry)
   pub kind_is : s.kind ≡ (line_of c s.table s.entry).entry
   pub known : IsEntry c s.kind
-  pub request : header_is 0x3C s.header ≡ true → (line_of c s.table s.entry).entry ≡ MasterReq
-  pub answers : (n : ℕ) → is_in s.due.items n ≡ true
+  pub request : s.service ≡ false → header_is 0x3C s.header ≡ true
+      → (line_of c s.table s.entry).entry ≡ MasterReq
+  pub answers : s.service ≡ false → (n : ℕ) → is_in s.due.items n ≡ true
       → CanAnswer c (line_of c s.table s.entry).entry s.header n
+  pub served : s.service ≡ true → IsServed c (line_of c s.table s.entry).entry s.header
   pub room : length s.puts.items + length s.left.items + length
       (filter (λ n. not (has_decided (slot_in s) n)) s.due.items) ≤ 16
 
@@ -142,9 +163,11 @@ abbrev pub pdu_up : List (ℕ × List ℕ) → Pdu
 pdu_up [] = Nothing
 pdu_up (p ∷ ps) = OfMessage p.0
 
+-- a slot for a service puts the cluster to sleep, or carries nothing
 abbrev pub pdu_of : Slot → Pdu
 pdu_of s =
-    if header_is 0x3C s.header then pdu_down s.puts else if header_is 0x7D s.header
+    if s.service then (if is_sleep_slot s then Sleep else Nothing)
+    else if header_is 0x3C s.header then pdu_down s.puts else if header_is 0x7D s.header
     then pdu_up s.puts else Nothing
 
 -- no message moves on at the slot's finish, and the cluster stays awake

@@ -1,6 +1,7 @@
 -- No promise rests on this: the state that is kept, and what a step makes of it.
 use Rattle.std.specs.Prelude.{Result, MatchResult, ◌≡◌, ◌+◌, ◌*◌, ◌-◌, ◌^◌, ◌≤◌, ◌<◌, ℕ, List, []}
-use Rattle.std.specs.Prelude.{◌∷◌, ◌++◌, length, reverse, slice_get, Option, Some, None, option_map}
+use Rattle.std.specs.Prelude.{◌∷◌, ◌++◌, length, map, reverse, slice_get, Option, Some, None}
+use Rattle.std.specs.Prelude.{option_map}
 use Rattle.lin_parts.specs.Cluster.{line_of, nodes}
 use Rattle.lin_parts.specs.Rules.{IsCluster}
 use Rattle.lin_parts.specs.Sound.{IsSound}
@@ -11,12 +12,13 @@ use Rattle.lin_core.specs.Core.{CoreData, IsAllowed, IsHistory}
 use Rattle.lin_core.specs.History.{is_clash, open_slot, time, LogEntry, Step, Parts}
 use Rattle.lin_core.specs.Logs.{LogData}
 use Rattle.lin_core.specs.Replies.{done_events}
-use Rattle.lin_core.specs.Slots.{moves}
+use Rattle.lin_core.specs.Slots.{moves, responses_after}
 use Rattle.lin_core.specs.kept.Slots.{slot_in, IsThere}
 use Rattle.lin_core.specs.kept.Signals.{Ends, KeepsSignals}
 use Rattle.lin_core.specs.kept.Hosts.{KeepsHost, KeepsSender}
 use Rattle.lin_core.specs.kept.Receivers.{KeepsHeard}
 use Rattle.lin_core.specs.kept.Bus.{KeepsBus, bus_after}
+use Rattle.lin_core.specs.kept.Ready.{KeepsReady, response_in}
 use Rattle.lin_core.specs.declared.bus_state.BusState.{BusState}
 use Rattle.lin_core.specs.declared.event.Event.{Event}
 use Rattle.lin_core.specs.declared.host.Host.{Host}
@@ -61,6 +63,9 @@ pub record Passes (c : Parts) (slot : OpenSlot) (old new : State) : Type 0 where
   pub walks : Walks c new.walker
   pub signals : Ends c slot old.signals new.signals
   pub bus : new.bus ≡ bus_after c (slot_in slot) old.bus
+  pub ready : map response_in new.ready.items
+      ≡ responses_after c (slot_in slot) (map response_in old.ready.items)
+  pub ready_few : length new.ready.items ≤ 16
 
 -- what the core was opened with, the log, and what is kept of it
 pub record Stage : Type 0 where
@@ -99,6 +104,7 @@ pub record IsKept (a : Stage) : Type 0 where
       (reverse a.log) a.state.slot a.state.time a.state.walker a.state.hosts.items a.state.signals
   pub late : KeepsLate a.cluster (reverse a.log) a.state.bus a.state.hosts.items
   pub heard : KeepsHeard a.cluster (reverse a.log) a.state.receivers.items
+  pub ready : KeepsReady a.cluster (reverse a.log) a.state.ready.items
   pub history : IsHistory (stage_data a)
 
 abbrev pub IsWhole : Inside → Type 0
@@ -127,6 +133,7 @@ pub record IsMade (a : Stage) (by : PortId) (step : Step) (events : List Event)
       (done_of a by step ∷ reverse a.log) new.slot new.time new.walker new.hosts.items new.signals
   pub late : KeepsLate a.cluster (done_of a by step ∷ reverse a.log) new.bus new.hosts.items
   pub heard : KeepsHeard a.cluster (done_of a by step ∷ reverse a.log) new.receivers.items
+  pub ready : KeepsReady a.cluster (done_of a by step ∷ reverse a.log) new.ready.items
 
 -- a step was made, or there was no memory, and what is kept is still that of the log
 abbrev pub Makes : {E : Type 0} → Stage → PortId → Step → Result (List Event) E → State → Type 0

@@ -1,8 +1,8 @@
 //! Steps as they are made on what the core keeps.
 
-ghost use Rattle.std.specs.Prelude.{◌≡◌, ◌<◌, reverse, length, Some, None, IsOk};
+ghost use Rattle.std.specs.Prelude.{◌≡◌, ◌<◌, reverse, length, Some, None, IsOk, true, false};
 
-use crate::due::{due_nodes, has_request, header_of};
+use crate::due::{has_request, header_of};
 use crate::event::Event;
 use crate::host::responder;
 use crate::link::Link;
@@ -11,6 +11,7 @@ use crate::machine::no_events;
 use crate::messages::next_bytes;
 use crate::payload::{Events, Payload};
 use crate::port::PortId;
+use crate::ready::{is_service, service_bytes, slot_nodes};
 use crate::setup::Setup;
 use crate::signal_frames::frame_answer;
 use crate::slot::{Put, is_sleep_asked, opening_events};
@@ -22,6 +23,7 @@ use std::alloc::AllocError;
 impl State {
     ghost use Rattle.lin_core.specs.kept.Slots.{frame_answered};
     ghost use Rattle.lin_core.specs.Core.{IsSmall};
+    ghost use Rattle.lin_core.specs.History.{open_slot, Slot as OpenedSlot};
     ghost use Rattle.lin_core.specs.kept.State.{stage, IsMade, IsReady, Makes};
 
     /// A send that is accepted: its place in the log joins the sender's queue.
@@ -85,9 +87,12 @@ impl State {
         let pending = self.signals.pending.as_slice();
         let due = self.walker.due(&setup.cluster, pending);
         let header = header_of(&setup.cluster, due, requests);
-        let nodes = due_nodes(&setup.cluster, due, requests, responder, pending);
-        let events = opening_events(setup.alloc, place, header, nodes.as_slice())?;
-        self.slot.begin(&setup.cluster, place, header, nodes);
+        let ready = self.ready.as_slice();
+        let service = is_service(due, ready);
+        let nodes = slot_nodes(&setup.cluster, due, requests, responder, pending, ready);
+        let events = opening_events(setup.alloc, place, header, service, nodes.as_slice())?;
+        self.slot
+            .begin(&setup.cluster, place, header, service, nodes);
         Ok(events)
     }
 
@@ -96,7 +101,11 @@ impl State {
         requires ready { IsReady (stage setup.now log.now self.old) by (Step.Answer node) }
         ensures { IsMade (stage setup.now log.now self.old) by (Step.Answer node) result self.new }
     {
-        match self.slot.open().frame_answered(&setup.cluster, node) {
+        let slot = self.slot.open();
+        if slot.service {
+            return self.answer_service(setup, log, by, node);
+        }
+        match slot.frame_answered(&setup.cluster, node) {
             Some(frame) => self.answer_frame(setup, log, by, node, frame),
             None => self.answer_message(setup, log, by, node),
         }
@@ -106,6 +115,8 @@ impl State {
     /// pending no longer, unless the slot is then seen otherwise than good.
     fn answer_frame(&mut self, setup: &Setup, log: &Log, by: PortId, node: u8, frame: u16) -> Events
         requires ready { IsReady (stage setup.now log.now self.old) by (Step.Answer node) }
+        requires plain { (s : OpenedSlot) → open_slot (reverse log.now.entries) ≡ Some s
+            → s.service ≡ false }
         requires carried { frame_answered setup.now.cluster (reverse log.now.entries) node ≡ Some frame }
         requires frame { frame < length setup.now.cluster.frames }
         ensures { IsMade (stage setup.now log.now self.old) by (Step.Answer node) result self.new }
@@ -133,6 +144,8 @@ impl State {
     /// commander the sleep frame.
     fn answer_message(&mut self, setup: &Setup, log: &Log, by: PortId, node: u8) -> Events
         requires ready { IsReady (stage setup.now log.now self.old) by (Step.Answer node) }
+        requires plain { (s : OpenedSlot) → open_slot (reverse log.now.entries) ≡ Some s
+            → s.service ≡ false }
         requires none { frame_answered setup.now.cluster (reverse log.now.entries) node ≡ None }
         ensures { IsMade (stage setup.now log.now self.old) by (Step.Answer node) result self.new }
     {
@@ -148,6 +161,28 @@ impl State {
             cleared: None,
         });
         Events::one(Event::Put { node, answer })
+    }
+
+    /// An answer in a slot for a service: the commander puts the request, a responder its response.
+    fn answer_service(&mut self, setup: &Setup, log: &Log, by: PortId, node: u8) -> Events
+        requires ready { IsReady (stage setup.now log.now self.old) by (Step.Answer node) }
+        requires service { (s : OpenedSlot) → open_slot (reverse log.now.entries) ≡ Some s
+            → s.service ≡ true }
+        ensures { IsMade (stage setup.now log.now self.old) by (Step.Answer node) result self.new }
+    {
+        let slot = self.slot.open();
+        let header = slot.header();
+        let data = service_bytes(slot.kind, self.ready.as_slice(), node);
+        let frame = answer(SumKind::Classic, header, &data);
+        self.slot.put(Put {
+            node,
+            answer: frame,
+            cleared: None,
+        });
+        Events::one(Event::Put {
+            node,
+            answer: frame,
+        })
     }
 
     /// A node leaves its response out.

@@ -44,7 +44,7 @@ pub(crate) fn slot_bytes(cluster: &Cluster, entry: Entry) -> u8
         Entry::Frame(frame) => cluster.layout(frame).len,
         Entry::Sporadic(sporadic) => greatest_bytes(cluster, cluster.sporadic(sporadic)),
         Entry::Event(event) => first_bytes(cluster, cluster.event_frames(event)),
-        Entry::MasterReq | Entry::SlaveResp | Entry::Quiet => 8,
+        Entry::MasterReq | Entry::SlaveResp | Entry::Fixed(_) | Entry::Quiet => 8,
     }
 }
 

@@ -81,7 +81,7 @@ fn is_slot_alike(a: &Event, b: &Event) -> bool {
             },
         ) => node == other && answer.as_slice() == copy.as_slice(),
         (Event::Seen(seen), Event::Seen(copy)) => is_seen_alike(seen, copy),
-        (Event::Asleep, Event::Asleep) => true,
+        (Event::Service, Event::Service) | (Event::Asleep, Event::Asleep) => true,
         _ => false,
     }
 }

@@ -15,5 +15,6 @@ invariant_of-result c = record {
       (start-signals c.args.cluster c.in_ok-signals.signals c.sound.ensures.rules c.in_ok-signals.ensures.values c.in_ok-signals.ensures.heard c.in_ok-signals.ensures.pending c.in_ok-signals.ensures.empty c.in_ok-signals.ensures.room));
   late = rw c.new-2.ensures (start-late c.args.cluster c.args.capacity _ c.in_ok-hosts.hosts.items refl c.in_ok-hosts.ensures.fresh);
   heard = rw c.new-2.ensures c.in_ok-receivers.ensures;
+  ready = rw (c.new-2.ensures, c.new-5.ensures) (refl, omega arith);
   history = rw c.new-2.ensures refl;
 }

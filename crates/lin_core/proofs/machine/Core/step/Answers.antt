@@ -26,6 +26,7 @@ refused-kept a by step r log w small is e =
       kept = rw (reverse-more a.log x) (refused-keeps a.cluster a.opening a.capacity a.log (past_in a) a.state.slot a.state.time a.state.walker a.state.hosts.items a.state.signals by step r w.kept);
       late = rw (reverse-more a.log x) (refused-late a.cluster (past_in a) by step r a.state.bus a.state.hosts.items w.sound (known-inside a w) w.late);
       heard = rw (reverse-more a.log x) (heard-same a.cluster (past_in a) (x ∷ past_in a) a.state.receivers.items (λ l i. refl) w.heard);
+      ready = rw (reverse-more a.log x) w.ready;
       history = rw (refused-answered (stage_data a) by step r is) (history-more (stage_data a) by step w.history);
     })
 

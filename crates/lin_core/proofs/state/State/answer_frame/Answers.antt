@@ -31,27 +31,27 @@ here c = stage c.args.setup.now c.args.log.now c.args.self.now
 pub open-slot-requires : goal.open-slot-requires
 open-slot-requires c =
     let a = stage c.args.setup.now c.args.log.now c.args.self.now in
-    ap is_some (answer-slot a c.args.by c.args.node c.requires.ready.whole (allowed-ready a c.args.by (Answer c.args.node) c.requires.ready)).at
+    ap is_some (answer-slot a c.args.by c.args.node c.requires.ready.whole (allowed-ready a c.args.by (Answer c.args.node) c.requires.ready) c.requires.plain).at
 
 pub header-header-requires : goal.header-header-requires
 header-header-requires c =
     let a = stage c.args.setup.now c.args.log.now c.args.self.now in
-    header-there a c.args.node (answer-slot a c.args.by c.args.node c.requires.ready.whole (allowed-ready a c.args.by (Answer c.args.node) c.requires.ready)) c.open-slot.result.now c.open-slot.ensures
+    header-there a c.args.node (answer-slot a c.args.by c.args.node c.requires.ready.whole (allowed-ready a c.args.by (Answer c.args.node) c.requires.ready) c.requires.plain) c.open-slot.result.now c.open-slot.ensures
 
 pub frame_model-model-requires-clause-slot : goal.frame_model-model-requires-clause-slot
 frame_model-model-requires-clause-slot c =
     let a = stage c.args.setup.now c.args.log.now c.args.self.now in
-    open-there a c.args.node (answer-slot a c.args.by c.args.node c.requires.ready.whole (allowed-ready a c.args.by (Answer c.args.node) c.requires.ready)) c.open-slot.result.now c.open-slot.ensures
+    open-there a c.args.node (answer-slot a c.args.by c.args.node c.requires.ready.whole (allowed-ready a c.args.by (Answer c.args.node) c.requires.ready) c.requires.plain) c.open-slot.result.now c.open-slot.ensures
 
 pub put-requires-clause-open : goal.put-requires-clause-open
 put-requires-clause-open c =
     let a = stage c.args.setup.now c.args.log.now c.args.self.now in
-    ap is_some (answer-slot a c.args.by c.args.node c.requires.ready.whole (allowed-ready a c.args.by (Answer c.args.node) c.requires.ready)).at
+    ap is_some (answer-slot a c.args.by c.args.node c.requires.ready.whole (allowed-ready a c.args.by (Answer c.args.node) c.requires.ready) c.requires.plain).at
 
 pub put-requires-clause-room : goal.put-requires-clause-room
 put-requires-clause-room c = λ kept is.
     let a = stage c.args.setup.now c.args.log.now c.args.self.now in
-    let s = answer-slot a c.args.by c.args.node c.requires.ready.whole (allowed-ready a c.args.by (Answer c.args.node) c.requires.ready) in
+    let s = answer-slot a c.args.by c.args.node c.requires.ready.whole (allowed-ready a c.args.by (Answer c.args.node) c.requires.ready) c.requires.plain in
     let same : s.slot ≡ kept = (let t : Some s.slot ≡ Some kept = sym s.at ∙ is in cc) in
     subst (λ (k : OpenSlot). length k.puts.items < 16) same (put-room a.cluster s.slot (record { node = c.args.node; answer = []; cleared = None }) s.is_open s.free)
 
@@ -59,7 +59,7 @@ allowed : (c : After-one) → Allowed (here c) c.args.by (Answer c.args.node)
 allowed c = allowed-ready (here c) c.args.by (Answer c.args.node) c.requires.ready
 
 at : (c : After-one) → AnswerSlot (here c) c.args.node
-at c = answer-slot (here c) c.args.by c.args.node c.requires.ready.whole (allowed c)
+at c = answer-slot (here c) c.args.by c.args.node c.requires.ready.whole (allowed c) c.requires.plain
 
 by : (c : After-one) → frame_by (here c).cluster (line_of (here c).cluster (at c).slot.table (at c).slot.entry).entry (at c).can.0 c.args.node ≡ Some c.args.frame
 by c =
@@ -83,7 +83,7 @@ made c =
     ∙ answer-same _ _ _ _ (signal_bytes a.cluster (past_in a) c.args.frame) (c.frame_model-model.ensures ∙ same-model a c.args.node s c.open-slot.result.now c.args.frame c.open-slot.ensures) (same-header a c.args.node s c.open-slot.result.now c.header-header.result c.open-slot.ensures c.header-header.ensures)
 
 told : (c : After-one) → Put c.args.node c.frame_answer-answer.result ∷ [] ≡ events c
-told c = let s = at c in put-told (here c).cluster (past_in (here c)) s.slot s.can.0 c.args.node c.args.frame c.frame_answer-answer.result s.is s.can.1 (by c) (made c)
+told c = let s = at c in put-told (here c).cluster (past_in (here c)) s.slot s.can.0 c.args.node c.args.frame c.frame_answer-answer.result s.plain s.is s.can.1 (by c) (made c)
 
 kept : (c : After-one) → Keeps (here c).cluster (here c).opening (here c).capacity ((here c).log ++ entry c ∷ []) (entry c ∷ past_in (here c)) c.put.new.self (here c).state.time (here c).state.walker (here c).state.hosts.items c.clear.new.self
 kept c =
@@ -114,4 +114,5 @@ returns c =
       kept = kept c;
       late = answer-late a.cluster a.capacity (past_in a) c.args.by c.args.node a.state.bus a.state.hosts.items w.sound s.known s.allowed w.late;
       heard = heard-same a.cluster (past_in a) (entry c ∷ past_in a) a.state.receivers.items (λ l i. refl) w.heard;
+      ready = w.ready;
     }

@@ -26,13 +26,13 @@ here c = stage c.args.setup.now c.args.log.now c.args.self.now
 
 next : (c : After-one) → AnswersNext (here c) c.args.by c.args.node c.index-host.result.now c.next-place.result c.header-header.result c.is_sleep_asked-sleeping.result
 next c =
-    answers-next (here c) c.args.by c.args.node c.index-host.result.now c.next-place.result c.header-header.result c.is_sleep_asked-sleeping.result c.requires.ready c.requires.none
+    answers-next (here c) c.args.by c.args.node c.index-host.result.now c.next-place.result c.header-header.result c.is_sleep_asked-sleeping.result c.requires.ready c.requires.plain c.requires.none
     c.index-host.ensures c.next-place.ensures c.open.result.now c.open.ensures c.header-header.ensures c.is_sleep_asked-sleeping.ensures
 
 pub next_bytes-data-requires : goal.next_bytes-data-requires
 next_bytes-data-requires c =
     let a = stage c.args.setup.now c.args.log.now c.args.self.now in
-    let x = answers-next a c.args.by c.args.node c.index-host.result.now c.next-place.result c.header-header.result c.is_sleep_asked-sleeping.result c.requires.ready c.requires.none
+    let x = answers-next a c.args.by c.args.node c.index-host.result.now c.next-place.result c.header-header.result c.is_sleep_asked-sleeping.result c.requires.ready c.requires.plain c.requires.none
     c.index-host.ensures c.next-place.ensures c.open.result.now c.open.ensures c.header-header.ensures c.is_sleep_asked-sleeping.ensures in
     x.has
 
@@ -64,22 +64,22 @@ kept c =
 pub open-requires : goal.open-requires
 open-requires c =
     let a = stage c.args.setup.now c.args.log.now c.args.self.now in
-    ap is_some (answer-slot a c.args.by c.args.node c.requires.ready.whole (allowed-ready a c.args.by (Answer c.args.node) c.requires.ready)).at
+    ap is_some (answer-slot a c.args.by c.args.node c.requires.ready.whole (allowed-ready a c.args.by (Answer c.args.node) c.requires.ready) c.requires.plain).at
 
 pub header-header-requires : goal.header-header-requires
 header-header-requires c =
     let a = stage c.args.setup.now c.args.log.now c.args.self.now in
-    header-there a c.args.node (answer-slot a c.args.by c.args.node c.requires.ready.whole (allowed-ready a c.args.by (Answer c.args.node) c.requires.ready)) c.open.result.now c.open.ensures
+    header-there a c.args.node (answer-slot a c.args.by c.args.node c.requires.ready.whole (allowed-ready a c.args.by (Answer c.args.node) c.requires.ready) c.requires.plain) c.open.result.now c.open.ensures
 
 pub put-requires-clause-open : goal.put-requires-clause-open
 put-requires-clause-open c =
     let a = stage c.args.setup.now c.args.log.now c.args.self.now in
-    ap is_some (answer-slot a c.args.by c.args.node c.requires.ready.whole (allowed-ready a c.args.by (Answer c.args.node) c.requires.ready)).at
+    ap is_some (answer-slot a c.args.by c.args.node c.requires.ready.whole (allowed-ready a c.args.by (Answer c.args.node) c.requires.ready) c.requires.plain).at
 
 pub put-requires-clause-room : goal.put-requires-clause-room
 put-requires-clause-room c = λ kept is.
     let a = stage c.args.setup.now c.args.log.now c.args.self.now in
-    let s = answer-slot a c.args.by c.args.node c.requires.ready.whole (allowed-ready a c.args.by (Answer c.args.node) c.requires.ready) in
+    let s = answer-slot a c.args.by c.args.node c.requires.ready.whole (allowed-ready a c.args.by (Answer c.args.node) c.requires.ready) c.requires.plain in
     let same : s.slot ≡ kept = (let t : Some s.slot ≡ Some kept = sym s.at ∙ is in cc) in
     subst (λ (k : OpenSlot). length k.puts.items < 16) same (put-room a.cluster s.slot (record { node = c.args.node; answer = []; cleared = None }) s.is_open s.free)
 
@@ -93,4 +93,5 @@ returns c =
       kept = kept c;
       late = answer-late a.cluster a.capacity (past_in a) c.args.by c.args.node a.state.bus a.state.hosts.items w.sound s.known s.allowed w.late;
       heard = heard-same a.cluster (past_in a) (entry c ∷ past_in a) a.state.receivers.items (λ l i. refl) w.heard;
+      ready = w.ready;
     }

@@ -18,4 +18,5 @@ returns c =
       kept = close-keeps a.cluster a.opening a.capacity a.log (past_in a) a.state.slot a.state.time a.state.walker a.state.hosts.items a.state.signals c.index_mut.result.now c.args.by c.args.host w.sound k here w.kept;
       late = close-late a.cluster (past_in a) c.args.by c.args.host c.index_mut.result.now a.state.bus a.state.hosts.items w.sound k here w.late;
       heard = heard-same a.cluster (past_in a) (done_of a c.args.by (Close c.args.host) ∷ past_in a) a.state.receivers.items (λ l i. refl) w.heard;
+      ready = w.ready;
     }

@@ -13,7 +13,7 @@ use Rattle.lin_core.proofs.steps.Settled.{DamagedIs, damaged-inside}
 use Rattle.lin_core.proofs.kept.Settling.{settled-hosts, settled-late}
 use Rattle.lin_core.proofs.steps.FinishCases.{host-carried, known_after}
 use Rattle.lin_core.specs.kept.Bus.{KeepsBus}
-use Rattle.lin_core.proofs.kept.Passing.{finish_of, passed-keeps, passed-bus}
+use Rattle.lin_core.proofs.kept.Passing.{finish_of, passed-keeps, passed-bus, passed-ready}
 use Rattle.lin_core.proofs.steps.Making.{OpenIs, open-ready, past_in}
 use Rattle.lin_core.specs.kept.Receivers.{KeepsHeard}
 use Rattle.lin_core.proofs.kept.Receiving.{carries-frame, heard-same, hurt-heard}
@@ -110,4 +110,4 @@ heard c =
     (heard-same a.cluster past (entry c ∷ past) a.state.receivers.items (hurt-heard a.cluster past c.args.by o.step.known (slot_in o.slot) c.args.sender i (carries c).1 (finish_events a.cluster c.args.by past)) w.heard)
 
 pub returns : goal.returns
-returns c = record { told = c.two_events.ensures ∙ ap (λ (s : _). Seen s ∷ Lost c.args.sender (c.index_mut-host.result.now.settled + 1) Damaged ∷ []) (c.pass_slot-seen.ensures.seen (opened c).slot (opened c).at) ∙ sym (damaged c).done.told; kept = kept c; late = late c; heard = heard c }
+returns c = record { told = c.two_events.ensures ∙ ap (λ (s : _). Seen s ∷ Lost c.args.sender (c.index_mut-host.result.now.settled + 1) Damaged ∷ []) (c.pass_slot-seen.ensures.seen (opened c).slot (opened c).at) ∙ sym (damaged c).done.told; kept = kept c; late = late c; heard = heard c; ready = passed-ready (here c) c.args.by (opened c) c.pass_slot-seen.new.self c.requires.ready.whole (passes c) }

@@ -23,7 +23,7 @@ use Rattle.lin_core.proofs.sendings.Moves.{is_last, to-all-is}
 use Rattle.lin_core.proofs.sendings.Queues.{waiting-are}
 use Rattle.lin_core.proofs.laws.Reports.{index-some}
 use Rattle.lin_core.proofs.steps.FinishEvents.ToldIs.{to_one}
-use Rattle.lin_core.proofs.kept.Passing.{finish_of, passed-keeps, passed-bus, passes-as}
+use Rattle.lin_core.proofs.kept.Passing.{finish_of, passed-keeps, passed-bus, passed-ready, passes-as}
 use Rattle.lin_core.proofs.kept.Places.{lent-is}
 use Rattle.lin_core.proofs.steps.Reassembling.{heard-inside}
 use Rattle.lin_core.proofs.kept.Receiving.{HeardFrame}
@@ -215,6 +215,7 @@ returns c =
       late = rw (c.pass_slot-seen.ensures.hosts, c.go_on.ensures, after b more)
           (going-late a.cluster (past_in a) (entry b) c.args.sender host a.state.bus c.pass_slot-seen.new.self.bus a.state.hosts.items w.sound o.step.known k (goes b more) (good b).here (λ y. refl) (bus_is b) w.late);
       heard = heard b;
+      ready = passed-ready a c.args.by o c.pass_slot-seen.new.self w (passes b);
     }
 
 -- == the message is whole
@@ -255,4 +256,5 @@ returns-then-last-2 c =
       late = rw (c.pass_slot-seen.ensures.hosts, c.settle.ensures)
           (settled-late a.cluster (past_in a) (entry b) c.args.sender host a.state.bus c.pass_slot-seen.new.self.bus a.state.hosts.items w.sound o.step.known k ((done b is).settles es) (own b).here (λ y. refl) (bus_is b) w.late);
       heard = heard b;
+      ready = passed-ready a c.args.by o c.pass_slot-seen.new.self w (passes b);
     }

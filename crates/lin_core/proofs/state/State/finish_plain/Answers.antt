@@ -10,7 +10,7 @@ use Rattle.lin_core.proofs.kept.BusAndSenders.{still-late}
 use Rattle.lin_core.specs.kept.Bus.{KeepsBus}
 use Rattle.std.specs.Prelude.{true, is_some}
 use Rattle.lin_core.proofs.sendings.Hosts.{HostState}
-use Rattle.lin_core.proofs.kept.Passing.{finish_of, passed-keeps, passed-bus}
+use Rattle.lin_core.proofs.kept.Passing.{finish_of, passed-keeps, passed-bus, passed-ready}
 use Rattle.lin_core.proofs.steps.Making.{OpenIs, open-ready, past_in}
 use Rattle.lin_core.specs.kept.Receivers.{KeepsHeard}
 use Rattle.lin_core.proofs.kept.Receiving.{heard-same, still-heard}
@@ -74,4 +74,4 @@ heard c =
     (still-heard a.cluster (past_in a) c.args.by (finish_events a.cluster c.args.by (past_in a)) w.sound o.step.known (slot_in o.slot) o.is (still c)) w.heard)
 
 pub returns : goal.returns
-returns c = record { told = c.one.ensures ∙ ap (λ (s : _). Seen s ∷ []) (c.pass_slot-seen.ensures.seen (opened c).slot (opened c).at) ∙ sym (quiet c).told; kept = kept c; late = late c; heard = heard c }
+returns c = record { told = c.one.ensures ∙ ap (λ (s : _). Seen s ∷ []) (c.pass_slot-seen.ensures.seen (opened c).slot (opened c).at) ∙ sym (quiet c).told; kept = kept c; late = late c; heard = heard c; ready = passed-ready (here c) c.args.by (opened c) c.pass_slot-seen.new.self c.requires.ready.whole (passes c) }

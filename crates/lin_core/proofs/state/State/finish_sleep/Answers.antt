@@ -12,7 +12,7 @@ use Rattle.lin_core.specs.declared.pdu.Pdu.TheVariants.{Sleep}
 use Rattle.lin_core.proofs.steps.FinishCases.{Sleeps, finishes-asleep, known_after}
 use Rattle.lin_core.proofs.kept.Sleeping.{losses-are, settled-small, sleeping-hosts, sleeping-late}
 use Rattle.lin_core.specs.kept.Bus.{KeepsBus}
-use Rattle.lin_core.proofs.kept.Passing.{finish_of, passed-keeps, passed-bus}
+use Rattle.lin_core.proofs.kept.Passing.{finish_of, passed-keeps, passed-bus, passed-ready}
 use Rattle.lin_core.proofs.steps.Making.{OpenIs, open-ready, past_in}
 use Rattle.lin_core.specs.kept.Receivers.{KeepsHeard}
 use Rattle.lin_core.proofs.kept.Receiving.{heard-reset, sleep-heard}
@@ -90,4 +90,4 @@ told c =
     ∙ ap (λ (es : List Event). Seen (seen_of (slot_in s)) ∷ SleepEvent ∷ es) (losses-are a c.requires.ready.whole (opened c).step.known) ∙ sym (sleeps c).told
 
 pub returns : goal.returns
-returns c = record { told = told c; kept = kept c; late = late c; heard = heard c }
+returns c = record { told = told c; kept = kept c; late = late c; heard = heard c; ready = passed-ready (here c) c.args.by (opened c) c.pass_slot-seen.new.self c.requires.ready.whole (passes c) }

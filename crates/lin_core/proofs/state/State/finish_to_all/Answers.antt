@@ -15,7 +15,7 @@ use Rattle.lin_core.specs.declared.event.Event.TheVariants.{Seen, Sent}
 use Rattle.lin_core.specs.declared.event.Seen.{Seen as HowSeen}
 use Rattle.lin_core.specs.declared.link.Direction.TheVariants.{Down}
 use Rattle.lin_core.specs.declared.log.LogEntry.{LogEntry}
-use Rattle.lin_core.proofs.kept.Passing.{finish_of, passed-bus, passed-keeps, passes-as}
+use Rattle.lin_core.proofs.kept.Passing.{finish_of, passed-bus, passed-keeps, passed-ready, passes-as}
 use Rattle.lin_core.proofs.kept.Receiving.{heard-alike}
 use Rattle.lin_core.proofs.kept.Settling.{settled-hosts, settled-late}
 use Rattle.lin_core.proofs.steps.FinishCases.{Done, finishes-whole, known_after}
@@ -112,4 +112,5 @@ returns c =
       late = rw (c.pass_slot-seen.ensures.hosts, c.settle.ensures)
           (settled-late a.cluster (past_in a) (entry b) 0 host a.state.bus c.pass_slot-seen.new.self.bus a.state.hosts.items w.sound o.step.known k ((done b).settles es) (own b).here (λ y. refl) (bus_is b) w.late);
       heard = all-inside a c.args.by o t c.data-frame.result c.pass_slot-seen.new.self.receivers.items c.events_to_all.new.receivers.items (frame-is b) c.events_to_all.ensures.hears (heard-before b);
+      ready = passed-ready a c.args.by o c.pass_slot-seen.new.self w (passes b);
     }

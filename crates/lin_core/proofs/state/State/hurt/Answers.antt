@@ -25,4 +25,5 @@ returns c =
           (hurt-keeps a.cluster a.opening a.capacity a.log (past_in a) o.slot a.state.time a.state.walker a.state.hosts.items a.state.signals c.args.by c.args.bytes.now w.sound k o.kept);
       late = hurt-late a.cluster (past_in a) c.args.by c.args.bytes.now a.state.bus a.state.hosts.items w.sound k w.late;
       heard = heard-same a.cluster (past_in a) (done_of a c.args.by (Hurt c.args.bytes.now) ∷ past_in a) a.state.receivers.items (λ l i. refl) w.heard;
+      ready = w.ready;
     }

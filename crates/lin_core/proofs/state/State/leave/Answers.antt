@@ -32,4 +32,5 @@ returns c =
           (leave-keeps a.cluster a.opening a.capacity a.log (past_in a) o.slot a.state.time a.state.walker a.state.hosts.items a.state.signals c.args.by c.args.node w.sound k c.requires.allowed o.is o.kept);
       late = leave-late a.cluster (past_in a) c.args.by c.args.node a.state.bus a.state.hosts.items w.sound k w.late;
       heard = heard-same a.cluster (past_in a) (done_of a c.args.by (Leave c.args.node) ∷ past_in a) a.state.receivers.items (λ l i. refl) w.heard;
+      ready = w.ready;
     }

@@ -57,4 +57,5 @@ returns c =
       late = send-late a.cluster a.capacity (past_in a) c.args.by c.args.from c.args.to c.args.message.now _ (length a.log) host a.state.bus a.state.hosts.items _ w.sound (allowed c).known (allowed c).allowed s.at
           (ap (slice_set a.state.hosts.items c.args.from) queue) w.late;
       heard = heard-same a.cluster (past_in a) (done_of a c.args.by (Send c.args.from c.args.to c.args.message.now) ∷ past_in a) a.state.receivers.items (λ l i. refl) w.heard;
+      ready = w.ready;
     }

@@ -83,4 +83,5 @@ returns c =
       late = rw (c.sender-host.ensures, c.settle.ensures)
           (timeout-late a.cluster (past_in a) a.state.bus a.state.hosts.items c.index_mut-kept.result.now c.args.by c.args.link.node c.args.link.dir (events c) w.sound o.known o.none o.here (o.settles (events c)) w.late);
       heard = heard c;
+      ready = c.requires.whole.ready;
     }

@@ -18,4 +18,5 @@ returns c =
           (c.restart.ensures.stands a.cluster a.opening (moves (past_in a)) w.kept.stands) (c.restart.ensures.walks a.cluster w.kept.walks) w.kept;
       late = wake-late a.cluster (past_in a) c.args.by a.state.bus a.state.hosts.items w.sound k w.late;
       heard = heard-same a.cluster (past_in a) (done_of a c.args.by Wake ∷ past_in a) a.state.receivers.items (λ l i. refl) w.heard;
+      ready = w.ready;
     }

@@ -19,4 +19,5 @@ returns c =
           (record { values = c.write.ensures.values; heard = c.write.ensures.heard; room = c.write.ensures.room; count = c.write.ensures.frames; pending = c.write.ensures.pending }) w.kept;
       late = write-late a.cluster (past_in a) c.args.by c.args.node c.args.signal c.args.value.now a.state.bus a.state.hosts.items w.sound k w.late;
       heard = heard-same a.cluster (past_in a) (done_of a c.args.by (Write c.args.node c.args.signal c.args.value.now) ∷ past_in a) a.state.receivers.items (λ l i. refl) w.heard;
+      ready = w.ready;
     }
