@@ -36,6 +36,10 @@ use Rattle.lin_cluster.specs.declared.finding.FindingKind.TheVariants.{Resolving
 use Rattle.lin_cluster.specs.declared.finding.FindingKind.TheVariants.{NoResponseError}
 use Rattle.lin_cluster.specs.declared.finding.FindingKind.TheVariants.{AttributeTwice, BadAttribute}
 use Rattle.lin_cluster.specs.declared.finding.FindingKind.TheVariants.{TimeoutTooShort}
+use Rattle.lin_cluster.specs.declared.finding.FindingKind.TheVariants.{BadCommand, UnknownCommand}
+use Rattle.lin_cluster.specs.declared.finding.FindingKind.TheVariants.{NoResponder, NoProduct}
+use Rattle.lin_cluster.specs.declared.finding.FindingKind.TheVariants.{NotConfigurable, BadIndex}
+use Rattle.lin_cluster.specs.declared.finding.FindingKind.TheVariants.{OtherPid, BadIdentity}
 
 abbrev pub number_of : FindingKind → ℕ
 number_of UnknownName = 1
@@ -94,6 +98,14 @@ number_of NoResponseError = 65
 number_of AttributeTwice = 68
 number_of BadAttribute = 69
 number_of TimeoutTooShort = 70
+number_of BadCommand = 71
+number_of UnknownCommand = 72
+number_of NoResponder = 73
+number_of NoProduct = 74
+number_of NotConfigurable = 75
+number_of BadIndex = 76
+number_of OtherPid = 77
+number_of BadIdentity = 78
 
 -- the names of findings, by their numbers, which begin at 1
 abbrev pub finding_names : List (List ℕ)
@@ -113,7 +125,9 @@ finding_names =
     ∷ codes "BadResponseError" ∷ codes "BadConfigurable" ∷ codes "UnusedEncoding"
     ∷ codes "EventMemberBeside" ∷ codes "SporadicMemberBeside" ∷ codes "UnresolvedMember"
     ∷ codes "ResolvingEntry" ∷ codes "NoResponseError" ∷ [] ∷ [] ∷ codes "AttributeTwice"
-    ∷ codes "BadAttribute" ∷ codes "TimeoutTooShort" ∷ []
+    ∷ codes "BadAttribute" ∷ codes "TimeoutTooShort"
+    ∷ codes "BadCommand" ∷ codes "UnknownCommand" ∷ codes "NoResponder" ∷ codes "NoProduct"
+    ∷ codes "NotConfigurable" ∷ codes "BadIndex" ∷ codes "OtherPid" ∷ codes "BadIdentity" ∷ []
 
 abbrev pub finding_name : ℕ → List ℕ
 finding_name number = slice_index_or finding_names number []
@@ -176,6 +190,14 @@ needed_by NoResponseError = 0
 needed_by AttributeTwice = 0
 needed_by BadAttribute = 0
 needed_by TimeoutTooShort = 0
+needed_by BadCommand = 0
+needed_by UnknownCommand = 0
+needed_by NoResponder = 0
+needed_by NoProduct = 0
+needed_by NotConfigurable = 0
+needed_by BadIndex = 0
+needed_by OtherPid = 0
+needed_by BadIdentity = 0
 
 -- a finding by its kind, line and column
 abbrev pub finding_at : FindingKind → ℕ → ℕ → Finding

@@ -6,9 +6,10 @@ ghost use Rattle.lin_cluster.specs.Kinds.{finding_at, finding_name, number_of};
 use lin_parts::Place;
 use lin_text::Many;
 
-/// The kinds of findings, in the order of their numbers, 1 to 27, 31 to 41, 51 to 65 and 68 to 70. 19 to 26
+/// The kinds of findings, in the order of their numbers, 1 to 27, 31 to 41, 51 to 65 and 68 to 78. 19 to 26
 /// are reported only if the text is read as one of the field; 27 also if lint warnings are wanted. 31 to 41
-/// are about encodings of signals, and those from 51 on are lint warnings: the description is valid.
+/// are about encodings of signals, 51 to 70 are lint warnings, and 71 to 78 are about node configuration:
+/// the description is valid.
 #[derive(Clone, Copy, Debug, PartialEq, Eq)]
 pub enum FindingKind {
     UnknownName,
@@ -68,10 +69,18 @@ pub enum FindingKind {
     AttributeTwice,
     BadAttribute,
     TimeoutTooShort,
+    BadCommand,
+    UnknownCommand,
+    NoResponder,
+    NoProduct,
+    NotConfigurable,
+    BadIndex,
+    OtherPid,
+    BadIdentity,
 }
 
 impl FindingKind {
-    /// The number, 1 to 27, 31 to 41, 51 to 65 or 68 to 70.
+    /// The number, 1 to 27, 31 to 41, 51 to 65 or 68 to 78.
     pub fn number(self) -> u8
         ensures { result ≡ number_of self }
     {
@@ -132,11 +141,19 @@ impl FindingKind {
             FindingKind::AttributeTwice => 68,
             FindingKind::BadAttribute => 69,
             FindingKind::TimeoutTooShort => 70,
+            FindingKind::BadCommand => 71,
+            FindingKind::UnknownCommand => 72,
+            FindingKind::NoResponder => 73,
+            FindingKind::NoProduct => 74,
+            FindingKind::NotConfigurable => 75,
+            FindingKind::BadIndex => 76,
+            FindingKind::OtherPid => 77,
+            FindingKind::BadIdentity => 78,
         }
     }
 }
 
-/// What is wrong, and where: the finding's number (1 to 27, 31 to 41, 51 to 65 or 68 to 70), line and column,
+/// What is wrong, and where: the finding's number (1 to 27, 31 to 41, 51 to 65 or 68 to 78), line and column,
 /// and for a slot that is too short (9) the time in microseconds that it needs; otherwise 0. Findings are
 /// ordered by place, then by number.
 #[derive(Clone, Copy, Debug, PartialEq, Eq, PartialOrd, Ord)]
@@ -163,7 +180,7 @@ impl Finding {
         }
     }
 
-    /// The name; only numbers from 1 to 27, from 31 to 41, from 51 to 65 and from 68 to 70 have one.
+    /// The name; only numbers from 1 to 27, from 31 to 41, from 51 to 65 and from 68 to 78 have one.
     pub fn name(&self) -> &'static str
         ensures { result.now ≡ finding_name self.now.number }
     {
@@ -224,6 +241,14 @@ impl Finding {
             68 => "AttributeTwice",
             69 => "BadAttribute",
             70 => "TimeoutTooShort",
+            71 => "BadCommand",
+            72 => "UnknownCommand",
+            73 => "NoResponder",
+            74 => "NoProduct",
+            75 => "NotConfigurable",
+            76 => "BadIndex",
+            77 => "OtherPid",
+            78 => "BadIdentity",
             _ => "",
         }
     }

@@ -38,7 +38,7 @@ at n low k is none = subst Unnamed is none
 pub returns-in_default : goal.returns-in_default
 returns-in_default c =
     let n = c.args.self.now.number
-    in elim (cases_lt 70 n) as (λ _. Unnamed n) [
+    in elim (cases_lt 78 n) as (λ _. Unnamed n) [
       | inl past ↦ sym (get_or_past finding_names n [] (omega arith))
       | inr few ↦ elim (cases_lt 65 n) as (λ _. Unnamed n) [
         | inl past ↦ at n 66 (n - 66) (omega arith) (from_66 (n - 66) (omega arith))
