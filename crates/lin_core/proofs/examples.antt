@@ -3,3 +3,4 @@ pub mod Rows
 pub mod SignalRows
 pub mod TransportRows
 pub mod ToAllRows
+pub mod ServiceRows
