@@ -1,5 +1,5 @@
 -- What a slot says, and what the nodes hear of it.
-use Rattle.std.proofs.Common.{◌≡◌, ℕ, List, [], ◌∷◌, ◌++◌, refl, sym, ap, ◌∙◌, append_assoc, add-one, length, take, drop, flat_map, map, ◌-◌, zero, suc, ◌+◌, ◌<◌, ◌≤◌, get_or, if◌then◌else◌, arith}
+use Rattle.std.proofs.Common.{◌≡◌, ℕ, List, [], ◌∷◌, ◌++◌, refl, sym, ap, ◌∙◌, append_assoc, add-one, length, take, drop, flat_map, map, ◌-◌, zero, suc, ◌+◌, ◌<◌, ◌≤◌, get_or, arith}
 use Rattle.std.proofs.lemmas.List.{append-nil, take_all, take_more}
 use Rattle.std.specs.Prelude.{Option, Some, None, option_map, slice_get, find, true, false}
 use Rattle.std.specs.Option.{option_map_or, unwrap_or}
@@ -11,14 +11,14 @@ use Rattle.lin_parts.specs.declared.parts.Parts.{Parts}
 use Rattle.lin_parts.specs.declared.parts.Signal.{Signal}
 use Rattle.lin_parts.specs.declared.parts.Entry.{Entry}
 use Rattle.lin_parts.specs.declared.parts.Entry.TheVariants as entries
-use Rattle.lin_core.specs.History.{Slot, finished_slot, good, is_sleep_slot, time}
+use Rattle.lin_core.specs.History.{Slot, finished_slot, good, is_sleep_slot}
 use Rattle.lin_core.specs.Signals.{carried_frame, carried_by, heard_value, place_in, value_in}
 use Rattle.lin_core.specs.declared.log.LogEntry.{LogEntry}
 use Rattle.lin_export.specs.Csv.{comma, csv_line, node_name, nodes_cell, slot_line, spaced_name}
 use Rattle.lin_export.specs.FirstSlots.{slot_row}
 use Rattle.lin_export.specs.Pcap.{bus_event, finish_packets, goes_to_sleep, packet, slot_packet}
 use Rattle.lin_export.specs.Shown.{slot_frame}
-use Rattle.lin_export.specs.Track.{shown_slot, slots_in}
+use Rattle.lin_export.specs.Track.{shown_slot}
 use Rattle.lin_values.specs.Coded.{CodedData}
 use Rattle.lin_export.proofs.Slots.{some-same}
 

@@ -7,7 +7,7 @@ use Rattle.std.specs.Option.{option_map_or}
 use Rattle.lin_frame.specs.Words.{numbers}
 use Rattle.lin_frame.specs.declared.layout.Place.{Place}
 use Rattle.lin_parts.specs.Cluster.{entry_kind, entry_name, event_name, event_of, frame_name, frame_of}
-use Rattle.lin_parts.specs.Cluster.{line_of, named_table, node_of, nodes, signal_of, sporadic_name}
+use Rattle.lin_parts.specs.Cluster.{line_of, named_table, node_of, signal_of, sporadic_name}
 use Rattle.lin_parts.specs.Cluster.{sporadic_of, table_of}
 use Rattle.lin_parts.specs.Rules.{is_array}
 use Rattle.lin_parts.specs.declared.description.Description.{Description}

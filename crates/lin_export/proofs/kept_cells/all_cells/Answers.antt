@@ -1,5 +1,4 @@
-use Rattle.std.proofs.Common.{arith}
-use Rattle.lin_export.proofs.KeptMore.{kept-pushed, none-kept}
+use Rattle.lin_export.proofs.KeptMore.{none-kept}
 use Rattle.lin_export.proofs.kept_cells.all_cells.Goals as goal
 
 pub loop-signal-init : goal.loop-signal-init

@@ -1,4 +1,4 @@
-use Rattle.std.proofs.Common.{◌∷◌, ◌++◌, [], ap, ◌∙◌, append-nil, sym, flat_map}
+use Rattle.std.proofs.Common.{◌∷◌, [], ap, ◌∙◌, append-nil, sym, flat_map}
 use Rattle.std.specs.Prelude.{Option}
 use Rattle.std.specs.Option.{option_map_or}
 use Rattle.lin_values.specs.declared.items.CodingType.{CodingType}

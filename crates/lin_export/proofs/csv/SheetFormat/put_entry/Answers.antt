@@ -12,7 +12,7 @@ use Rattle.lin_export.specs.Open.{slot_in}
 use Rattle.lin_export.specs.Track.{TrackData, slots_in}
 use Rattle.lin_export.specs.WhereTold.{told}
 use Rattle.lin_export.specs.declared.slot.OpenSlot.{OpenSlot}
-use Rattle.lin_export.proofs.Rows.{Shows, heard-before, heard-finish, line-parts, line-shown, shows, shows-none}
+use Rattle.lin_export.proofs.Rows.{Shows, heard-finish, line-parts, line-shown, shows}
 use Rattle.lin_export.proofs.csv.SheetFormat.put_entry.Goals as goal
 
 pub returns-in-Some-clause-keeps : goal.returns-in-Some-clause-keeps

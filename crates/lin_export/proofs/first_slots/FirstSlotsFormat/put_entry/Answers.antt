@@ -3,12 +3,12 @@ use Rattle.std.specs.Borrow.{Bor}
 use Rattle.std.specs.Prelude.{Option, option_map}
 use Rattle.std.specs.Option.{option_map_or}
 use Rattle.lin_core.specs.History.{Slot, finished_slot, time}
-use Rattle.lin_text.proofs.Growing.{grows-nothing, same-growth}
+use Rattle.lin_text.proofs.Growing.{same-growth}
 use Rattle.lin_export.specs.FirstSlots.{slot_row}
 use Rattle.lin_export.specs.Open.{slot_in}
 use Rattle.lin_export.specs.Track.{TrackData, slots_in}
 use Rattle.lin_export.specs.declared.slot.OpenSlot.{OpenSlot}
-use Rattle.lin_export.proofs.Rows.{Shows, row-shown, shows, shows-none}
+use Rattle.lin_export.proofs.Rows.{Shows, row-shown, shows}
 use Rattle.lin_export.proofs.first_slots.FirstSlotsFormat.put_entry.Goals as goal
 
 pub returns-in-Some-clause-text : goal.returns-in-Some-clause-text

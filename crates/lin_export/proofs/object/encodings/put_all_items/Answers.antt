@@ -1,4 +1,4 @@
-use Rattle.std.proofs.Common.{List, ℕ, sym, ap, arith}
+use Rattle.std.proofs.Common.{List, ℕ, sym, arith}
 use Rattle.lin_text.proofs.Growing.{grows-more, same-growth}
 use Rattle.lin_values.specs.declared.items.PlacedItem.{PlacedItem}
 use Rattle.lin_export.specs.ClusterObject.{item_object}

@@ -1,9 +1,8 @@
-use Rattle.std.proofs.Common.{codes}
 use Rattle.std.specs.Prelude.{option_map, slice_get}
 use Rattle.lin_parts.specs.Cluster.{sporadic_name, sporadic_of}
 use Rattle.lin_export.specs.ClusterObject.{frames_member, name_member, place_member}
 use Rattle.lin_export.specs.Jsonl.{number_member}
-use Rattle.lin_export.proofs.Objects.{grows-values, puts-all, puts-more, puts-one}
+use Rattle.lin_export.proofs.Objects.{grows-values, puts-more, puts-one}
 use Rattle.lin_export.proofs.object.frames.put_sporadic.Goals as goal
 
 pub returns : goal.returns

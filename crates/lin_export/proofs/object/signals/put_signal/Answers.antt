@@ -1,6 +1,6 @@
 use Rattle.std.proofs.Common.{◌∷◌, [], codes, map}
 use Rattle.std.specs.Prelude.{option_map, slice_get}
-use Rattle.lin_parts.specs.Cluster.{node_of, signal_of}
+use Rattle.lin_parts.specs.Cluster.{signal_of}
 use Rattle.lin_parts.specs.Rules.{is_array}
 use Rattle.lin_export.specs.CheckObject.{list_member}
 use Rattle.lin_export.specs.ClusterObject.{count_member, encoding_value, name_member, place_member, subscribers, truth}

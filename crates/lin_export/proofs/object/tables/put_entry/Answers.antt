@@ -1,5 +1,4 @@
-use Rattle.std.proofs.Common.{◌∷◌, [], ◌++◌, List, ℕ, codes, flat_map, rules}
-use Rattle.std.specs.Fmt.{decimal}
+use Rattle.std.proofs.Common.{◌∷◌, [], codes, flat_map, rules}
 use Rattle.lin_parts.specs.Cluster.{entry_kind, entry_name, line_of}
 use Rattle.lin_cluster.specs.SlotTimes.{slot_bytes, slot_need}
 use Rattle.lin_text.specs.Written.{Grows}
