@@ -8,13 +8,14 @@ use Rattle.std.specs.Option.{option_map_or}
 use Rattle.lin_frame.specs.declared.sums.SumKind.{SumKind}
 use Rattle.lin_frame.specs.declared.sums.SumKind.TheVariants.{Classic, Enhanced}
 use Rattle.lin_parts.specs.Cluster.{line_of}
+use Rattle.lin_parts.specs.declared.parts.Entry.{Entry}
 use Rattle.lin_parts.specs.declared.parts.Parts.{Parts}
 use Rattle.lin_core.specs.History.{Slot, events, good_bytes, is_sleep_slot, open_slot, seen_of, seen_by, time}
 use Rattle.lin_core.specs.Links.{Fate, Sending, fate_of, host_of, reading, sendings, waits}
 use Rattle.lin_core.specs.Links.Fate.{Waiting, Sent, Lost}
-use Rattle.lin_core.specs.Replies.{all_links, all_reports, finish_events, new_messages, put_event, quiet_entry, receiver_of, refusal, reply, report, reports, sleeps}
+use Rattle.lin_core.specs.Replies.{all_links, all_reports, finish_events, new_messages, put_event, quiet_entry, receiver_of, refusal, reply, report, reports, service_events, sleeps}
 use Rattle.lin_core.specs.Runs.{entry_of, history}
-use Rattle.lin_core.specs.Slots.{due_nodes, header, model_of, next_due, put}
+use Rattle.lin_core.specs.Slots.{due_nodes, is_service, model_of, next_due, put_by}
 use Rattle.lin_core.specs.declared.event.Event.{Event}
 use Rattle.lin_core.specs.declared.event.Event.TheVariants.{Asleep, Due, Message, Put, Seen as SeenEvent}
 use Rattle.lin_core.specs.declared.event.Seen.{Seen}
@@ -170,7 +171,11 @@ sleep-none : (b : Bool) → SayNone (if b then Asleep ∷ [] else [])
 sleep-none true = refl
 sleep-none false = refl
 
-put-none : (c : Parts) (past : List LogEntry) (node : ℕ) (s : Slot) (o : Option ℕ) → SayNone (option_map_or (λ h. Put node (put c past (line_of c s.table s.entry).entry h node) ∷ []) o [])
+service-none : (b : Bool) → SayNone (service_events b)
+service-none true = refl
+service-none false = refl
+
+put-none : (c : Parts) (past : List LogEntry) (node : ℕ) (s : Slot) (o : Option ℕ) → SayNone (option_map_or (λ h. Put node (put_by c past s h node) ∷ []) o [])
 put-none c past node s None = refl
 put-none c past node s (Some h) = refl
 
@@ -202,7 +207,8 @@ step-captured c o past port (Send from to message) None w = none-captured (omega
 step-captured c o past port (Write by signal value) None w = none-captured (omega arith) refl
 step-captured c o past port Open None w =
     let at : ℕ × ℕ = next_due c o past in
-    none-captured (omega arith) (none-map Due (due_nodes c past (line_of c at.0 at.1).entry) (λ n. refl))
+    let entry : Entry = (line_of c at.0 at.1).entry in
+    none-captured (omega arith) (none-both (service_events (is_service c past entry)) (map Due (due_nodes c past entry)) (service-none (is_service c past entry)) (none-map Due (due_nodes c past entry) (λ n. refl)))
 step-captured c o past port (Answer node) None w = none-captured (omega arith) (answer-none c past node (open_slot past))
 step-captured c o past port (Leave node) None w = none-captured (omega arith) refl
 step-captured c o past port (Hurt bytes) None w = none-captured (omega arith) refl

@@ -9,8 +9,8 @@ use Rattle.lin_parts.specs.declared.parts.Parts.{Parts}
 use Rattle.lin_core.specs.History.{Slot, open_slot, reply_events, seen_of}
 use Rattle.lin_core.specs.Links.{Fate, Link, Sending, fate_of, is_waiting, sendings}
 use Rattle.lin_core.specs.Links.Fate.{Waiting, Sent as IsSent, Lost as IsLost}
-use Rattle.lin_core.specs.Replies.{all_links, new_messages, put_event, quiet_entry, refusal, report, reports, sleeps}
-use Rattle.lin_core.specs.Slots.{put}
+use Rattle.lin_core.specs.Replies.{all_links, new_messages, put_event, quiet_entry, refusal, report, reports, service_events, sleeps}
+use Rattle.lin_core.specs.Slots.{is_service, next_due, put_by}
 use Rattle.lin_core.specs.declared.event.Event.{Event}
 use Rattle.lin_core.specs.declared.event.Event.TheVariants as event
 use Rattle.lin_core.specs.declared.log.LogEntry.{LogEntry}
@@ -69,6 +69,10 @@ due-hosts : (c : Parts) (ns : List ℕ) → HostsAre c (map (λ n. event.Due n) 
 due-hosts c [] = tt
 due-hosts c (n ∷ ns) = (tt, due-hosts c ns)
 
+service-hosts : (c : Parts) (b : Bool) → HostsAre c (service_events b)
+service-hosts c true = (tt, tt)
+service-hosts c false = tt
+
 seen-hosts : (c : Parts) (o : Option Slot) → HostsAre c (option_map_or (λ s. event.Seen (seen_of s) ∷ []) o [])
 seen-hosts c None = tt
 seen-hosts c (Some s) = (tt, tt)
@@ -77,7 +81,7 @@ asleep-hosts : (c : Parts) (b : Bool) → HostsAre c (if b then event.Asleep ∷
 asleep-hosts c true = (tt, tt)
 asleep-hosts c false = tt
 
-put-by : (c : Parts) (past : List LogEntry) (node : ℕ) (s : Slot) (o : Option ℕ) → HostsAre c (option_map_or (λ h. event.Put node (put c past (line_of c s.table s.entry).entry h node) ∷ []) o [])
+put-by : (c : Parts) (past : List LogEntry) (node : ℕ) (s : Slot) (o : Option ℕ) → HostsAre c (option_map_or (λ h. event.Put node (put_by c past s h node) ∷ []) o [])
 put-by c past node s None = tt
 put-by c past node s (Some h) = (tt, tt)
 
@@ -90,7 +94,9 @@ pub done-hosts : (c : Parts) (opening capacity : ℕ) (past : List LogEntry) (po
 done-hosts c o n past port step (Some r) is = tt
 done-hosts c o n past port (Send from to message) None is = ((send-room c n past port from to message is).0, tt)
 done-hosts c o n past port (Write by signal v) None is = tt
-done-hosts c o n past port Open None is = (tt, due-hosts c _)
+done-hosts c o n past port Open None is =
+    let at : ℕ × ℕ = next_due c o past in
+    (tt, hosts-both c _ _ (service-hosts c (is_service c past (line_of c at.0 at.1).entry)) (due-hosts c _))
 done-hosts c o n past port (Answer node) None is = put-hosts c past node (open_slot past)
 done-hosts c o n past port (Leave node) None is = tt
 done-hosts c o n past port (Hurt bytes) None is = tt

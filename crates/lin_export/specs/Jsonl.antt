@@ -2,7 +2,7 @@
 -- finished, each event of a message, sleep and wake-up, and a step that was refused.
 use Rattle.std.specs.Prelude.{ℕ, ◌+◌, ◌-◌, ◌==◌, Bool, not, ◌&&◌, ◌||◌, if◌then◌else◌, List, []}
 use Rattle.std.specs.Prelude.{◌∷◌, ◌++◌, length, map, flat_map, codes, take, zip, slice_get}
-use Rattle.std.specs.Prelude.{slice_index, Option}
+use Rattle.std.specs.Prelude.{slice_index, Option, None}
 use Rattle.std.specs.Fmt.{decimal}
 use Rattle.std.specs.Option.{option_map_or}
 use Rattle.lin_frame.specs.Bits.{unpacked_value}
@@ -159,10 +159,13 @@ message_value c last header put =
     if is_message_frame header put.1
     then object (host_member c put.0 ∷ number_member (last put.0 + 1) ∷ []) else null
 
+-- the last response of a slot of messages; in a slot for a service none is a frame of a message
+abbrev pub message_put : Slot → Option (ℕ × List ℕ)
+message_put s = if s.service then None else slice_get s.puts (length s.puts - 1)
+
 abbrev pub message_member : Parts → (ℕ → ℕ) → Slot → List ℕ
 message_member c last s =
-    member (codes "message")
-    (option_map_or (message_value c last s.header) (slice_get s.puts (length s.puts - 1)) null)
+    member (codes "message") (option_map_or (message_value c last s.header) (message_put s) null)
 
 -- what these signals mean, those that mean something
 abbrev pub meaning_text : Meant → List ℕ

@@ -8,6 +8,7 @@ slot_in s = record {
   table = s.table;
   entry = s.entry;
   header = s.header;
+  service = s.service;
   due = s.due.items;
   puts = s.puts.items;
   left = [];

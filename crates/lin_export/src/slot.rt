@@ -25,6 +25,7 @@ pub(crate) struct OpenSlot {
     table: u16,
     entry: u16,
     header: Option<u8>,
+    service: bool,
     due: Vec<u8>,
     puts: Vec<(u8, Answer)>,
     hurt: bool,
@@ -74,6 +75,7 @@ impl OpenSlot {
             table: 0,
             entry: 0,
             header: None,
+            service: false,
             due: Vec::new(alloc),
             puts: Vec::new(alloc),
             hurt: false,
@@ -95,6 +97,7 @@ impl OpenSlot {
                 self.entry = *entry;
                 self.header = *header;
             }
+            Event::Service => self.service = true,
             Event::Due { node } => self.due.push(*node)?,
             Event::Put { node, answer } => self.puts.push((*node, *answer))?,
             _ => {}
@@ -118,6 +121,13 @@ impl OpenSlot {
         ensures { slot_in self.new ≡ slot_after_hurt (slot_in self.old) }
     {
         self.hurt = true;
+    }
+
+    /// Whether it is for a service.
+    pub(crate) fn is_service(&self) -> bool
+        ensures { result ≡ self.now.service }
+    {
+        self.service
     }
 
     /// Its header, a protected identifier, where it has one.

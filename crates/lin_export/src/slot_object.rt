@@ -1,12 +1,14 @@
 //! A slot as an object of JSON.
 
 ghost use Rattle.std.specs.Prelude.{◌<◌, ◌≡◌, ℕ, flat_map, length, map};
+ghost use Rattle.std.specs.Option.{option_copied};
 ghost use Rattle.lin_text.specs.Written.{Grows};
 ghost use Rattle.lin_export.specs.Csv.{comma};
 ghost use Rattle.lin_export.specs.Json.{joined, member};
 ghost use Rattle.lin_export.specs.Jsonl.{answer_value, answers_member, carried_signals, due_member};
 ghost use Rattle.lin_export.specs.Jsonl.{frame_member, frame_signals, header_member, hurt_member};
-ghost use Rattle.lin_export.specs.Jsonl.{is_message_frame, message_member, message_value, node_text};
+ghost use Rattle.lin_export.specs.Jsonl.{is_message_frame, message_member, message_put, message_value};
+ghost use Rattle.lin_export.specs.Jsonl.{node_text};
 ghost use Rattle.lin_export.specs.Jsonl.{response_members, schedule_members, signal_value};
 ghost use Rattle.lin_export.specs.Jsonl.{signals_member, slot_line};
 ghost use Rattle.lin_export.specs.Look.{looks};
@@ -277,6 +279,17 @@ fn put_message_value<W: Write>(
     out.put_byte(b'}');
 }
 
+/// The last response of a slot of messages; of a slot for a service none.
+fn message_put(slot: &OpenSlot) -> Option<&(u8, Answer)>
+    ensures { option_copied result ≡ message_put (slot_in slot.now) }
+{
+    if slot.is_service() {
+        None
+    } else {
+        slot.puts().last()
+    }
+}
+
 /// The message of which the last response of a slot is a frame.
 fn put_message<W: Write>(
     out: &mut TextWriter<'_, W>,
@@ -289,7 +302,7 @@ fn put_message<W: Write>(
         (comma (message_member cluster.now count (slot_in slot.now))) }
 {
     put_key(out, "message");
-    match slot.puts().last() {
+    match message_put(slot) {
         Some(put) => put_message_value(out, cluster, last, slot.header(), put),
         None => out.put(b"null"),
     }
