@@ -2,6 +2,8 @@ pub mod Tellings
 mod Wholes
 pub mod Captures
 pub mod Slots
+pub mod Timed
+pub mod TimingLines
 mod Times
 pub mod Puttings
 pub mod Rows

@@ -3,6 +3,7 @@ pub mod Look
 pub mod Open
 pub mod Shown
 pub mod Telling
+pub mod Timings
 pub mod WhereTold
 pub mod Putting
 pub mod Pcap
@@ -25,6 +26,7 @@ pub mod ListedFrames
 pub mod Marks
 pub mod ListedMaps
 pub mod ListedSlots
+pub mod ListedTiming
 pub mod ListedSignals
 pub mod ClusterObject
 pub mod CheckObject

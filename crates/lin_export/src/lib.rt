@@ -7,7 +7,8 @@
 //! ```
 //!
 //! And what an LDF describes, as lines: its nodes, signals and schedule tables, its frames with the
-//! places of their signals, how much time its slots leave, and what the values of signals mean.
+//! places of their signals, how much time its slots leave, what its schedule tables promise, and what
+//! the values of signals mean.
 //!
 //! ```
 //! // a line for each node, signal and table, for each frame and each place, and for each slot and
@@ -15,6 +16,8 @@
 //! write_list(&cluster, &mut writer)?;
 //! write_frames(&cluster, &mut writer)?;
 //! write_slots(&cluster, &mut writer)?;
+//! // lines for each table, for messages with 6 data bytes
+//! write_timing(alloc, &cluster, 6, &mut writer)?;
 //! ```
 #![tactic(auto)]
 
@@ -49,7 +52,10 @@ pub use fault::ExportFault;
 pub use first_slots::write_first_slots;
 pub use jsonl::{Opening, write_jsonl};
 pub use law::{captures_what_was_seen, dumps_last_values, maps_tell_places};
-pub use listing::{write_frames, write_list, write_maps, write_signals, write_slots};
+pub use listing::{
+    FrameTiming, Latency, TableTiming, table_timings, write_frames, write_list, write_maps,
+    write_signals, write_slots, write_timing,
+};
 pub use named::{named_text, put_slot_names, write_named};
 pub use object::problems::{Problem, put_problem_line};
 pub use object::{Found, write_object};

@@ -16,11 +16,15 @@ pub(crate) mod frames;
 mod maps;
 mod signals;
 pub(crate) mod slots;
+mod timing;
+mod timings;
 
 pub use frames::write_frames;
 pub use maps::write_maps;
 pub use signals::write_signals;
 pub use slots::write_slots;
+pub use timing::write_timing;
+pub use timings::{FrameTiming, Latency, TableTiming, table_timings};
 
 /// A diagnostic address, and `-` for none.
 fn address_word(nad: Option<u8>) -> Word<'static>
