@@ -6,25 +6,33 @@ use crate::fault::Fault;
 use crate::field::write_field;
 use crate::listing::{Lists, write_lists};
 use crate::notes::Notes;
+use lin_export::write_timing;
 use std::fs::{self, Files};
 use std::io;
 
 /// Writes on standard output a line for each node, each signal and each schedule table of the
 /// cluster that the LDF text in the file at `path` describes, and after them the lists that are
 /// wanted, that of signals where encodings are read; where the path is `-`, that on standard input.
+/// The timing of schedule tables comes last, for messages with `timing` data bytes, at most 4,095.
 ///
 /// # Errors
-/// Those of `cluster_at`, after which nothing was written; those of `write_lists`.
+/// Those of `cluster_at`, after which nothing was written; those of `write_lists` and `write_timing`.
 pub fn check<R: AllocGlobal + Files + Input + Print>(
     rt: &R,
     path: &str,
     reading: Reading,
     extras: Extras,
     lists: Lists,
+    timing: Option<u16>,
     notes: &mut Notes<'_>,
 ) -> Result<(), Fault> {
     let Described { cluster, coded } = cluster_at(rt, path, reading, extras, notes)?;
-    Ok(write_lists(&cluster, coded.as_ref(), lists, &mut io::writer(rt))?)
+    let mut writer = io::writer(rt);
+    write_lists(&cluster, coded.as_ref(), lists, &mut writer)?;
+    if let Some(bytes) = timing {
+        write_timing(rt.alloc(), &cluster, bytes.min(4095), &mut writer)?;
+    }
+    Ok(())
 }
 
 /// The LDF text in the file at `path`; where the path is `-`, that on standard input.

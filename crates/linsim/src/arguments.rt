@@ -81,6 +81,7 @@ fn object<'a>(alloc: Global) -> Result<Arg<'a>, AllocError> {
         .conflicts_with("frames")?
         .conflicts_with("map")?
         .conflicts_with("slots")?
+        .conflicts_with("timing")?
         .conflicts_with("signals")?
         .conflicts_with("plain")
 }
@@ -111,6 +112,20 @@ fn listed_maps<'a>(alloc: Global) -> Arg<'a> {
 fn listed_slots<'a>(alloc: Global) -> Arg<'a> {
     let help = "Also list the slots with their required time, and the bus load of each table";
     flag(alloc, "slots", help)
+}
+
+fn listed_timing<'a>(alloc: Global) -> Arg<'a> {
+    let help = "Also list the timing of each table: cycle, frames, latencies and transfer times";
+    flag(alloc, "timing", help)
+}
+
+fn message_bytes<'a>(alloc: Global) -> Result<Arg<'a>, AllocError> {
+    Arg::new(alloc, "bytes")
+        .long("bytes")
+        .value_name("N")
+        .value_parser(value_parser!(u16).range(1..=4095))
+        .help("Data bytes of the messages of --timing, 1 to 4095 [default: 6]")
+        .requires_arg("timing")
 }
 
 fn places<'a>(alloc: Global) -> Arg<'a> {
@@ -153,6 +168,7 @@ fn plain<'a>(alloc: Global) -> Result<Arg<'a>, AllocError> {
         .conflicts_with("frames")?
         .conflicts_with("map")?
         .conflicts_with("slots")?
+        .conflicts_with("timing")?
         .conflicts_with("physical")?
         .conflicts_with("lint")?
         .conflicts_with("signals")
@@ -229,6 +245,8 @@ fn check<'a>(alloc: Global) -> Result<Command<'a>, AllocError> {
         .arg(listed_maps(alloc))?
         .arg(listed_slots(alloc))?
         .arg(listed_signals(alloc)?)?
+        .arg(listed_timing(alloc))?
+        .arg(message_bytes(alloc)?)?
         .arg(field(alloc))?
         .arg(physical(alloc))?
         .arg(linted(alloc))?
@@ -318,12 +336,14 @@ pub(crate) enum Invalid<'a> {
 #[derive(Clone, Copy)]
 pub(crate) enum Request<'a> {
     /// `linsim check FILE [--field] [--frames] [--map] [--slots] [--physical [--signals]]
-    /// [--lint] [--deny KINDS] [--allow KINDS]`
+    /// [--timing [--bytes N]] [--lint] [--deny KINDS] [--allow KINDS]`. `timing` is the number of
+    /// data bytes of messages, `None` without `--timing`.
     Check {
         file: &'a str,
         reading: Reading,
         extras: Extras,
         lists: Lists,
+        timing: Option<u16>,
     },
     /// `linsim check FILE --to json [--field] [--physical] [--lint] [--deny KINDS] [--allow KINDS]`
     CheckObject {
@@ -442,6 +462,15 @@ fn script_of<'a>(found: &ArgMatches<'a>) -> &'a str {
     found.get_str("script").unwrap_or("-")
 }
 
+/// Returns the number of data bytes of messages that the timing of tables is wanted for.
+fn timing_of(found: &ArgMatches<'_>) -> Option<u16> {
+    if found.get_flag("timing") {
+        Some(found.get_one::<u16>("bytes").unwrap_or(6))
+    } else {
+        None
+    }
+}
+
 fn request_of<'a>(matches: &ArgMatches<'a>) -> Option<Request<'a>> {
     match matches.subcommand() {
         Some(("check", found)) if found.get_flag("plain") => {
@@ -462,6 +491,7 @@ fn request_of<'a>(matches: &ArgMatches<'a>) -> Option<Request<'a>> {
                 slots: found.get_flag("slots"),
                 signals: found.get_flag("signals"),
             },
+            timing: timing_of(found),
         }),
         Some(("live", found)) => Some(Request::Live(settings_of(found))),
         Some(("play", found)) => Some(Request::Play {

@@ -42,7 +42,8 @@ fn perform<
             reading,
             extras,
             lists,
-        } => lin_tool::check(rt, file, reading, extras, lists, notes),
+            timing,
+        } => lin_tool::check(rt, file, reading, extras, lists, timing, notes),
         Request::CheckObject {
             file,
             reading,
