@@ -1,5 +1,6 @@
 pub mod AddedRanges
 pub mod AttributeSteps
+pub mod ByteSteps
 pub mod CodedAgain
 pub mod CodedSignals
 pub mod CodingOrder
@@ -10,14 +11,17 @@ pub mod DecimalParts
 pub mod Digits
 pub mod EncodedItems
 pub mod FormsTaking
+pub mod FoundFirst
 pub mod FrameSteps
 pub mod ItemSteps
 pub mod ItemTraits
 pub mod JoinedSpans
+pub mod KnownIdentities
 pub mod Layered
 pub mod LeastOf
 pub mod LeastRaw
 pub mod Letters
+pub mod LineSteps
 pub mod Mantissa
 pub mod Multiples
 pub mod NamedLines
@@ -44,6 +48,7 @@ pub mod Spacing
 pub mod SpelledSteps
 pub mod SpelledValues
 pub mod StatementSteps
+pub mod StopSteps
 pub mod Unmentioned
 pub mod UnmentionedSections
 pub mod UnusedEncodings

@@ -1,17 +1,18 @@
 -- What the attributes of nodes say (LIN 2.2A, section 9.2.2.2), each by the tokens from its word on; and the
 -- version in the header (section 9.1).
-use Rattle.std.specs.Prelude.{ℕ, List, ◌&&◌, ◌||◌, Bool, Option, Some, None, codes, find, nat_le}
+use Rattle.std.specs.Prelude.{ℕ, List, ◌&&◌, ◌||◌, Bool, Option, Ok, codes, find}
 use Rattle.std.specs.Prelude.{if◌then◌else◌, option_and_then}
 use Rattle.std.specs.Option.{option_map}
-use Rattle.lin_ldf.specs.Forms.{Form, ◌>>=◌, ◌&>◌, ◌<&◌, keyword, mark, tail}
+use Rattle.lin_ldf.specs.Forms.{Form, ◌&>◌, ◌<&◌, keyword, tail}
 use Rattle.lin_ldf.specs.Grammar.{protocol_text}
 use Rattle.lin_ldf.specs.Loops.{is_next}
 use Rattle.lin_ldf.specs.Symbols.{Symbol}
-use Rattle.lin_ldf.specs.Words.{dec_in, equals, int, is_word_next, semicolon}
+use Rattle.lin_ldf.specs.Words.{dec_in, equals, is_word_next, semicolon}
 use Rattle.lin_ldf.specs.declared.token.TokenKind.TheVariants as kinds
 use Rattle.lin_parts.specs.declared.description.Number.{Number}
+use Rattle.lin_parts.specs.declared.parts.Product.{Product}
 use Rattle.lin_values.specs.Statements.{statements}
-use Rattle.lin_values.specs.declared.attribute_values.Product.{Product}
+use Rattle.lin_values.specs.Stops.{◌>>=◌, mark_next, next_to, number_next, value_read, Reading}
 
 -- ---- times: '=' DEC 'ms' ';', in microseconds
 
@@ -30,29 +31,25 @@ is_timing ts =
 -- ---- product identifications: '=' supplier ',' function [ ',' variant ] ';', of which the last is 0 if it
 -- isn't there; 0x7FFF and 0xFFFF are wildcards of requests (section 4.2.1)
 
--- INT up to a limit
-abbrev pub int_to : ℕ → List Symbol → Option (ℕ × List Symbol)
-int_to most ts =
-    int.read ts >>= λ n. if nat_le n.0.value most then Some (n.0.value, n.1) else None
+abbrev pub given_variant : List Symbol → Reading ℕ
+given_variant ts = do
+  v ← next_to 0xFF ts
+  Ok (v.0.value, v.1)
 
--- ',' INT up to a limit
-abbrev pub next_int_to : ℕ → List Symbol → Option (ℕ × List Symbol)
-next_int_to most ts = (mark kinds.Comma).read ts >>= λ u. int_to most u.1
+abbrev pub variant : List Symbol → Reading ℕ
+variant ts = if is_next kinds.Comma ts then given_variant ts else Ok (0, ts)
 
-abbrev pub variant : List Symbol → Option (ℕ × List Symbol)
-variant ts = if is_next kinds.Comma ts then next_int_to 0xFF ts else Some (0, ts)
-
-abbrev pub product_id : List Symbol → Option (Product × List Symbol)
+abbrev pub product_id : List Symbol → Reading Product
 product_id ts = do
-  u ← (mark kinds.Equals).read ts
-  s ← int_to 0x7FFE u.1
-  f ← next_int_to 0xFFFE s.1
+  u ← mark_next kinds.Equals ts
+  s ← number_next 0 0x7FFE u.1
+  f ← next_to 0xFFFE s.1
   v ← variant f.1
-  e ← (mark kinds.Semicolon).read v.1
-  Some (record { supplier = s.0; function = f.0; variant = v.0 }, e.1)
+  e ← mark_next kinds.Semicolon v.1
+  Ok (record { supplier = s.0.value; function = f.0.value; variant = v.0 }, e.1)
 
 abbrev pub product_of : List Symbol → Option Product
-product_of ts = option_map (λ r. r.0) (product_id (tail ts))
+product_of ts = value_read (product_id (tail ts))
 
 -- ---- one word: '=' WORD ';'
 

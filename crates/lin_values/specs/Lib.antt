@@ -7,6 +7,8 @@ pub mod Real
 pub mod Spelled
 pub mod Texts
 pub mod Passed
+pub mod Lines
+pub mod Stops
 pub mod Mentioned
 pub mod Coding
 pub mod Reading
@@ -22,6 +24,10 @@ pub mod Gathered
 pub mod Statements
 pub mod Attributes
 pub mod AttributeValues
+pub mod Identities
+pub mod Commands
+pub mod Requests
+pub mod Configuring
 pub mod FrameTimes
 pub mod AttributeLints
 pub mod Unknown

@@ -8,26 +8,20 @@ ghost use Rattle.lin_ldf.specs.Stream.{start_of};
 ghost use Rattle.lin_ldf.specs.Symbols.{symbols_in};
 ghost use Rattle.lin_ldf.specs.Tokens.{AreTokens};
 ghost use Rattle.lin_ldf.specs.declared.token.Token.{Token};
-ghost use Rattle.lin_values.specs.AttributeValues.{header_version, int_to, is_one_word, is_timing};
-ghost use Rattle.lin_values.specs.AttributeValues.{next_int_to, product_id, product_of, time, time_of};
+ghost use Rattle.lin_values.specs.AttributeValues.{header_version, is_one_word, is_timing};
+ghost use Rattle.lin_values.specs.AttributeValues.{product_id, product_of, time, time_of};
 ghost use Rattle.lin_values.specs.AttributeValues.{variant, version_line};
+ghost use Rattle.lin_values.specs.Stops.{Stops};
 
 use crate::attributes::Attribute;
 use crate::lines::has_line;
 use crate::statements::pass_statement;
+use crate::stops::{mark_next, next_to, number_next, value_read};
 use lin_ldf::{LdfFault, Parser, TokenKind};
+use lin_parts::Product;
 use lin_parts::description::Number;
 use lin_text::Text;
 use std::alloc::{AllocError, Global};
-
-/// A product identification: the numbers of the supplier (at most 0x7FFE), of its function (at most
-/// 0xFFFE) and of its variant (LIN 2.2A, section 9.2.2.2, product_id).
-#[derive(Clone, Copy, Debug, Drop, PartialEq, Eq)]
-pub struct Product {
-    pub supplier: u16,
-    pub function: u16,
-    pub variant: u8,
-}
 
 /// Returns what was read, or `None` if it wasn't in its form.
 fn if_read<T: Drop>(read: Result<T, LdfFault>) -> Result<Option<T>, AllocError>
@@ -51,51 +45,30 @@ fn time(parser: &mut Parser<'_>) -> Result<Number, LdfFault>
     parser.dec_in(b"ms", TokenKind::Semicolon)
 }
 
-// INT up to a limit
-fn int_to(parser: &mut Parser<'_>, most: u32) -> Result<u32, LdfFault>
-    ensures { Gives result parser.new (int_to most parser.old) }
-{
-    let place = parser.place();
-    let number = parser.int()?;
-    if number.value <= most {
-        Ok(number.value)
-    } else {
-        Err(LdfFault::Unexpected(place))
-    }
-}
-
-// ',' INT up to a limit
-fn next_int_to(parser: &mut Parser<'_>, most: u32) -> Result<u32, LdfFault>
-    ensures { Gives result parser.new (next_int_to most parser.old) }
-{
-    parser.mark(TokenKind::Comma)?;
-    int_to(parser, most)
-}
-
 // [ ',' INT up to 255 ]
-fn variant(parser: &mut Parser<'_>) -> Result<u32, LdfFault>
-    ensures { Gives result parser.new (variant parser.old) }
+fn variant(parser: &mut Parser<'_>) -> Result<u8, LdfFault>
+    ensures { Stops result parser.new (variant parser.old) }
 {
-    if parser.is_at(TokenKind::Comma) {
-        next_int_to(parser, 0xFF)
-    } else {
-        Ok(0)
+    if !parser.is_at(TokenKind::Comma) {
+        return Ok(0);
     }
+    let number = next_to(parser, 0xFF)?;
+    Ok(number.value as u8)
 }
 
-// '=' supplier ',' function [ ',' variant ] ';'
-fn product_id(parser: &mut Parser<'_>) -> Result<Product, LdfFault>
-    ensures { Gives result parser.new (product_id parser.old) }
+/// Reads `= S, F [, V] ;`, the value of `product_id`.
+pub(crate) fn product_id(parser: &mut Parser<'_>) -> Result<Product, LdfFault>
+    ensures { Stops result parser.new (product_id parser.old) }
 {
-    parser.mark(TokenKind::Equals)?;
-    let supplier = int_to(parser, 0x7FFE)?;
-    let function = next_int_to(parser, 0xFFFE)?;
+    mark_next(parser, TokenKind::Equals)?;
+    let supplier = number_next(parser, 0, 0x7FFE)?;
+    let function = next_to(parser, 0xFFFE)?;
     let variant = variant(parser)?;
-    parser.mark(TokenKind::Semicolon)?;
+    mark_next(parser, TokenKind::Semicolon)?;
     Ok(Product {
-        supplier: supplier as u16,
-        function: function as u16,
-        variant: variant as u8,
+        supplier: supplier.value as u16,
+        function: function.value as u16,
+        variant,
     })
 }
 
@@ -136,7 +109,7 @@ impl<'a> Attribute<'a> {
         ensures { IfOk result (λ product. product ≡ product_of self.now) }
     {
         let mut value = self.value();
-        if_read(product_id(&mut value))
+        value_read(product_id(&mut value))
     }
 
     /// Whether its value is one word, as `= Error ;`.
