@@ -1,16 +1,13 @@
 -- How many steps slots and lines come to at most, and plays without rules.
-use Rattle.std.proofs.Common.{◌≡◌, ◌∙◌, ℕ, suc, zero, ◌+◌, ◌*◌, ◌≤◌, nat_lt, ltb-false, Bool, true, false, not, cond, ◌||◌, sym, subst, List, [], ◌∷◌, ◌++◌, map, refl, ap, arith, length, length-append, Option, Some, None, Result, Ok, Err}
-use Rattle.std.specs.Prelude.{filter}
+use Rattle.std.proofs.Common.{◌≡◌, ◌∙◌, ℕ, suc, zero, ◌+◌, ◌*◌, ◌≤◌, nat_lt, ltb-false, Bool, true, false, cond, ◌||◌, sym, subst, List, [], ◌∷◌, ◌++◌, map, refl, ap, arith, length, length-append, Option, Some, None, Result, Ok, Err}
 use Rattle.std.specs.Option.{option_map_or}
 use Rattle.std.specs.List.{filter_map}
 use Rattle.std.proofs.lemmas.List.{length-map}
 use Rattle.std.proofs.lemmas.List.Folds.{list_any-append}
-use Rattle.std.proofs.lemmas.List.Filters.{length-filter_both}
-use Rattle.lin_frame.specs.Words.{numbers}
-use Rattle.lin_parts.specs.Cluster.{nodes, line_of}
+use Rattle.lin_parts.specs.Cluster.{line_of}
 use Rattle.lin_parts.specs.declared.parts.Parts.{Parts}
-use Rattle.lin_core.specs.Replies.{opening_events, refusal, reply}
-use Rattle.lin_core.specs.Slots.{due_nodes, is_due, next_due}
+use Rattle.lin_core.specs.Replies.{opening_events, refusal, reply, service_events}
+use Rattle.lin_core.specs.Slots.{due_nodes, is_service, next_due}
 use Rattle.lin_core.specs.declared.event.Event.TheVariants.{Due}
 use Rattle.lin_core.specs.declared.log.LogEntry.{LogEntry}
 use Rattle.lin_core.specs.declared.port.PortId.{PortId}
@@ -34,7 +31,8 @@ use Rattle.lin_bench.specs.declared.line.Line.{Line}
 use Rattle.lin_bench.specs.declared.line.Line.TheVariants as line
 use Rattle.lin_bench.specs.declared.got.Verdict.{Verdict}
 use Rattle.lin_bench.specs.declared.rules.Rules.{Rules}
-use Rattle.lin_bench.proofs.Makes.{length-last, past-longer}
+use Rattle.lin_bench.proofs.DueFew.{IsSmall, nodes-few}
+use Rattle.lin_bench.proofs.Makes.{past-longer}
 use Rattle.lin_bench.proofs.RuleLaws.{unchanged}
 use Rattle.lin_bench.proofs.Runs.{told-bench, turns-failed}
 use Rattle.lin_bench.proofs.SlotSteps.{no-slot, one-slot, slots_in-append}
@@ -43,33 +41,29 @@ use Rattle.lin_bench.proofs.SlotSteps.{no-slot, one-slot, slots_in-append}
 abbrev most_steps : ℕ
 most_steps = 19
 
--- ---- at most each node is due
-length-numbers : (n : ℕ) → length (numbers n) ≡ n
-length-numbers zero = refl
-length-numbers (suc n) = length-last (numbers n) n ∙ ap suc (length-numbers n)
-
-filter-few : {X : Type 0} (p : X → Bool) (xs : List X) → length (filter p xs) ≤ length xs
-filter-few p xs = let e = length-filter_both p (λ x. not (p x)) (λ x. refl) xs in omega (arith, e)
-
+-- ---- at most 16 nodes are due
 all-due : (xs : List ℕ) → filter_map due_node (map Due xs) ≡ xs
 all-due [] = refl
 all-due (x ∷ xs) = ap (λ l. x ∷ l) (all-due xs)
 
-due-in-few : (c : Parts) (o : ℕ) (past : List LogEntry) (why : Option Refusal) (due : List ℕ)
+told-due : (b : Bool) (xs : List ℕ) → filter_map due_node (service_events b ++ map Due xs) ≡ xs
+told-due true xs = all-due xs
+told-due false xs = all-due xs
+
+due-in-few : (c : Parts) (o : ℕ) (past : List LogEntry) (why : Option Refusal) (due : List ℕ) → IsSmall c
     → due_in (option_map_or Refused why (Done (opening_events c o past))) ≡ Some due
-    → length due ≤ nodes c
-due-in-few c o past None due h =
+    → length due ≤ 16
+due-in-few c o past None due small h =
     let at = next_due c o past in
     let entry = (line_of c at.0 at.1).entry in
     let same = ap (λ (d : Option (List ℕ)). option_map_or length d 0) h in
-    let few = filter-few (is_due c past entry) (numbers (nodes c)) in
-    omega (arith, same, ap length (all-due (due_nodes c past entry)), few, length-numbers (nodes c))
-due-in-few c o past (Some why) due h = cc
+    omega (arith, same, ap length (told-due (is_service c past entry) (due_nodes c past entry)), nodes-few c past entry small)
+due-in-few c o past (Some why) due small h = cc
 
-pub due-few : (c : Parts) (o cap : ℕ) (past : List LogEntry) (due : List ℕ)
-    → due_now c o cap past ≡ Some due → length due ≤ nodes c
+pub due-few : (c : Parts) (o cap : ℕ) (past : List LogEntry) (due : List ℕ) → IsSmall c
+    → due_now c o cap past ≡ Some due → length due ≤ 16
 unfolding reply
-due-few c o cap past due h = due-in-few c o past (refusal c cap past Bus Open) due h
+due-few c o cap past due small h = due-in-few c o past (refusal c cap past Bus Open) due small h
 
 -- ---- the steps of a slot
 pub hurt-few : (how : Disturbance) → length (hurt_steps how) ≤ 1
@@ -85,17 +79,17 @@ rest-few how due =
     let f = length-append (hurt_steps how) last in
     omega (arith, e, f, length-map due (decision how), hurt-few how)
 
-opened-few : (c : Parts) (how : Disturbance) (due : Option (List ℕ)) → nodes c ≤ 16
-    → ((some : List ℕ) → due ≡ Some some → length some ≤ nodes c)
+opened-few : (how : Disturbance) (due : Option (List ℕ))
+    → ((some : List ℕ) → due ≡ Some some → length some ≤ 16)
     → length ((Bus, Open) ∷ slot_rest how due) ≤ most_steps
-opened-few c how None few each = omega arith
-opened-few c how (Some due) few each = omega (arith, rest-few how due, each due refl, few)
+opened-few how None each = omega arith
+opened-few how (Some due) each = omega (arith, rest-few how due, each due refl)
 
-pub slot-few : (c : Parts) (o cap : ℕ) (how : Disturbance) (past : List LogEntry) → nodes c ≤ 16
+pub slot-few : (c : Parts) (o cap : ℕ) (how : Disturbance) (past : List LogEntry) → IsSmall c
     → length (slot_steps c o cap how past) ≤ most_steps
 unfolding slot_steps
 slot-few c o cap how past few =
-    opened-few c how (due_now c o cap past) few (λ due h. due-few c o cap past due h)
+    opened-few how (due_now c o cap past) (λ due h. due-few c o cap past due few h)
 
 refused-one : (how : Disturbance) (due : Option (List ℕ)) → is_opened due ≡ false
     → length ((Bus, Open) ∷ slot_rest how due) ≤ 1
@@ -128,7 +122,7 @@ turn-at-most true false one rest n ends shut more =
     let none : List (PortId × Step) = [] in omega (arith, slots_in-append one none, shut refl)
 
 slots-few : (c : Parts) (o cap : ℕ) (how : Disturbance) (goes : Course → Bool) (n : ℕ)
-    (at : Course) → nodes c ≤ 16
+    (at : Course) → IsSmall c
     → length (slots_steps c o cap how goes n at)
     ≤ most_steps * slots_in (slots_steps c o cap how goes n at) + 1
 unfolding slots_steps
@@ -150,7 +144,7 @@ slots-at-most c o cap how goes (suc n) at =
     turn-at-most (goes at) (is_opened (due_now c o cap at.past)) one (slots_steps c o cap how goes n (after c o cap at one)) n
     (λ h. one-slot c o cap how at.past h) (λ h. no-slot c o cap how at.past h) (slots-at-most c o cap how goes n (after c o cap at one))
 
-said-few : (c : Parts) (o cap : ℕ) (limit : Extent → ℕ) (b : BenchState) (l : Line) → nodes c ≤ 16
+said-few : (c : Parts) (o cap : ℕ) (limit : Extent → ℕ) (b : BenchState) (l : Line) → IsSmall c
     → length (said c o cap limit b l) ≤ most_steps * slots_made l (said c o cap limit b l) + 1
 unfolding said extent_steps
 said-few c o cap limit b (line.Step by step) few = omega arith
@@ -203,7 +197,7 @@ within-few c o cap b count steps first what false none h all some =
     let few : count ≤ b.left = ltb-false b.left count h in
     rw h (judged-few c o (stepped c o cap b count steps) what (still_to_come b + 1) (stepped-few c o cap b count steps none few all))
 
-steps-few : (c : Parts) (o cap : ℕ) (b : BenchState) (l : Line) → nodes c ≤ 16 → b.rules ≡ no_rules
+steps-few : (c : Parts) (o cap : ℕ) (b : BenchState) (l : Line) → IsSmall c → b.rules ≡ no_rules
     → IsFew (made_within c o cap b (slots_made l (said c o cap most b l)) (said c o cap most b l) (said c o cap (λ e. b.left) b l) (expects l)).0 (still_to_come b + 1)
 steps-few c o cap b l few none =
     let all = said c o cap most b l in
@@ -213,7 +207,7 @@ steps-few c o cap b l few none =
     (let e = said-few c o cap (λ e. b.left) b l few in omega (arith, e, first-few c o cap b.left b l))
 
 -- it grows by one at a line
-made-few : (c : Parts) (o cap : ℕ) (b : BenchState) (l : Line) → nodes c ≤ 16 → b.rules ≡ no_rules → is_rule l ≡ false
+made-few : (c : Parts) (o cap : ℕ) (b : BenchState) (l : Line) → IsSmall c → b.rules ≡ no_rules → is_rule l ≡ false
     → IsFew (made c o cap b l).0 (still_to_come b + 1)
 unfolding made
 made-few c o cap b line.Forget few none h = record { rules = none; few = omega arith }
@@ -243,7 +237,7 @@ turn-few-by c o cap b end m l ls (Err n) more h is e = let no : Err n ≡ Ok end
 more-few : (b : BenchState) (m n : ℕ) → IsFew b m → m ≤ n → IsFew b n
 more-few b m n h le = record { rules = h.rules; few = omega (arith, h.few, le) }
 
-turns-few : (c : Parts) (o cap : ℕ) (b end : BenchState) (m : ℕ) (ls : List (ℕ × Line)) → nodes c ≤ 16 → has_rule ls ≡ false → IsFew b m
+turns-few : (c : Parts) (o cap : ℕ) (b end : BenchState) (m : ℕ) (ls : List (ℕ × Line)) → IsSmall c → has_rule ls ≡ false → IsFew b m
     → in_turn c o cap (Ok b) ls ≡ Ok end → IsFew end (m + length ls)
 turns-few c o cap b end m [] few none h e =
     let same : b ≡ end = cc in
@@ -255,7 +249,7 @@ turns-few c o cap b end m (l ∷ ls) few none h e =
     more-few end (m + 1 + length ls) (m + length (l ∷ ls)) all (omega arith)
 
 -- lines without a rule never fill a log
-never-full : (c : Parts) (o cap : ℕ) (ls : List (ℕ × Line)) → nodes c ≤ 16 → length ls ≤ 16777217 → has_rule ls ≡ false → Overfills c o cap ls → ⊥
+never-full : (c : Parts) (o cap : ℕ) (ls : List (ℕ × Line)) → IsSmall c → length ls ≤ 16777217 → has_rule ls ≡ false → Overfills c o cap ls → ⊥
 never-full c o cap ls few short none f =
     let parts =
     neither (has_rule f.before) (has_rule (f.line ∷ f.behind))
@@ -267,11 +261,11 @@ never-full c o cap ls few short none f =
     let all = ap length f.all ∙ length-append f.before (f.line ∷ f.behind) in
     omega (arith, so_far.few, line.few, all, short, f.full)
 
-full-by : (c : Parts) (o cap : ℕ) (ls : List (ℕ × Line)) (t : Bool) → has_rule ls ≡ t → nodes c ≤ 16 → length ls ≤ 16777217 → Overfills c o cap ls → has_rule ls ≡ true
+full-by : (c : Parts) (o cap : ℕ) (ls : List (ℕ × Line)) (t : Bool) → has_rule ls ≡ t → IsSmall c → length ls ≤ 16777217 → Overfills c o cap ls → has_rule ls ≡ true
 full-by c o cap ls true h few short f = h
 full-by c o cap ls false h few short f = absurd (never-full c o cap ls few short h f)
 
-pub full-by-rule : (strict : Bool) (c : Parts) (o cap : ℕ) (ls : List (ℕ × Line)) (fault : PlayFault) → nodes c ≤ 16 → PlayFails strict c o cap ls fault → length ls ≤ 16777217
+pub full-by-rule : (strict : Bool) (c : Parts) (o cap : ℕ) (ls : List (ℕ × Line)) (fault : PlayFault) → IsSmall c → PlayFails strict c o cap ls fault → length ls ≤ 16777217
     → IsLogFull (Err fault) → has_rule ls ≡ true
 full-by-rule strict c o cap ls (SlotLimit n) few fails short full = absurd full
 full-by-rule strict c o cap ls LogFull few fails short full = full-by c o cap ls (has_rule ls) refl few short fails

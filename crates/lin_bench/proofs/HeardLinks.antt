@@ -44,14 +44,14 @@ one-put true true f x = refl
 one-put true false f x = refl
 one-put false v f x = refl
 
-pub good-down : (c : Parts) (n : ℕ) (s : Slot) (b : List ℕ) → good s ≡ Some b → (g : IsGoodSlot s.header s.puts b)
+pub good-down : (c : Parts) (n : ℕ) (s : Slot) (b : List ℕ) → s.service ≡ false → good s ≡ Some b → (g : IsGoodSlot s.header s.puts b)
     → is_good_on c (link_at n Down) s ≡ cond (g.header == 0x3C) (option_map_or (λ k. looks_at (record { nad = k; all = true }) (slice_index b 0)) (nad c n) false) false
-good-down c n s b e g =
-    rw (e, g.header_is, g.puts_are) (one-put (g.header == 0x3C) (option_map_or (λ k. looks_at (record { nad = k; all = true }) (slice_index b 0)) (nad c n) false) _ (g.node, b))
+good-down c n s b plain e g =
+    rw (plain, e, g.header_is, g.puts_are) (one-put (g.header == 0x3C) (option_map_or (λ k. looks_at (record { nad = k; all = true }) (slice_index b 0)) (nad c n) false) _ (g.node, b))
 
-pub good-up : (c : Parts) (n : ℕ) (s : Slot) (b : List ℕ) → good s ≡ Some b → (g : IsGoodSlot s.header s.puts b)
+pub good-up : (c : Parts) (n : ℕ) (s : Slot) (b : List ℕ) → s.service ≡ false → good s ≡ Some b → (g : IsGoodSlot s.header s.puts b)
     → is_good_on c (link_at n Up) s ≡ cond (g.header == 0x7D) (g.node == n) false
-good-up c n s b e g = rw (e, g.header_is, g.puts_are) (one-put (g.header == 0x7D) (g.node == n) _ (g.node, b))
+good-up c n s b plain e g = rw (plain, e, g.header_is, g.puts_are) (one-put (g.header == 0x7D) (g.node == n) _ (g.node, b))
 
 -- ---- what the finish of an open slot is answered
 pub finish-done : (c : Parts) (o cap : ℕ) (past : List LogEntry) (by : PortId) (s : Slot) → open_slot past ≡ Some s → may by Finish ≡ true

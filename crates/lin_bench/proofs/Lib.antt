@@ -22,6 +22,7 @@ pub mod Runs
 pub mod Stricts
 pub mod Steps
 pub mod RuleLaws
+pub mod DueFew
 pub mod Few
 pub mod Benches
 pub mod Rows

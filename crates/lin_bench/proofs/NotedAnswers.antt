@@ -15,41 +15,40 @@ use Rattle.lin_core.specs.declared.step.Step.{Step}
 use Rattle.lin_core.specs.declared.step.Step.TheVariants.{Finish}
 use Rattle.lin_bench.specs.Added.{noted_by, noted_now, send_of, went_to_all}
 use Rattle.lin_bench.specs.Adding.{HasFinished, good_in}
-use Rattle.lin_bench.specs.Rules.{all_noted, is_due_at, kept_at, notes_for, sent_at}
+use Rattle.lin_bench.specs.Rules.{all_noted, is_due_at, kept_at, notes_for, sent_at, serving}
 use Rattle.lin_bench.specs.declared.rules.Noted.{Noted}
 use Rattle.lin_bench.specs.declared.rules.Rules.{Rules}
-use Rattle.lin_bench.specs.declared.rules.When.{When}
 use Rattle.lin_bench.proofs.Makes.{append-nothing}
 use Rattle.lin_bench.proofs.HeardLinks.{finished-slot, good-told}
 
 abbrev pub finish_of : CoreData → List LogEntry → PortId → LogEntry
 finish_of core past by = entry_of core.cluster core.opening core.capacity past (by, Finish)
 
-to-all : (core : CoreData) (by : PortId) (past : List LogEntry) (s : Slot) (whens : List When) (b : Bool) → HasFinished core by past s
+to-all : (core : CoreData) (by : PortId) (past : List LogEntry) (s : Slot) (rules : Rules) (b : Bool) → HasFinished core by past s
     → option_map_or (λ bytes. slice_index bytes 0 == functional) (good_in (events (finish_of core past by))) false ≡ b
-    → noted_now core.cluster whens (finish_of core past by) past
-    ≡ cond b [] (flat_map (notes_for whens (time core.cluster (finish_of core past by ∷ past))) (events (finish_of core past by)))
-to-all core by past s whens b fin went =
+    → noted_now core.cluster rules (finish_of core past by) past
+    ≡ cond b [] (flat_map (notes_for (serving core.cluster rules.services) rules.whens (time core.cluster (finish_of core past by ∷ past))) (events (finish_of core past by)))
+to-all core by past s rules b fin went =
     let good = good-told core.cluster core.opening core.capacity past by s fin.slot fin.may in
     let slot = finished-slot core.cluster core.opening core.capacity past by s fin.slot fin.may in
     let went-is = rw good at went in
-    ap (λ o. cond (option_map_or went_to_all o false) [] (flat_map (notes_for whens (time core.cluster (finish_of core past by ∷ past))) (events (finish_of core past by)))) slot
-    ∙ ap (λ t. cond t [] (flat_map (notes_for whens (time core.cluster (finish_of core past by ∷ past))) (events (finish_of core past by)))) went-is
+    ap (λ o. cond (option_map_or went_to_all o false) [] (flat_map (notes_for (serving core.cluster rules.services) rules.whens (time core.cluster (finish_of core past by ∷ past))) (events (finish_of core past by)))) slot
+    ∙ ap (λ t. cond t [] (flat_map (notes_for (serving core.cluster rules.services) rules.whens (time core.cluster (finish_of core past by ∷ past))) (events (finish_of core past by)))) went-is
 
 -- what goes to all is answered by nothing
 pub noted-none : (core : CoreData) (by : PortId) (past : List LogEntry) (s : Slot) (rules : Rules) → HasFinished core by past s
     → option_map_or (λ bytes. slice_index bytes 0 == functional) (good_in (events (finish_of core past by))) false ≡ true
     → rules ≡ record rules { noted = noted_by core.cluster (finish_of core past by) past rules }
 noted-none core by past s rules fin went =
-    ap (λ l. record rules { noted = all_noted rules.noted l }) (sym (to-all core by past s rules.whens true fin went))
+    ap (λ l. record rules { noted = all_noted rules.noted l }) (sym (to-all core by past s rules true fin went))
 
 pub noted-some : (core : CoreData) (by : PortId) (past : List LogEntry) (s : Slot) (rules : Rules) (noted : List Noted) → HasFinished core by past s
     → option_map_or (λ bytes. slice_index bytes 0 == functional) (good_in (events (finish_of core past by))) false ≡ false
-    → noted ≡ all_noted rules.noted (flat_map (notes_for rules.whens (time core.cluster (past_of core))) (events (finish_of core past by)))
+    → noted ≡ all_noted rules.noted (flat_map (notes_for (serving core.cluster rules.services) rules.whens (time core.cluster (past_of core))) (events (finish_of core past by)))
     → record rules { noted = noted } ≡ record rules { noted = noted_by core.cluster (finish_of core past by) past rules }
 noted-some core by past s rules noted fin went is =
     let is-so = rw fin.newest at is in
-    ap (λ l. record rules { noted = l }) (is-so ∙ ap (all_noted rules.noted) (sym (to-all core by past s rules.whens false fin went)))
+    ap (λ l. record rules { noted = l }) (is-so ∙ ap (all_noted rules.noted) (sym (to-all core by past s rules false fin went)))
 
 pub where-ok : {T E P Q : Type 0} (r : Result T E) → (P → Q) → OnOk r P → OnOk r Q
 where-ok (Ok x) f p = f p

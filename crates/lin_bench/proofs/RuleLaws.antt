@@ -1,5 +1,5 @@
 -- What rules add, and what they leave alone.
-use Rattle.std.proofs.Common.{◌≡◌, ℕ, nat_lt, Bool, true, false, List, [], ◌∷◌, flat_map, refl, arith, is_some, cond}
+use Rattle.std.proofs.Common.{◌≡◌, ℕ, nat_lt, Bool, true, false, List, [], ◌∷◌, flat_map, refl, arith, is_some, cond, None}
 use Rattle.std.proofs.lemmas.Grind.{common_steps}
 use Rattle.std.specs.Option.{option_map_or}
 use Rattle.lin_parts.specs.declared.parts.Parts.{Parts}
@@ -22,7 +22,7 @@ nothing-or : {A : Type 0} (b : Bool) (xs : List A) → xs ≡ [] → cond b xs [
 nothing-or true xs e = e
 nothing-or false xs e = refl
 
-notes-nothing : (t : ℕ) (e : Event) → notes_for [] t e ≡ []
+notes-nothing : (t : ℕ) (e : Event) → notes_for None [] t e ≡ []
 notes-nothing t (event.Accepted host number) = refl
 notes-nothing t (event.Slot table entry header) = refl
 notes-nothing t event.Service = refl
@@ -34,11 +34,11 @@ notes-nothing t (event.Sent host number) = refl
 notes-nothing t (event.Lost host number cause) = refl
 notes-nothing t event.Asleep = refl
 
-all-nothing : (t : ℕ) (es : List Event) → flat_map (notes_for [] t) es ≡ []
+all-nothing : (t : ℕ) (es : List Event) → flat_map (notes_for None [] t) es ≡ []
 all-nothing t [] = refl
 all-nothing t (e ∷ es) = rw (notes-nothing t e) (all-nothing t es)
 
-noted-nothing : (c : Parts) (e : LogEntry) (past : List LogEntry) → noted_now c [] e past ≡ []
+noted-nothing : (c : Parts) (e : LogEntry) (past : List LogEntry) → noted_now c no_rules e past ≡ []
 noted-nothing c e past = either-nothing (option_map_or went_to_all (finished_slot e past) false) _ (all-nothing (time c (e ∷ past)) (events e))
 
 after-nothing : (c : Parts) (e : LogEntry) (past : List LogEntry) → added_after c e past no_rules ≡ []

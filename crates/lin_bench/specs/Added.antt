@@ -18,11 +18,10 @@ use Rattle.lin_core.specs.declared.port.PortId.TheVariants.{Bus, Host}
 use Rattle.lin_core.specs.declared.step.Step.{Step}
 use Rattle.lin_core.specs.declared.step.Step.TheVariants.{Send, Timeout}
 use Rattle.lin_bench.specs.Errors.{errors_told}
-use Rattle.lin_bench.specs.Rules.{all_noted, kept_at, notes_for, sent_at}
+use Rattle.lin_bench.specs.Rules.{all_noted, kept_at, notes_for, sent_at, serving}
 use Rattle.lin_bench.specs.declared.rules.Noted.{Noted}
 use Rattle.lin_bench.specs.declared.rules.Repeated.{Repeated}
 use Rattle.lin_bench.specs.declared.rules.Rules.{Rules}
-use Rattle.lin_bench.specs.declared.rules.When.{When}
 
 -- ---- transfers that are given up (ISO 17987-2, N_As and N_Cr)
 -- a slot was seen good and put a frame on a link
@@ -60,14 +59,14 @@ timeouts c past (Some ms) = map timeout_of (filter (is_given_up c past ms) (link
 abbrev pub went_to_all : Slot → Bool
 went_to_all s = option_map_or (λ bytes. slice_index bytes 0 == functional) (good s) false
 
-abbrev pub noted_now : Parts → List When → LogEntry → List LogEntry → List Noted
-noted_now c whens e past =
+abbrev pub noted_now : Parts → Rules → LogEntry → List LogEntry → List Noted
+noted_now c rules e past =
     if option_map_or went_to_all (finished_slot e past) false then []
-    else flat_map (notes_for whens (time c (e ∷ past))) (events e)
+    else flat_map (notes_for (serving c rules.services) rules.whens (time c (e ∷ past))) (events e)
 
 -- all answers that are noted, with those to the messages of a finish
 abbrev pub noted_by : Parts → LogEntry → List LogEntry → Rules → List Noted
-noted_by c e past rules = all_noted rules.noted (noted_now c rules.whens e past)
+noted_by c e past rules = all_noted rules.noted (noted_now c rules e past)
 
 abbrev pub send_of : Noted → PortId × Step
 send_of n = (Host n.node, Send n.node 0 n.bytes)

@@ -11,7 +11,7 @@ use Rattle.lin_log.specs.Said.{is_port, port_step, step_form}
 use Rattle.lin_log.specs.declared.reason.Reason.TheVariants.{Takes}
 use Rattle.lin_bench.specs.Fields.{◌>>=◌, bytes_fields, count_field, fields, node_field, of_step}
 use Rattle.lin_bench.specs.Expectations.{expectation, until_form, while_form}
-use Rattle.lin_bench.specs.RuleLines.{errors_form, every_form, timeouts_form, when_form}
+use Rattle.lin_bench.specs.RuleLines.{errors_form, every_form, services_form, timeouts_form, when_form}
 use Rattle.lin_bench.specs.declared.reason.Reason.{Reason}
 use Rattle.lin_bench.specs.declared.reason.Reason.TheVariants.{Step, SlotsForm, SlotForm}
 use Rattle.lin_bench.specs.declared.reason.Reason.TheVariants.{LeaveForm, SlotsLeaveForm}
@@ -129,6 +129,8 @@ line_form c word fs =
     else if bytes_eq word (codes "timeouts")
     then timeouts_form fs >>= (λ rule. Ok (line.Rule rule))
     else if bytes_eq word (codes "every") then every_form c fs >>= (λ rule. Ok (line.Rule rule))
+    else if bytes_eq word (codes "services")
+    then services_form c fs >>= (λ rule. Ok (line.Rule rule))
     else if bytes_eq word (codes "response_errors")
     then errors_form c fs >>= (λ rule. Ok (line.Rule rule))
     else of_step (step_form (named c) word fs) >>= (λ step. Ok (line.Step Bus step))

@@ -22,6 +22,7 @@ use Rattle.lin_bench.specs.declared.reason.Reason.{Reason}
 use Rattle.lin_bench.specs.declared.reason.Reason.TheVariants.{Step as BadStep, WhenForm, NoResponder}
 use Rattle.lin_bench.specs.declared.reason.Reason.TheVariants.{NoPattern, TimeoutsForm, EveryForm}
 use Rattle.lin_bench.specs.declared.reason.Reason.TheVariants.{EveryStep, ErrorsForm, NoErrorSignal}
+use Rattle.lin_bench.specs.declared.reason.Reason.TheVariants.{NoServices, ServicesForm}
 use Rattle.lin_bench.specs.declared.reason.Reason.TheVariants.{LongAnswer, WideErrorSignal}
 use Rattle.lin_bench.specs.declared.rules.Answer.{Answer}
 use Rattle.lin_bench.specs.declared.rules.Part.{Part}
@@ -241,3 +242,13 @@ errors_form c fs =
     if is_only (codes "on") fs then errors_on c c.errors
     else if is_only (codes "off") fs then Ok (rule.Errors false)
     else Err ErrorsForm
+
+-- ---- `services`: on, where responders have an address
+abbrev pub services_on : Parts → Result Rule Reason
+services_on c = if length c.identities == 0 then Err NoServices else Ok (rule.Services true)
+
+unfoldable pub services_form : Parts → List (List ℕ) → Result Rule Reason
+services_form c fs =
+    if is_only (codes "on") fs then services_on c
+    else if is_only (codes "off") fs then Ok (rule.Services false)
+    else Err ServicesForm

@@ -1,11 +1,13 @@
 -- Rules of bench scripts: which messages a responder answers by itself, and with what. A rule is in
 -- force for the lines after its own.
 use Rattle.std.specs.Prelude.{ℕ, ◌==◌, ◌+◌, ◌*◌, ◌&&◌, Bool, true, false, not, nat_le, if◌then◌else◌}
-use Rattle.std.specs.Prelude.{List, [], ◌∷◌, ◌++◌, filter, find, length, slice_get, zip}
-use Rattle.std.specs.Prelude.{Option, Some, None, option_map}
+use Rattle.std.specs.Prelude.{List, [], ◌∷◌, ◌++◌, drop, filter, find, length, slice_get, slice_index}
+use Rattle.std.specs.Prelude.{take, zip, Option, Some, None, option_and_then, option_map}
 use Rattle.std.specs.List.{list_all}
 use Rattle.std.specs.Cmp.Lexicographic.{pointwise}
 use Rattle.std.specs.Option.{option_map_or}
+use Rattle.lin_parts.specs.Cluster.{nad, response_of}
+use Rattle.lin_parts.specs.declared.parts.Parts.{Parts}
 use Rattle.lin_core.specs.declared.event.Event.{Event}
 use Rattle.lin_core.specs.declared.event.Event.TheVariants.{Message}
 use Rattle.lin_bench.specs.declared.rules.Answer.{Answer}
@@ -19,7 +21,7 @@ use Rattle.lin_bench.specs.declared.rules.Rules.{Rules}
 use Rattle.lin_bench.specs.declared.rules.When.{When}
 
 abbrev pub no_rules : Rules
-no_rules = record { whens = []; limit_ms = None; everies = []; errors = false; noted = [] }
+no_rules = record { whens = []; limit_ms = None; everies = []; errors = false; services = false; noted = [] }
 
 -- ---- patterns
 abbrev pub fits_byte : Option ℕ → ℕ → Bool
@@ -65,13 +67,52 @@ notes time node message (a ∷ more) =
     let at = time + 1000 * a.wait_ms
     in note_of at node (answer_bytes message a.parts) ++ notes at node message more
 
--- what is noted of an event at a time: the answers to a message from host 0
-abbrev pub notes_for : List When → ℕ → Event → List Noted
-notes_for whens time (Message from to message) =
+-- ---- services of node configuration (LIN 2.2A, section 4.2)
+-- the request that a message of one to six bytes is to a node with this NAD: a service identifier and its
+-- data, FF in place of those that are missing
+abbrev pub request_byte : List ℕ → ℕ → ℕ
+request_byte message k = option_map_or (λ b. b) (slice_get message k) 0xFF
+
+abbrev pub request_of : ℕ → List ℕ → List ℕ
+request_of own message =
+    own ∷ length message ∷ request_byte message 0 ∷ request_byte message 1 ∷ request_byte message 2
+    ∷ request_byte message 3 ∷ request_byte message 4 ∷ request_byte message 5 ∷ []
+
+-- the service identifier and the data of a response by the configured NAD
+abbrev pub data_by : ℕ → List ℕ → Option (List ℕ)
+data_by own response =
+    if slice_index response 0 == own then Some (take (slice_index response 1) (drop 2 response)) else None
+
+-- what a node responds to a message by itself
+abbrev pub service_data : Parts → ℕ → ℕ → List ℕ → Option (List ℕ)
+service_data c node own message =
+    option_and_then
+    (λ i. option_and_then (data_by own) (response_of c i (request_of own message)))
+    (find (λ i. i.node == node) c.identities)
+
+abbrev pub service_answer : Parts → ℕ → List ℕ → Option (List ℕ)
+service_answer c node message =
+    if nat_le 1 (length message) && nat_le (length message) 6
+    then option_and_then (λ own. service_data c node own message) (nad c node) else None
+
+-- the cluster whose responders respond so, if they do
+abbrev pub serving : Parts → Bool → Option Parts
+serving c is_on = if is_on then Some c else None
+
+abbrev pub service_notes : Option Parts → ℕ → ℕ → List ℕ → List Noted
+service_notes None time node message = []
+service_notes (Some c) time node message = note_of time node (service_answer c node message)
+
+-- what is noted of an event at a time: the answers to a message from host 0, by the rule for it, failing
+-- that by the node itself
+abbrev pub notes_for : Option Parts → List When → ℕ → Event → List Noted
+notes_for served whens time (Message from to message) =
     if from == 0
-    then option_map_or (λ w. notes time to message w.answers) (rule_for whens to message) []
+    then option_map_or
+    (λ w. notes time to message w.answers) (rule_for whens to message)
+    (service_notes served time to message)
     else []
-notes_for whens time event = []
+notes_for served whens time event = []
 
 -- noted answers stand by their time, and those of one time as they were noted
 abbrev pub noted_with : List Noted → Noted → List Noted
@@ -119,3 +160,4 @@ ruled time rules (rule.Every every) =
     record rules { everies = rules.everies ++ record { began = time; every = every } ∷ [] }
 ruled time rules rule.EveryOff = record rules { everies = [] }
 ruled time rules (rule.Errors on) = record rules { errors = on }
+ruled time rules (rule.Services on) = record rules { services = on }

@@ -124,6 +124,8 @@ reason_words reason.LongAnswer = Fixed (codes "answer has more than 4095 bytes")
 reason_words reason.TimeoutsForm = Fixed (codes "usage: timeouts N ms or timeouts off") ∷ []
 reason_words reason.EveryForm = Fixed (codes "usage: every N ms STEP or every off") ∷ []
 reason_words reason.EveryStep = Fixed (codes "every accepts only send and write") ∷ []
+reason_words reason.ServicesForm = Fixed (codes "usage: services on or services off") ∷ []
+reason_words reason.NoServices = Fixed (codes "no responder answers services") ∷ []
 reason_words reason.ErrorsForm =
     Fixed (codes "usage: response_errors on or response_errors off") ∷ []
 reason_words reason.NoErrorSignal = Fixed (codes "no responder has a response_error signal") ∷ []

@@ -168,7 +168,7 @@ last_slot (e ∷ past) = if did is_finish e then open_slot past else last_slot p
 abbrev pub carried_for : Parts → Entry → Slot → Option Carried
 carried_for c MasterReq s = Some RequestFrame
 carried_for c SlaveResp s = Some Response
-carried_for c (Fixed request) s = Some Request
+carried_for c (Fixed request) s = Some RequestFrame
 carried_for c entry s = option_map Signals (carried_by c entry s)
 
 abbrev pub carried : Parts → Slot → Option Carried

@@ -1,15 +1,19 @@
 //! What rules answer to messages.
 
-ghost use Rattle.std.specs.Prelude.{◌≡◌, ◌==◌, ◌<◌, ◌^◌, ◌&&◌, ℕ, flat_map};
-ghost use Rattle.std.specs.Prelude.{IfOk, OnOk, Option, option_map, position, zip};
+ghost use Rattle.std.specs.Prelude.{◌≡◌, ◌==◌, ◌<◌, ◌≤◌, ◌^◌, ◌&&◌, ℕ, flat_map, length};
+ghost use Rattle.std.specs.Prelude.{IfOk, IfSome, OnOk, find, Option, option_map, position, zip};
 ghost use Rattle.std.specs.Cmp.Lexicographic.{pointwise};
 ghost use Rattle.std.specs.List.{list_all};
+ghost use Rattle.std.specs.Option.{option_copied};
+ghost use Rattle.lin_parts.specs.Cluster.{nodes};
 ghost use Rattle.lin_bench.specs.Rules.{all_noted, answer_bytes, fits, fits_byte, has_length, noted_with, notes};
 ghost use Rattle.lin_bench.specs.Rules.{notes_for, part_byte, rule_for, same_byte, same_pattern};
-ghost use Rattle.lin_bench.specs.Rules.{whens_with};
+ghost use Rattle.lin_bench.specs.Rules.{data_by, request_byte, request_of, service_answer};
+ghost use Rattle.lin_bench.specs.Rules.{service_data, service_notes, whens_with};
 
 use crate::rules::{Answer, Noted, Part, Pattern, When};
 use lin_core::{Event, Payload};
+use lin_parts::{Cluster, Identity};
 use lin_text::Many;
 use std::alloc::{AllocError, Global};
 
@@ -126,21 +130,136 @@ fn note_answers(
     Ok(())
 }
 
+/// Returns a byte of a message; FF if it isn't there.
+fn request_byte(message: &[u8], k: usize) -> u8
+    ensures { result ≡ request_byte message.now k }
+{
+    match message.get(k) {
+        Some(byte) => *byte,
+        None => 0xFF,
+    }
+}
+
+/// Returns the request that a message of at most six bytes is to a node with this NAD.
+fn request_of(nad: u8, message: &[u8]) -> [u8; 8]
+    requires { length message.now ≤ 6 }
+    ensures { result ≡ request_of nad message.now }
+{
+    [
+        nad,
+        message.len() as u8,
+        request_byte(message, 0),
+        request_byte(message, 1),
+        request_byte(message, 2),
+        request_byte(message, 3),
+        request_byte(message, 4),
+        request_byte(message, 5),
+    ]
+}
+
+/// Returns the service identifier and the data of a response, if it is by this NAD.
+fn data_by(alloc: Global, nad: u8, response: &[u8; 8]) -> Result<Option<Payload>, AllocError>
+    ensures { IfOk result (λ found. found ≡ data_by nad response.now) }
+{
+    if response[0] != nad {
+        return Ok(None);
+    }
+    let end = 2 + usize::from(response[1]).min(6);
+    Ok(Some(Payload::copied(alloc, &response[2..end])?))
+}
+
+/// Returns what is known of a node.
+fn identity_of(cluster: &Cluster, node: u8) -> Option<&Identity>
+    ensures known { option_copied result ≡ find (λ i. i.node == node) cluster.now.identities }
+    ensures there { IfSome result (λ i. i.now.node < nodes cluster.now) }
+{
+    cluster
+        .identities()
+        .iter()
+        .find(|identity| identity.node == node)
+}
+
+/// Returns what a node with this NAD responds to a message of at most six bytes by itself.
+fn service_data(
+    alloc: Global,
+    cluster: &Cluster,
+    node: u8,
+    nad: u8,
+    message: &[u8],
+) -> Result<Option<Payload>, AllocError>
+    requires { length message.now ≤ 6 }
+    ensures { IfOk result (λ found. found ≡ service_data cluster.now node nad message.now) }
+{
+    let Some(identity) = identity_of(cluster, node) else {
+        return Ok(None);
+    };
+    match cluster.response_of(identity, &request_of(nad, message)) {
+        Some(response) => data_by(alloc, nad, &response),
+        None => Ok(None),
+    }
+}
+
+/// Returns what a node responds to a message by itself.
+fn service_answer(
+    alloc: Global,
+    cluster: &Cluster,
+    node: u8,
+    message: &[u8],
+) -> Result<Option<Payload>, AllocError>
+    requires { node < nodes cluster.now }
+    ensures { IfOk result (λ found. found ≡ service_answer cluster.now node message.now) }
+{
+    if message.is_empty() || message.len() > 6 {
+        return Ok(None);
+    }
+    match cluster.nad(node) {
+        Some(nad) => service_data(alloc, cluster, node, nad, message),
+        None => Ok(None),
+    }
+}
+
+/// Notes what a node responds to a message by itself, where the responders of a cluster do so.
+fn note_service(
+    alloc: Global,
+    noted: &mut Many<Noted>,
+    served: Option<&Cluster>,
+    time: u64,
+    node: u8,
+    message: &[u8],
+) -> Result<(), AllocError>
+    ensures { OnOk result (noted.new ≡ all_noted noted.old
+        (service_notes (option_copied served.entry) time node message.now)) }
+{
+    let Some(cluster) = served else {
+        return Ok(());
+    };
+    if usize::from(node) >= cluster.nodes() {
+        return Ok(());
+    }
+    if let Some(bytes) = service_answer(alloc, cluster, node, message)? {
+        let time = u128::from(time);
+        note(noted, Noted { time, node, bytes })?;
+    }
+    Ok(())
+}
+
 /// Notes what is answered to an event.
 fn note_event(
     alloc: Global,
     noted: &mut Many<Noted>,
     whens: &[When],
+    served: Option<&Cluster>,
     time: u64,
     event: &Event,
 ) -> Result<(), AllocError>
-    ensures { OnOk result (noted.new ≡ all_noted noted.old (notes_for whens.now time event.now)) }
+    ensures { OnOk result (noted.new ≡ all_noted noted.old
+        (notes_for (option_copied served.entry) whens.now time event.now)) }
 {
     match event {
         Event::Message { from, to, bytes } if *from == 0 => {
             let message = bytes.as_slice();
             match rule_for(whens, *to, message) {
-                None => Ok(()),
+                None => note_service(alloc, noted, served, time, *to, message),
                 Some(when) => {
                     let answers = when.answers.as_slice();
                     note_answers(alloc, noted, u128::from(time), *to, message, answers)
@@ -156,14 +275,16 @@ pub(crate) fn note_events(
     alloc: Global,
     noted: &mut Many<Noted>,
     whens: &[When],
+    served: Option<&Cluster>,
     time: u64,
     events: &[Event],
 ) -> Result<(), AllocError>
     ensures { OnOk result
-        (noted.new ≡ all_noted noted.old (flat_map (notes_for whens.now time) events.now)) }
+        (noted.new ≡ all_noted noted.old
+        (flat_map (notes_for (option_copied served.entry) whens.now time) events.now)) }
 {
     for event in events {
-        note_event(alloc, noted, whens, time, event)?;
+        note_event(alloc, noted, whens, served, time, event)?;
     }
     Ok(())
 }

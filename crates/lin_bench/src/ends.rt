@@ -69,9 +69,11 @@ impl Ends {
         node: Option<u8>,
         bytes: &[u8],
     )
-        ensures down { (s : Slot) → good s ≡ Some bytes.now → header_and_first s ≡ (header, node)
+        ensures down { (s : Slot) → s.service ≡ false → good s ≡ Some bytes.now
+            → header_and_first s ≡ (header, node)
             → IsHeard cluster.now time s Down self.old.downs self.new.downs }
-        ensures up { (s : Slot) → good s ≡ Some bytes.now → header_and_first s ≡ (header, node)
+        ensures up { (s : Slot) → s.service ≡ false → good s ≡ Some bytes.now
+            → header_and_first s ≡ (header, node)
             → IsHeard cluster.now time s Up self.old.ups self.new.ups }
     {
         match (header, node) {
@@ -86,11 +88,11 @@ impl Ends {
     }
 
     /// Keeps when the slot ended whose finish is the newest step of a core, where it was done and the
-    /// slot was seen good: one with this header, in which this node answered first.
+    /// slot was seen good: one with this header, in which this node answered first, and for no service.
     pub(crate) fn hear(&mut self, core: &Core, header: Option<u8>, node: Option<u8>)
         requires { 0 < length core.now.log }
         ensures { (old : CoreData) → (by : PortId) → (s : Slot) → IsAfterFinish old by s core.now
-            → header_and_first s ≡ (header, node)
+            → s.service ≡ false → header_and_first s ≡ (header, node)
             → AreEnds old Down self.old.downs → AreEnds old Up self.old.ups
             → AreEnds core.now Down self.new.downs × AreEnds core.now Up self.new.ups }
     {

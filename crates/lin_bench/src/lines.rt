@@ -13,7 +13,7 @@ use crate::fault::LineFault;
 use crate::fields::{bytes_fields, count_field, node_field};
 use crate::line::{Disturbance, Extent, Line, Slots};
 use crate::reason::Reason;
-use crate::rule_lines::{every, response_errors, timeouts, when};
+use crate::rule_lines::{every, response_errors, services, timeouts, when};
 use lin_core::PortId;
 use lin_log::{first_field, is_over, is_port, port_step, step};
 use lin_parts::Cluster;
@@ -259,6 +259,8 @@ fn of_word(alloc: Global, cluster: &Cluster, word: &[u8], rest: &[u8]) -> Result
         Ok(Line::Rule(timeouts(alloc, cluster, rest)?))
     } else if word == b"every".as_slice() {
         Ok(Line::Rule(every(alloc, cluster, rest)?))
+    } else if word == b"services".as_slice() {
+        Ok(Line::Rule(services(alloc, cluster, rest)?))
     } else if word == b"response_errors".as_slice() {
         Ok(Line::Rule(response_errors(alloc, cluster, rest)?))
     } else {

@@ -87,6 +87,10 @@ pub enum Reason {
     EveryStep,
     /// `response_errors` takes `on` or `off`.
     ErrorsForm,
+    /// `services` takes `on` or `off`.
+    ServicesForm,
+    /// No responder answers services.
+    NoServices,
     /// No responder has a signal by which it tells errors in responses.
     NoErrorSignal,
     /// The signal by which a responder tells errors in responses has more than one bit.

@@ -7,7 +7,7 @@ ghost use Rattle.hex.specs.Hex.{hex_digit_value};
 ghost use Rattle.lin_bench.specs.Fields.{fields, words};
 ghost use Rattle.lin_bench.specs.Read.{Gives};
 ghost use Rattle.lin_bench.specs.RuleLines.{AddsRow, answer_form, answer_parts, answers_form, answers_of, copied};
-ghost use Rattle.lin_bench.specs.RuleLines.{errors_form, errors_on, is_wide, every_fields, every_form, has_star, hex_byte, hex_part};
+ghost use Rattle.lin_bench.specs.RuleLines.{errors_form, errors_on, services_form, services_on, is_wide, every_fields, every_form, has_star, hex_byte, hex_part};
 ghost use Rattle.lin_bench.specs.RuleLines.{joined, last_field, parts_field, parts_fields, pattern_byte};
 ghost use Rattle.lin_bench.specs.RuleLines.{pattern_fields, pattern_of, repeated_step, responder_field};
 ghost use Rattle.lin_bench.specs.RuleLines.{row, sends_or_writes, timeouts_form};
@@ -457,6 +457,30 @@ fn errors_on(alloc: Global, cluster: &Cluster) -> Result<Rule, LineFault>
             signal: Text::copied(alloc, cluster.signal_name(signal))?,
             bits: cluster.signal_size(signal),
         })),
+    }
+}
+
+/// That responders answer messages that ask for a service, where some have an address.
+fn services_on(cluster: &Cluster) -> Result<Rule, LineFault>
+    ensures { Gives (λ r. r) result (services_on cluster.now) }
+{
+    if cluster.identities().is_empty() {
+        Err(LineFault::Bad(Reason::NoServices))
+    } else {
+        Ok(Rule::Services(true))
+    }
+}
+
+/// Whether responders answer messages that ask for a service, by the fields after `services`.
+#[tactic(auto, unfolding(crate::specs::RuleLines::services_form))]
+pub(crate) fn services(alloc: Global, cluster: &Cluster, line: &[u8]) -> Result<Rule, LineFault>
+    ensures { Gives (λ r. r) result (services_form cluster.now (fields line.now)) }
+{
+    let all = fields(alloc, cluster, line)?;
+    match all.as_slice() {
+        [word] if *word == b"on".as_slice() => services_on(cluster),
+        [word] if *word == b"off".as_slice() => Ok(Rule::Services(false)),
+        _ => Err(LineFault::Bad(Reason::ServicesForm)),
     }
 }
 

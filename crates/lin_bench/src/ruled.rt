@@ -15,7 +15,8 @@ ghost use Rattle.lin_bench.specs.Added.{timeout_of, timeouts, times_until};
 ghost use Rattle.lin_bench.specs.Adding.{Adds, HasFinished, MakesAdded, MakesOne};
 ghost use Rattle.lin_bench.specs.Errors.{errors_told};
 ghost use Rattle.lin_bench.specs.Making.{MakesSteps};
-ghost use Rattle.lin_bench.specs.Rules.{is_due_at, kept_at, no_rules, ruled, sent_at};
+ghost use Rattle.std.specs.Option.{option_copied};
+ghost use Rattle.lin_bench.specs.Rules.{is_due_at, kept_at, no_rules, ruled, sent_at, serving};
 ghost use Rattle.lin_bench.specs.Slots.{nodes_noted, pending};
 ghost use Rattle.lin_bench.specs.declared.got.Pending.TheVariants.{AnswersNoted};
 
@@ -28,6 +29,7 @@ use crate::replies::{is_done, is_finish, went_to_all};
 use crate::rules::{Noted, Repeated, Rule, Rules};
 use crate::slots::hosts_waiting;
 use lin_core::{Core, Direction, Hold, PortId, Reply, Step};
+use lin_parts::Cluster;
 use lin_text::Many;
 use std::alloc::{AllocError, Global};
 use std::marker::Model;
@@ -118,6 +120,13 @@ fn take_noted(
     Ok(())
 }
 
+/// The cluster of a core, where its responders answer messages that ask for a service.
+fn serving(core: &Core, is_on: bool) -> Option<&Cluster>
+    ensures { option_copied result ≡ serving core.now.cluster is_on }
+{
+    if is_on { Some(core.cluster()) } else { None }
+}
+
 /// How many answers of a node are noted.
 fn count_noted(noted: &[Noted], node: u8) -> usize
     ensures { result ≡ count_by (λ m. m.node == node) noted.now }
@@ -138,6 +147,7 @@ impl RuledCore {
                 limit_ms: None,
                 everies: Many::new(Vec::new(alloc)),
                 errors: false,
+                services: false,
                 noted: Many::new(Vec::new(alloc)),
             },
             ends: Ends::new(),
@@ -183,6 +193,7 @@ impl RuledCore {
             }
             Rule::EveryOff => rules.everies = Many::new(Vec::new(alloc)),
             Rule::Errors(on) => rules.errors = on,
+            Rule::Services(on) => rules.services = on,
         }
         Ok(())
     }
@@ -192,7 +203,7 @@ impl RuledCore {
         ensures added { MakesAdded self.old.core ((by, step) ∷ []) result self.new.core }
         ensures rules { self.new.rules ≡ self.old.rules }
     {
-        let slot = if is_finish(&step) {
+        let slot = if is_finish(&step) && !self.core.is_in_service() {
             self.core.open_slot()
         } else {
             None
@@ -211,6 +222,7 @@ impl RuledCore {
         let rules = &self.rules;
         rules.limit_ms.is_some()
             || rules.errors
+            || rules.services
             || !rules.whens.as_slice().is_empty()
             || !rules.everies.as_slice().is_empty()
             || !rules.noted.as_slice().is_empty()
@@ -252,6 +264,7 @@ impl RuledCore {
                 alloc,
                 &mut self.rules.noted,
                 self.rules.whens.as_slice(),
+                serving(&self.core, self.rules.services),
                 time,
                 events.as_slice(),
             ),

@@ -57,6 +57,8 @@ pub enum Rule {
     EveryOff,
     /// Whether responders tell errors in responses by their signals.
     Errors(bool),
+    /// Whether responders answer messages that ask for a service.
+    Services(bool),
 }
 
 /// A step that is made again and again since a time in microseconds.
@@ -83,5 +85,6 @@ pub struct Rules {
     pub limit_ms: Option<u32>,
     pub everies: Many<Repeated>,
     pub errors: bool,
+    pub services: bool,
     pub noted: Many<Noted>,
 }

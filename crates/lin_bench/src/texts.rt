@@ -224,6 +224,10 @@ fn reason_line(reason: &Reason) -> Line<'_>
         )]),
         Reason::EveryForm => return Line::of(&[Word::Fixed("usage: every N ms STEP or every off")]),
         Reason::EveryStep => return Line::of(&[Word::Fixed("every accepts only send and write")]),
+        Reason::ServicesForm => return Line::of(&[Word::Fixed(
+            "usage: services on or services off",
+        )]),
+        Reason::NoServices => return Line::of(&[Word::Fixed("no responder answers services")]),
         Reason::ErrorsForm => return Line::of(&[Word::Fixed(
             "usage: response_errors on or response_errors off",
         )]),

@@ -1,4 +1,5 @@
 use Rattle.std.proofs.Common.{◌≡◌, ◌∙◌, suc, ◌+◌, List, [], ◌∷◌, ◌++◌, flat_map, refl, sym, ap, arith, add-one, drop, drop-cons}
+use Rattle.std.specs.Option.{option_copied}
 use Rattle.lin_bench.specs.Rules.{all_noted, noted_with, notes_for}
 use Rattle.lin_bench.specs.declared.rules.Noted.{Noted}
 use Rattle.lin_bench.proofs.answers.note_events.Goals as goal
@@ -9,7 +10,7 @@ all-noted-append noted (n ∷ ns) ms = all-noted-append (noted_with noted n) ns 
 
 pub loop-event-preserved : goal.loop-event-preserved
 loop-event-preserved c =
-    let f = notes_for c.args.whens.now c.args.time in
+    let f = notes_for (option_copied c.args.served) c.args.whens.now c.args.time in
     let es = c.args.events.now in
     let i = c.loop-event.event-index in
     let e = c.event-item.result in

@@ -1,10 +1,11 @@
-use Rattle.std.proofs.Common.{◌≡◌, ◌∙◌, [], ◌∷◌, ◌++◌, ap, sym, append_assoc, append-nil, length, rules, List, None, ℕ}
+use Rattle.std.proofs.Common.{◌≡◌, ◌∙◌, [], ◌∷◌, ◌++◌, ap, sym, append_assoc, append-nil, length, rules, List, None, ℕ, arith}
 use Rattle.std.specs.Option.{option_to_list}
 use Rattle.std.specs.Vec.Iter.{into_iter_items}
 use Rattle.lin_bench.specs.Bench.{state_of}
 use Rattle.lin_bench.specs.Played.{judged_from, nothing_expected, on_line}
 use Rattle.lin_bench.specs.Strict.{speaks_of_last}
 use Rattle.lin_bench.specs.declared.line.Line.{Line}
+use Rattle.lin_parts.proofs.Configuring.{few-identities}
 use Rattle.lin_bench.proofs.Few.{full-by-rule}
 use Rattle.lin_bench.proofs.Runs.{all-come, come-first, come-more, judged-first, judged-last, judged-more, line-fails, next-left, none-left}
 use Rattle.lin_bench.proofs.playing.play.Goals as goal
@@ -64,7 +65,8 @@ returns-in-Err c =
     (ap (λ l. before ++ l) (sym left) ∙ at.invariant.come.1) at.invariant.come.2 (rw c.in-Err.is at c.play_numbered.ensures) in
     record {
       plays = fails;
-      few = full-by-rule c.args.is_strict c.args.cluster c.args.table c.args.capacity c.args.lines.items c.in-Err.fault c.sound.ensures.rules.nodes.number.1 fails;
+      few = full-by-rule c.args.is_strict c.args.cluster c.args.table c.args.capacity c.args.lines.items c.in-Err.fault
+          (c.sound.ensures.rules.nodes.number.1, let most = few-identities c.args.cluster c.args.cluster.identities c.sound.ensures.rules.nodes.number.1 c.sound.ensures.rules.identities in omega (arith, most)) fails;
     }
 
 pub returns-clause-plays : goal.returns-clause-plays
