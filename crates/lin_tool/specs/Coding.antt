@@ -27,6 +27,7 @@ use Rattle.lin_values.specs.AttributeValues.{header_version}
 use Rattle.lin_values.specs.Attributes.{node_attributes}
 use Rattle.lin_values.specs.Coded.{coded, CodedData}
 use Rattle.lin_values.specs.Configured.{configurables}
+use Rattle.lin_values.specs.Configuring.{configured_by, warnings_by}
 use Rattle.lin_values.specs.Reading.{codings}
 use Rattle.lin_values.specs.Unknown.{unknown_words}
 use Rattle.lin_values.specs.Unused.{unused_encodings}
@@ -99,6 +100,14 @@ lints_told d e cs k = option_map_or (λ c. lints d e c ++ unused_told d k) cs []
 abbrev pub linted : Description → List Name → Option (List Configurable) → Option Codings
     → List Remark → List Remark
 linted d e cs k rs = rs ++ map (remark true) (lints_told d e cs k)
+
+-- the cluster with the requests of its node configuration commands, where these are sent
+abbrev pub configured_read : Bool → Parts → List Symbol → Parts
+configured_read is_configured c ts = if is_configured then configured_by c ts else c
+
+-- what is wrong with the commands, where these are sent
+abbrev pub configuring_told : Bool → Parts → List Symbol → List Finding
+configuring_told is_configured c ts = if is_configured then warnings_by c ts else []
 
 -- these are warnings with what is wrong with encodings: by place, then by number
 pub record AreWarnings (e : Encodings) (c : Parts) (k : Option Codings) (rs warned : List Remark)

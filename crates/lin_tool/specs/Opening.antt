@@ -38,9 +38,13 @@ abbrev pub encodings_of : Bool → Bool → Encodings
 encodings_of is_physical has_words =
     if is_physical then Told else (if has_words then Read else Unread)
 
-abbrev pub extras_of : Bool → Bool → Extras
-extras_of is_physical has_words =
-    record { encodings = encodings_of is_physical has_words; is_linted = false }
+abbrev pub extras_of : Bool → Bool → Bool → Extras
+extras_of is_physical has_words is_configured =
+    record {
+      encodings = encodings_of is_physical has_words;
+      is_linted = false;
+      is_configured = is_configured;
+    }
 
 -- the cluster of an LDF file, which is read so; of the built-in text where there is no file
 abbrev pub AnswersFile : Option (Bor (List ℕ)) → Reading → Extras → Result Described Fault
@@ -53,7 +57,7 @@ AnswersFile (Some path) reading x result warned = AnswersReading reading x resul
 pub record IsOpened (s : Settings) (has_words : Bool) (it : Opened) (warned : List Remark) : Type 0
   where
     pub file
-        : AnswersFile s.file s.reading (extras_of s.is_physical has_words)
+        : AnswersFile s.file s.reading (extras_of s.is_physical has_words s.is_configured)
         (Ok (record { cluster = it.cluster; coded = it.coded })) warned
     pub table : opening_of it.cluster s.table ≡ Some it.table
     pub settings : it.settings ≡ s

@@ -9,7 +9,7 @@ ghost use Rattle.lin_ldf.specs.Tokens.{AreTokens};
 ghost use Rattle.lin_ldf.specs.declared.token.Token.{Token};
 ghost use Rattle.lin_field.specs.Checks.{remark, remark_cmp};
 ghost use Rattle.lin_tool.specs.Coding.{are_read, coded_read, codings_kept, codings_read};
-ghost use Rattle.lin_tool.specs.Coding.{attributes_read, configurables_read, linted, sections_read, told_of, unknown_read, unused_told, AreWarnings};
+ghost use Rattle.lin_tool.specs.Coding.{attributes_read, configurables_read, configured_read, configuring_told, linted, sections_read, told_of, unknown_read, unused_told, AreWarnings};
 ghost use Rattle.lin_tool.specs.declared.fault.Fault.TheVariants.{OutOfMemory};
 
 use crate::fault::Fault;
@@ -20,8 +20,8 @@ use lin_parts::Cluster;
 use lin_parts::description::{Description, Name};
 use lin_text::Many;
 use lin_values::{
-    Coded, Codings, coded_by, header_version, lint_attributes, read_attributes, read_codings,
-    read_configurables, unknown_words, unused_encodings,
+    Coded, Codings, coded_by, configure, header_version, lint_attributes, read_attributes,
+    read_codings, read_configurables, unknown_words, unused_encodings,
 };
 use std::alloc::{AllocError, Global};
 
@@ -43,6 +43,8 @@ pub struct Extras {
     /// Whether what is odd in a text in which nothing is wrong is told as warnings, encodings that no
     /// signal has among it.
     pub is_linted: bool,
+    /// Whether the requests of node configuration commands are sent.
+    pub is_configured: bool,
 }
 
 /// What the sections of an LDF say in addition to its description, if they are read: the encodings, and the
@@ -300,6 +302,35 @@ fn coded_with(
     let (coded, found) = coded_by(alloc, cluster, codings)?;
     let all = with_told(warnings, found.as_slice(), encodings)?;
     Ok((Some(coded), all))
+}
+
+/// A checked cluster, with the requests of the node configuration commands in a text if that is wanted, and
+/// then with what is wrong with the commands among its warnings.
+///
+/// An error means out of memory.
+pub(crate) fn configured(
+    alloc: Global,
+    checked: Checked,
+    extras: Extras,
+    text: &[u8],
+) -> Result<Checked, Fault>
+    requires { IsSorted remark_cmp checked.warnings }
+    ensures cluster { IfOk result (λ k. k.cluster ≡ configured_read extras.is_configured
+        checked.cluster (symbols_in text.now (start_of text.now).tokens)) }
+    ensures warnings { IfOk result (λ k. IsPermutation
+        (checked.warnings ++ map (remark true) (configuring_told extras.is_configured checked.cluster
+        (symbols_in text.now (start_of text.now).tokens)))
+        k.warnings) }
+    ensures ordered { IfOk result (λ k. IsSorted remark_cmp k.warnings) }
+    ensures memory { IfErr result (λ fault. fault ≡ OutOfMemory) }
+{
+    if !extras.is_configured {
+        return Ok(checked);
+    }
+    let Checked { cluster, warnings } = checked;
+    let (cluster, found) = configure(alloc, cluster, text)?;
+    let warnings = with_findings(warnings, found.as_slice())?;
+    Ok(Checked { cluster, warnings })
 }
 
 /// A checked cluster, and what the values of its signals mean by the sections of encodings, where they

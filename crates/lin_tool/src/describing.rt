@@ -10,7 +10,7 @@ ghost use Rattle.lin_tool.specs.Reading.{AnswersLdf, AnswersReading, ReadsAll};
 ghost use Rattle.lin_tool.specs.declared.describing.Reading.TheVariants.{Plain};
 
 use crate::coding::{
-    Described, Extras, Sections, coded_noted, sections_of, with_findings, with_lints,
+    Described, Extras, Sections, coded_noted, configured, sections_of, with_findings, with_lints,
 };
 use crate::fault::Fault;
 use crate::field::field_of_reader;
@@ -172,7 +172,7 @@ fn check_parsed(
         codings.as_ref(),
     )?;
     let cluster = said_by(alloc, description)?;
-    let checked = Checked { cluster, warnings };
+    let checked = configured(alloc, Checked { cluster, warnings }, extras, text)?;
     coded_noted(alloc, checked, codings, extras.encodings, text, notes)
 }
 
@@ -213,7 +213,7 @@ fn cluster_of_bytes(
         notes.count_unknown(alloc, bytes.as_slice())?;
     }
     let is_old = is_old(alloc, bytes.as_slice());
-    if !is_old && !notes.is_text_wanted() {
+    if !is_old && !notes.is_text_wanted() && !extras.is_configured {
         let_go(&mut bytes);
     }
     let answer = check_parsed(alloc, parsed, extras, bytes.as_slice(), notes);

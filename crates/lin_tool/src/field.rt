@@ -4,7 +4,8 @@ ghost use Rattle.lin_tool.specs.Field.{AnswersChecked, AnswersField, AnswersSett
 ghost use Rattle.lin_tool.specs.Field.{WritesPlain};
 
 use crate::coding::{
-    Described, Encodings, Extras, Sections, coded_noted, sections_of, with_findings, with_lints,
+    Described, Encodings, Extras, Sections, coded_noted, configured, sections_of, with_findings,
+    with_lints,
 };
 use crate::describing::{Reading, fault_of, let_go, read_text};
 use crate::fault::Fault;
@@ -98,9 +99,9 @@ fn settled_noted(
     answer
 }
 
-/// The cluster of what a text of the field is settled to, and what the values of its signals mean by
-/// its sections of encodings, where they are read. The notes keep all warnings, or tell where something
-/// is wrong in `text`.
+/// The cluster of what a text of the field is settled to, with the requests of the commands in `mended`
+/// if that is wanted, and what the values of its signals mean by its sections of encodings, where they
+/// are read. The notes keep all warnings, or tell where something is wrong in `text`.
 ///
 /// # Errors
 /// `Remarks` for all that is wrong, and the warnings of what was settled; `OutOfMemory`.
@@ -109,6 +110,7 @@ fn cluster_noted(
     settled: &Settled,
     sections: Sections,
     extras: Extras,
+    mended: &[u8],
     text: &[u8],
     notes: &mut Notes<'_>,
 ) -> Result<Described, Fault>
@@ -130,7 +132,7 @@ fn cluster_noted(
                 configurables,
                 codings.as_ref(),
             )?;
-            let checked = Checked { cluster, warnings };
+            let checked = configured(alloc, Checked { cluster, warnings }, extras, mended)?;
             coded_noted(alloc, checked, codings, extras.encodings, text, notes)
         }
         Err(fault) => {
@@ -162,8 +164,11 @@ pub fn field_of_reader<R: Read>(
     let text = noted_text(alloc, bytes.as_slice(), notes)?;
     let settled = settled_noted(alloc, bytes.as_mut_slice(), text.as_slice(), notes)?;
     let sections = sections_of(alloc, bytes.as_slice(), &settled.description, true, extras)?;
-    let_go(&mut bytes);
-    cluster_noted(alloc, &settled, sections, extras, text.as_slice(), notes)
+    if !extras.is_configured {
+        let_go(&mut bytes);
+    }
+    let (mended, text) = (bytes.as_slice(), text.as_slice());
+    cluster_noted(alloc, &settled, sections, extras, mended, text, notes)
 }
 
 /// Writes a plain LDF text of what a text of the field is settled to.
@@ -190,8 +195,17 @@ pub(crate) fn write_field<W: Write>(
     let extras = Extras {
         encodings: Encodings::Unread,
         is_linted: false,
+        is_configured: false,
     };
-    match cluster_noted(alloc, &settled, sections, extras, text.as_slice(), notes) {
+    match cluster_noted(
+        alloc,
+        &settled,
+        sections,
+        extras,
+        &[],
+        text.as_slice(),
+        notes,
+    ) {
         Ok(_described) => match write_plain(alloc, &settled, bytes.as_slice(), writer)? {
             Ok(()) => Ok(()),
             Err(_) => Err(Fault::WriteFailed),

@@ -43,6 +43,7 @@ fn is_reported(number: u8, reading: Reading, extras: Extras) -> bool {
         27 => reading == Reading::Field || extras.is_linted,
         31..=41 => extras.encodings == Encodings::Told,
         51..=65 | 68..=70 => extras.is_linted,
+        71..=78 => extras.is_configured,
         _ => reading == Reading::Field && is_deviation(number),
     }
 }
@@ -53,6 +54,7 @@ fn needed(number: u8) -> Option<&'static str> {
         27 => Some("27 needs --field or --lint"),
         31..=41 => Some("31 to 41 need --physical"),
         51..=65 | 68..=70 => Some("51 to 70 need --lint"),
+        71..=78 => Some("71 to 78 need --configuration"),
         _ if is_deviation(number) => Some("1 to 26 need --field"),
         _ => None,
     }

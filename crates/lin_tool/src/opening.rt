@@ -28,6 +28,8 @@ pub struct Settings<'a> {
     pub format: Format<'a>,
     /// Whether values are written as what they mean, too, and what is wrong with encodings is told.
     pub is_physical: bool,
+    /// Whether the requests of node configuration commands are sent.
+    pub is_configured: bool,
     /// Whether a play is strict: refused steps of which the script doesn't speak aren't met either.
     pub is_strict: bool,
 }
@@ -93,6 +95,7 @@ pub(crate) fn begin<'a, R: AllocGlobal + Files>(
     let extras = Extras {
         encodings: settings.encodings(has_words),
         is_linted: false,
+        is_configured: settings.is_configured,
     };
     let Described { cluster, coded } = cluster_of_file(rt, file, reading, extras, notes)?;
     match opening_table(&cluster, settings.table) {

@@ -17,24 +17,28 @@ use std::test::Fail;
 const NO_EXTRAS: Extras = Extras {
     encodings: Encodings::Unread,
     is_linted: false,
+    is_configured: false,
 };
 
 /// With what the values of signals mean.
 const CODINGS: Extras = Extras {
     encodings: Encodings::Told,
     is_linted: false,
+    is_configured: false,
 };
 
 /// With that, and with what is odd.
 const ALL: Extras = Extras {
     encodings: Encodings::Told,
     is_linted: true,
+    is_configured: false,
 };
 
 /// With what is odd alone.
 const LINTED: Extras = Extras {
     encodings: Encodings::Unread,
     is_linted: true,
+    is_configured: false,
 };
 
 fn cluster_text(alloc: Global, mut rest: &[u8]) -> Result<Vec<u8>, Fault> {
@@ -238,6 +242,7 @@ const SETTINGS: Settings<'static> = Settings {
     capacity: 16,
     format: Format::Log,
     is_physical: false,
+    is_configured: false,
     is_strict: false,
 };
 
@@ -288,6 +293,7 @@ fn told_of_play(
     let extras = Extras {
         encodings,
         is_linted: false,
+        is_configured: false,
     };
     let Described { cluster, coded } = cluster_of_reader(alloc, &mut rest, extras, &mut notes)?;
     let table = opening_table(&cluster, None)?;
@@ -301,6 +307,7 @@ fn told_of_play(
         settings: Settings {
             format: Format::Named,
             is_physical: encodings == Encodings::Told,
+            is_configured: false,
             ..SETTINGS
         },
     };

@@ -22,7 +22,7 @@ const LIVE_NOTE: &str =
     "Each line of standard input is answered before the next one is read. The answer is the log of that line, then one\nline that begins with #: ok, is VALUE, expected WHAT: GOT, refused NUMBER NAME, bad line: REASON or slot limit.\n\nQuestions: ? signal NODE SIGNAL, ? waiting NODE, ? idle, ? time, ? asleep, ? next.\n\nExample: linsim live door.ldf < door.bench";
 
 const CHECK_NOTE: &str =
-    "Standard output has one line per item: node NUMBER NAME NAD (- for none), signal NUMBER NAME, and\ntable NUMBER NAME ENTRIES.\n\nStandard error has one line per problem. A syntax error is ldf LINE:COLUMN fault NUMBER NAME; only the first is\nreported. An error in the description is LINE:COLUMN finding NUMBER NAME. A warning of --field, --physical or\n--lint is LINE:COLUMN warning NUMBER NAME, and doesn't change the exit status without --deny. A file of more than\n4,194,304 bytes is ldf too long.\n\nKINDS is one or more of these, with commas between them: all, a number, FROM-TO, the name of a warning. A warning\nthat is allowed isn't reported, even if it is denied too.\n\nExample: linsim check door.ldf --lint --deny all --allow 54,OffTimeBase";
+    "Standard output has one line per item: node NUMBER NAME NAD (- for none), signal NUMBER NAME, and\ntable NUMBER NAME ENTRIES.\n\nStandard error has one line per problem. A syntax error is ldf LINE:COLUMN fault NUMBER NAME; only the first is\nreported. An error in the description is LINE:COLUMN finding NUMBER NAME. A warning of --field, --physical, --lint\nor --configuration is LINE:COLUMN warning NUMBER NAME, and doesn't change the exit status without --deny. A file of\nmore than 4,194,304 bytes is ldf too long.\n\nKINDS is one or more of these, with commas between them: all, a number, FROM-TO, the name of a warning. A warning\nthat is allowed isn't reported, even if it is denied too.\n\nExample: linsim check door.ldf --lint --deny all --allow 54,OffTimeBase";
 
 fn file<'a>(alloc: Global, help: &'a str) -> Arg<'a> {
     Arg::new(alloc, "file").value_name("FILE").help(help)
@@ -171,6 +171,7 @@ fn plain<'a>(alloc: Global) -> Result<Arg<'a>, AllocError> {
         .conflicts_with("timing")?
         .conflicts_with("physical")?
         .conflicts_with("lint")?
+        .conflicts_with("configuration")?
         .conflicts_with("signals")
 }
 
@@ -183,6 +184,12 @@ fn meanings<'a>(alloc: Global) -> Arg<'a> {
     let help =
         "Also write physical values and value texts; warn about errors in the signal encodings";
     flag(alloc, "physical", help)
+}
+
+fn configuration<'a>(alloc: Global) -> Arg<'a> {
+    let help =
+        "Send the requests of node configuration commands; warn about errors in the commands";
+    flag(alloc, "configuration", help)
 }
 
 fn linted<'a>(alloc: Global) -> Arg<'a> {
@@ -233,6 +240,7 @@ fn replay<'a>(alloc: Global) -> Result<Command<'a>, AllocError> {
         .arg(same(alloc)?)?
         .arg(field(alloc))?
         .arg(meanings(alloc))?
+        .arg(configuration(alloc))?
         .arg(explain(alloc))
 }
 
@@ -250,6 +258,7 @@ fn check<'a>(alloc: Global) -> Result<Command<'a>, AllocError> {
         .arg(field(alloc))?
         .arg(physical(alloc))?
         .arg(linted(alloc))?
+        .arg(configuration(alloc))?
         .arg(plain(alloc)?)?
         .arg(object(alloc)?)?
         .arg(denied(alloc))?
@@ -269,6 +278,7 @@ fn run<'a>(alloc: Global) -> Result<Command<'a>, AllocError> {
         .arg(format(alloc, FORMATS.as_slice()))?
         .arg(field(alloc))?
         .arg(meanings(alloc))?
+        .arg(configuration(alloc))?
         .arg(explain(alloc))
 }
 
@@ -283,6 +293,7 @@ fn play<'a>(alloc: Global) -> Result<Command<'a>, AllocError> {
         .arg(format(alloc, PLAY_FORMATS.as_slice()))?
         .arg(field(alloc))?
         .arg(meanings(alloc))?
+        .arg(configuration(alloc))?
         .arg(script_places(alloc))?
         .arg(strict(alloc))?
         .arg(explain(alloc))
@@ -298,6 +309,7 @@ fn live<'a>(alloc: Global) -> Result<Command<'a>, AllocError> {
         .arg(format(alloc, ANSWER_FORMATS.as_slice()))?
         .arg(field(alloc))?
         .arg(meanings(alloc))?
+        .arg(configuration(alloc))?
         .arg(explain(alloc))
 }
 
@@ -430,6 +442,7 @@ fn extras_of(found: &ArgMatches<'_>) -> Extras {
             Encodings::Unread
         },
         is_linted: found.get_flag("lint"),
+        is_configured: found.get_flag("configuration"),
     }
 }
 
@@ -443,6 +456,7 @@ fn settings_of<'a>(found: &ArgMatches<'a>) -> Settings<'a> {
         capacity: found.get_one::<u16>("capacity").unwrap_or(16),
         format: format_of(found.get_str("to"), file),
         is_physical: found.get_flag("physical"),
+        is_configured: found.get_flag("configuration"),
         is_strict: false,
     }
 }

@@ -14,13 +14,14 @@ use Rattle.lin_frame.specs.declared.value.Value.{Value}
 use Rattle.lin_frame.specs.declared.value.Value.TheVariants.{Scalar, Bytes}
 use Rattle.lin_parts.specs.Cluster.{entry_name, frame_name, frame_of, line_of, node_of, nodes, signal_of}
 use Rattle.lin_parts.specs.declared.parts.Entry.{Entry}
-use Rattle.lin_parts.specs.declared.parts.Entry.TheVariants.{Frame, Sporadic, Event as Triggered, MasterReq, SlaveResp, Quiet}
+use Rattle.lin_parts.specs.declared.parts.Entry.TheVariants.{Frame, Sporadic, Event as Triggered, MasterReq, SlaveResp, Fixed, Quiet}
 use Rattle.lin_parts.specs.declared.parts.EventFrame.{EventFrame}
 use Rattle.lin_parts.specs.declared.parts.Node.{Node as NodeParts}
 use Rattle.lin_parts.specs.declared.parts.Parts.{Parts}
 use Rattle.lin_parts.specs.declared.parts.Signal.{Signal}
 use Rattle.lin_parts.specs.declared.parts.SignalFrame.{SignalFrame}
 use Rattle.lin_parts.specs.declared.parts.SporadicFrame.{SporadicFrame}
+use Rattle.lin_parts.specs.Services.{asks, service_name}
 use Rattle.lin_core.proofs.slots.ClusterFrames.{no_event, no_frame, no_sporadic}
 use Rattle.lin_core.specs.History.{Slot, header_is, open_slot, time}
 use Rattle.lin_core.specs.Slots.{node_with}
@@ -76,12 +77,24 @@ signal-name c a k =
 pub frame-name : (c : Parts) → HasFrameNames c → (f : ℕ) → is_quiet (frame_name c f) ≡ true
 frame-name c b f = listed-name (λ (x : SignalFrame). x.name) no_frame refl c.frames f b.of_frames
 
+one-quiet : (b : Bool) (x y : List ℕ) → is_quiet x ≡ true → is_quiet y ≡ true → is_quiet (if b then x else y) ≡ true
+one-quiet true x y p q = p
+one-quiet false x y p q = q
+
+-- the name of a service
+service-quiet : (b : List ℕ) → is_quiet (service_name b) ≡ true
+service-quiet b =
+    one-quiet (asks 6 0xB0 b) _ _ refl (one-quiet (asks 6 0xB1 b) _ _ refl (one-quiet (asks 6 0xB2 b) _ _ refl
+    (one-quiet (asks 6 0xB3 b) _ _ refl (one-quiet (asks 6 0xB4 b) _ _ refl (one-quiet (asks 1 0xB6 b) _ _ refl
+    (one-quiet (asks 6 0xB7 b) _ _ refl refl))))))
+
 entry-name : (c : Parts) → HasFrameNames c → (e : Entry) → is_quiet (entry_name c e) ≡ true
 entry-name c b (Frame f) = frame-name c b f
 entry-name c b (Sporadic k) = listed-name (λ (x : SporadicFrame). x.name) no_sporadic refl c.sporadic k b.of_sporadic
 entry-name c b (Triggered e) = listed-name (λ (x : EventFrame). x.name) no_event refl c.events e b.of_events
 entry-name c b MasterReq = refl
 entry-name c b SlaveResp = refl
+entry-name c b (Fixed request) = service-quiet request
 entry-name c b Quiet = refl
 
 listed-frames : (c : Parts) → HasFrameNames c → (o : Option ℕ) → are_quiet (map (frame_name c) (option_to_list o)) ≡ true

@@ -10,9 +10,9 @@ returns-in-Ok-clause-begins g c =
     let d = c.in_ok-cluster.field-0 in
     let read = c.in_ok-cluster.ensures in
     let warned = c.cluster_of_file.new.notes.warnings in
-    let P : Encodings → Type 0 = λ e. AnswersFile s.file s.reading (record { encodings = e; is_linted = false }) (Ok d) warned in
+    let P : Encodings → Type 0 = λ e. AnswersFile s.file s.reading (record { encodings = e; is_linted = false; is_configured = s.is_configured }) (Ok d) warned in
     record {
-      file = subst P c.encodings.ensures (answers_file s.file s.reading (record { encodings = c.encodings.result; is_linted = false }) (Ok d) warned read.built_in read.file);
+      file = subst P c.encodings.ensures (answers_file s.file s.reading (record { encodings = c.encodings.result; is_linted = false; is_configured = s.is_configured }) (Ok d) warned read.built_in read.file);
       table = c.in-Ok.ensures.table;
       settings = refl;
     }
