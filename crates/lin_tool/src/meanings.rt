@@ -28,6 +28,7 @@ pub(crate) static FAULTS: [(&str, &str); 7] = [
 /// What a finding or a warning of this number means, and what to change.
 pub(crate) fn finding_meaning(number: u8) -> Option<&'static (&'static str, &'static str)> {
     match number {
+        71.. => COMMANDS.get(usize::from(number) - 71),
         68.. => ATTRIBUTES.get(usize::from(number) - 68),
         51.. => LINTS.get(usize::from(number) - 51),
         31.. => ENCODINGS.get(usize::from(number) - 31),
@@ -294,6 +295,43 @@ static ATTRIBUTES: [(&str, &str); 3] = [
          response frames (N_As_timeout) in a schedule table: messages of several frames can time \
          out",
         "use a longer timeout, or add entries for these frames",
+    ),
+];
+
+/// What a warning about a node configuration command means, from 71 on, and what to change.
+static COMMANDS: [(&str, &str); 8] = [
+    (
+        "the arguments of the command are wrong",
+        "correct the arguments; bytes are at most 255",
+    ),
+    (
+        "no node configuration command has this name",
+        "correct the spelling",
+    ),
+    (
+        "the node isn't a responder with configured_NAD",
+        "name a responder, and add its configured_NAD",
+    ),
+    ("the node has no valid product_id", "add its product_id"),
+    (
+        "configurable_frames of the node has no message identifier for the frame, or the \
+         frame has no protected identifier, as a sporadic frame",
+        "list the frame, in LIN 2.0 with its message identifier",
+    ),
+    (
+        "configurable_frames of the node has no frame at this index",
+        "count the frames from 0",
+    ),
+    (
+        "the value is neither 0 nor 0xFF nor the protected identifier of the frame at this \
+         index",
+        "write the protected identifier, or none at all",
+    ),
+    (
+        "the attribute isn't valid: the supplier is at most 0x7FFE, the function at most \
+         0xFFFE and the variant at most 0xFF; initial_NAD is 1 to 125 or 127; a message \
+         identifier is at most 0xFFFF",
+        "correct the attribute",
     ),
 ];
 

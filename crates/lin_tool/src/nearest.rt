@@ -12,7 +12,7 @@ use strsim::generic_damerau_levenshtein;
 const COMPARED: usize = 64;
 
 /// The words that a line begins with.
-static WORDS: [&str; 21] = [
+static WORDS: [&str; 22] = [
     "send",
     "write",
     "open",
@@ -33,6 +33,7 @@ static WORDS: [&str; 21] = [
     "timeouts",
     "every",
     "response_errors",
+    "services",
     "bus",
 ];
 
