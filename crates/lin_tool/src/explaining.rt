@@ -5,7 +5,7 @@ use crate::describing::Reading;
 use crate::fault::Fault;
 use crate::field::warnings_of;
 use crate::meanings::{FAULTS, REFUSALS, finding_meaning};
-use crate::misspelled::{described, put_near, put_near_word, put_unread};
+use crate::misspelled::{described, put_near, put_near_command, put_near_word, put_unread};
 use crate::parties::{put_declared, put_party};
 use crate::wanted::put_wanted;
 use lin_cluster::Finding;
@@ -27,6 +27,9 @@ const UNKNOWN_NAME: u8 = 1;
 
 /// The number of the warning about a section or an attribute that LIN doesn't have.
 const UNKNOWN_WORD: u8 = 27;
+
+/// The number of the warning about a node configuration command that LIN doesn't have.
+const UNKNOWN_COMMAND: u8 = 72;
 
 /// How many findings, or bad lines of a bench script, are explained at most.
 pub(crate) const MOST: usize = 10;
@@ -155,7 +158,7 @@ fn put_meaning(out: &mut String, number: u8, count: usize) -> Result<(), AllocEr
 }
 
 /// Puts the most similar name to one that nothing declares, or the most similar word to one that LIN
-/// doesn't have; of other findings the other party.
+/// doesn't have as a section, an attribute or a command; of other findings the other party.
 fn put_unknown(
     alloc: Global,
     out: &mut String,
@@ -172,6 +175,7 @@ fn put_unknown(
     let place = Place { line, column };
     match description {
         _ if number == UNKNOWN_WORD => put_near_word(alloc, out, text, place),
+        _ if number == UNKNOWN_COMMAND => put_near_command(alloc, out, text, place),
         Some(description) if number == UNKNOWN_NAME => {
             put_near(alloc, out, text, description, place)
         }

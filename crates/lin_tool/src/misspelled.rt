@@ -15,6 +15,17 @@ use std::alloc::{AllocError, Global};
 /// How many words that LIN doesn't have are compared with those that it has.
 const COMPARED_WORDS: usize = 256;
 
+/// The words of node configuration commands (LIN 2.2A, 9.2.5).
+static COMMAND_WORDS: [&[u8]; 7] = [
+    b"AssignNAD",
+    b"AssignFrameId",
+    b"AssignFrameIdRange",
+    b"ConditionalChangeNAD",
+    b"DataDump",
+    b"SaveConfiguration",
+    b"FreeFormat",
+];
+
 /// What a name that nothing declares should be.
 #[derive(Clone, Copy)]
 enum Kind {
@@ -134,6 +145,16 @@ impl<'w, 'a> Nearest<'w, 'a> {
     }
 }
 
+/// Puts a name that is similar to the one in a text, and what has this name; nothing without one.
+fn put_similar(out: &mut String, what: &str, name: Option<&[u8]>) -> Result<(), AllocError> {
+    let Some(name) = name else {
+        return Ok(());
+    };
+    write!(out, "  similar name: the {what} ")?;
+    put_shown(out, name)?;
+    out.push_str("\n")
+}
+
 /// The word that begins a text.
 pub(crate) fn first_word(text: &[u8]) -> &[u8] {
     let len = text
@@ -141,6 +162,11 @@ pub(crate) fn first_word(text: &[u8]) -> &[u8] {
         .take_while(|byte| byte.is_ascii_alphanumeric() || **byte == b'_')
         .count();
     text.get(..len).unwrap_or(text)
+}
+
+/// The word at a place of a text.
+fn name_at(text: &[u8], place: Place) -> &[u8] {
+    first_word(text.get(before(text, place).len()..).unwrap_or(&[]))
 }
 
 /// Puts the declared name that is nearest to one that nothing declares, of the kind that is wanted
@@ -152,9 +178,7 @@ pub(crate) fn put_near(
     description: &Description,
     place: Place,
 ) -> Result<(), AllocError> {
-    let from = before(text, place).len();
-    let word = first_word(text.get(from..).unwrap_or(&[]));
-    let mut near = Nearest::new(alloc, word);
+    let mut near = Nearest::new(alloc, name_at(text, place));
     let kind = match kind_at(alloc, text, place) {
         Kind::Node => {
             near.ask_nodes(description)?;
@@ -183,12 +207,22 @@ pub(crate) fn put_near(
             "frame"
         }
     };
-    let Some(name) = near.name else {
-        return Ok(());
-    };
-    write!(out, "  similar name: the {kind} ")?;
-    put_shown(out, name)?;
-    out.push_str("\n")
+    put_similar(out, kind, near.name)
+}
+
+/// Puts the node configuration command whose word is the most similar to the one at a place, which no
+/// command has; nothing if none is similar.
+pub(crate) fn put_near_command(
+    alloc: Global,
+    out: &mut String,
+    text: &[u8],
+    place: Place,
+) -> Result<(), AllocError> {
+    let mut nearest = Nearest::new(alloc, name_at(text, place));
+    for command in COMMAND_WORDS.iter() {
+        nearest.ask(*command)?;
+    }
+    put_similar(out, "command", nearest.name)
 }
 
 /// A scan of a text: how many braces are open, and the last section's word.
@@ -313,12 +347,7 @@ pub(crate) fn put_near_word(
         word: _,
         similar,
     } = word_at(alloc, &mut Scan::new(alloc, text), place)?;
-    let Some(similar) = similar else {
-        return Ok(());
-    };
-    write!(out, "  similar name: the {what} ")?;
-    put_shown(out, similar)?;
-    out.push_str("\n")
+    put_similar(out, what, similar)
 }
 
 /// Puts each of the first 256 sections and attributes of an LDF text that LIN doesn't have, if its word
