@@ -38,6 +38,7 @@ fn bench_of<R: AllocGlobal + Files>(
     let extras = Extras {
         encodings,
         is_linted: false,
+        is_configured: settings.is_configured,
     };
     let (file, reading) = (settings.file, settings.reading);
     let Described { cluster, coded } = cluster_of_file(rt, file, reading, extras, notes)?;

@@ -14,7 +14,7 @@ import {open} from './browser.mjs';
 const MOST_BYTES = 4e6, ROOM = 1 << 28;
 const [top, html, native] = process.argv.slice(2).map(it => path.resolve(it)), examples = `${top}/examples`;
 const ALL = ['--physical', '--strict', '--where', '--explain'];
-const CHECKS = [[], ['--frames', '--slots'], ['--signals', '--physical'], ['--field', '--plain'], ['--lint', '--explain'], ['--field', '--slots', '--signals'],
+const CHECKS = [[], ['--frames', '--slots'], ['--configuration', '--slots'], ['--signals', '--physical'], ['--field', '--plain'], ['--lint', '--explain'], ['--field', '--slots', '--signals'],
 	['--field', '--lint', '--where', '--explain', '--physical', '--frames', '--slots', '--signals']];
 const LOGS = ['log', 'named', 'csv', 'jsonl', 'pcap', 'vcd', 'html'];
 // The runs of each LDF of examples/.

@@ -1,5 +1,5 @@
 // The page: two texts on the left, and what linsim makes of them on the right. Each change is checked and played at once.
-const KEY = 'linsim-page-1', EXAMPLES = JSON.parse(byId('examples').textContent), OPTIONS = ['field', 'physical', 'strict'];
+const KEY = 'linsim-page-1', EXAMPLES = JSON.parse(byId('examples').textContent), OPTIONS = ['field', 'physical', 'configuration', 'strict'];
 const VIEWS = {picture: 'Picture', cluster: 'Cluster', frames: 'Frames', signals: 'Signals', named: 'Log', csv: 'Table', jsonl: 'JSON lines', console: 'Console', panel: 'Panel'};
 const OF_CLUSTER = {cluster: clusterView, frames: framesView, signals: signalsView};
 const SAVES = [['bench', 'Bench script', '.bench'], ['ldf', 'LDF', '.ldf'], ['plain', 'LDF in the form of LIN 2.2', '.plain.ldf'], null,
@@ -9,7 +9,7 @@ const FIRST_SCRIPT = '# linsim writes this for an LDF without a script: one roun
 const WAIT = 120, SLOW = 400, KEPT_AFTER = 400, MOST_PROBLEMS = 300, MOST_FILE = 32e6, MOST_LINK = 2e6, MOST_PICTURE = 6e7;
 const NO_WASM = 'This page needs WebAssembly and DecompressionStream: Chrome or Edge 97, Firefox 113, Safari 16.4, or later.';
 
-const state = {ldf: {name: 'cluster.ldf', isLatin: false}, bench: {name: 'cluster.bench', isLatin: false}, field: true, physical: true, strict: false, table: '', text: 'ldf', view: 'picture'};
+const state = {ldf: {name: 'cluster.ldf', isLatin: false}, bench: {name: 'cluster.bench', isLatin: false}, field: true, physical: true, configuration: false, strict: false, table: '', text: 'ldf', view: 'picture'};
 let program = null, cluster = null, lastRun = {}, timer = 0, generation = 0, opening = 0, keeps = 0, replacedTexts = null, shown = '';
 const bench = new Bench(), picture = new Picture(byId('view'));
 const editors = {
@@ -40,7 +40,7 @@ function textOf(bytes) {
 // Names without a colon or a space, so that the lines of --where can be told apart.
 const fileName = what => state[what].name.replace(/[^\w.-]/g, '_') || `cluster.${what}`;
 const files = () => ({[fileName('ldf')]: bytesOf('ldf'), [fileName('bench')]: bytesOf('bench')});
-const readingWords = () => [...(state.field ? ['--field'] : []), ...(state.physical ? ['--physical'] : [])];
+const readingWords = () => ['field', 'physical', 'configuration'].filter(it => state[it]).map(it => `--${it}`);
 const tableWords = () => state.table ? ['--table', state.table] : [];
 const playWords = to => ['play', fileName('ldf'), fileName('bench'), '--where', '--explain', ...readingWords(), ...(state.strict ? ['--strict'] : []), ...tableWords(), '--to', to];
 const checkWords = () => ['check', fileName('ldf'), '--where', '--explain', ...readingWords(), '--lint', '--frames', '--slots', '--signals'];

@@ -59,6 +59,7 @@ function readRun(text) {
 			s.entry = +y;
 			s.pid = z;
 			break;
+		case 'service': s.service = 1; break;
 		case 'due': s.due = 1; break;
 		case 'put': s.puts.push([x, y]); break;
 		case 'refused':
@@ -79,12 +80,12 @@ function readRun(text) {
 			s.frame = kind === 'unconditional' ? frm[name] : g && g.frames.map(m => frm[m]).find(f => f && (g.id
 				? y && nodes[from].name === f.node : f.pid === s.pid));
 			s.name = s.frame ? s.frame.name : name;
-			s.id = (s.frame || g || {}).id || {request: '0x3C', response: '0x3D'}[kind] || '';
+			s.id = (s.frame || g || {}).id || {request: '0x3C', response: '0x3D', configuration: s.service && '0x3C'}[kind] || '';
 			if (y && s.frame) hear(y, s.frame);
 			if (s.kind === 3 || s.kind === 5) problem(KINDS[s.kind], s, s.name);
 			else s.tags.push(KINDS[s.kind]);
 			if (s.kind === 4) s.news |= 2;
-			const nad = parseInt(put.slice(0, 2), 16), m = /^re/.test(kind) && nad && wait.find(m => m.host === from
+			const nad = parseInt(put.slice(0, 2), 16), m = /^re/.test(kind) && !s.service && nad && wait.find(m => m.host === from
 				&& (from > 0 || (nodes[m.to] || {nad: 126}).nad == nad));
 			if (m) m.frames.push(s), s.news |= 4;
 			slots.push(old = s);

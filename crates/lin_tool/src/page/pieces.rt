@@ -155,6 +155,7 @@ function readRun(text) {
 \t\t\ts.entry = +y;
 \t\t\ts.pid = z;
 \t\t\tbreak;
+\t\tcase 'service': s.service = 1; break;
 \t\tcase 'due': s.due = 1; break;
 \t\tcase 'put': s.puts.push([x, y]); break;
 \t\tcase 'refused':
@@ -175,12 +176,12 @@ function readRun(text) {
 \t\t\ts.frame = kind === 'unconditional' ? frm[name] : g && g.frames.map(m => frm[m]).find(f => f && (g.id
 \t\t\t\t? y && nodes[from].name === f.node : f.pid === s.pid));
 \t\t\ts.name = s.frame ? s.frame.name : name;
-\t\t\ts.id = (s.frame || g || {}).id || {request: '0x3C', response: '0x3D'}[kind] || '';
+\t\t\ts.id = (s.frame || g || {}).id || {request: '0x3C', response: '0x3D', configuration: s.service && '0x3C'}[kind] || '';
 \t\t\tif (y && s.frame) hear(y, s.frame);
 \t\t\tif (s.kind === 3 || s.kind === 5) problem(KINDS[s.kind], s, s.name);
 \t\t\telse s.tags.push(KINDS[s.kind]);
 \t\t\tif (s.kind === 4) s.news |= 2;
-\t\t\tconst nad = parseInt(put.slice(0, 2), 16), m = /^re/.test(kind) && nad && wait.find(m => m.host === from
+\t\t\tconst nad = parseInt(put.slice(0, 2), 16), m = /^re/.test(kind) && !s.service && nad && wait.find(m => m.host === from
 \t\t\t\t&& (from > 0 || (nodes[m.to] || {nad: 126}).nad == nad));
 \t\t\tif (m) m.frames.push(s), s.news |= 4;
 \t\t\tslots.push(old = s);
