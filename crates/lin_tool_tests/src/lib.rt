@@ -22,4 +22,6 @@ mod program;
 #[cfg(test)]
 mod samples;
 #[cfg(test)]
+mod services;
+#[cfg(test)]
 mod values;
