@@ -348,8 +348,8 @@ pub(crate) enum Invalid<'a> {
 #[derive(Clone, Copy)]
 pub(crate) enum Request<'a> {
     /// `linsim check FILE [--field] [--frames] [--map] [--slots] [--physical [--signals]]
-    /// [--timing [--bytes N]] [--lint] [--deny KINDS] [--allow KINDS]`. `timing` is the number of
-    /// data bytes of messages, `None` without `--timing`.
+    /// [--timing [--bytes N]] [--lint] [--configuration] [--deny KINDS] [--allow KINDS]`. `timing` is
+    /// the number of data bytes of messages, `None` without `--timing`.
     Check {
         file: &'a str,
         reading: Reading,
@@ -357,7 +357,8 @@ pub(crate) enum Request<'a> {
         lists: Lists,
         timing: Option<u16>,
     },
-    /// `linsim check FILE --to json [--field] [--physical] [--lint] [--deny KINDS] [--allow KINDS]`
+    /// `linsim check FILE --to json [--field] [--physical] [--lint] [--configuration] [--deny KINDS]
+    /// [--allow KINDS]`
     CheckObject {
         file: &'a str,
         reading: Reading,
@@ -365,19 +366,21 @@ pub(crate) enum Request<'a> {
     },
     /// `linsim check FILE --field --plain [--deny KINDS] [--allow KINDS]`
     CheckPlain(&'a str),
-    /// `linsim live FILE [--table T] [--capacity N] [--to log|named] [--field] [--physical]`
+    /// `linsim live FILE [--table T] [--capacity N] [--to log|named] [--field] [--physical]
+    /// [--configuration]`
     Live(Settings<'a>),
-    /// `linsim play FILE [SCRIPT] [--table T] [--capacity N] [--to FORMAT] [--physical] [--where]
-    /// [--strict]`. `script` is `None` for standard input.
+    /// `linsim play FILE [SCRIPT] [--table T] [--capacity N] [--to FORMAT] [--physical]
+    /// [--configuration] [--where] [--strict]`. `script` is `None` for standard input.
     Play {
         settings: Settings<'a>,
         script: Option<&'a str>,
     },
-    /// `linsim replay [FILE] [--table T] [--capacity N] [--to FORMAT] [--physical]`
+    /// `linsim replay [FILE] [--table T] [--capacity N] [--to FORMAT] [--physical] [--configuration]`
     Replay(Settings<'a>),
-    /// `linsim replay [FILE] [--table T] [--capacity N] --same`
+    /// `linsim replay [FILE] [--table T] [--capacity N] [--configuration] --same`
     Compare(Settings<'a>),
-    /// `linsim run FILE --slots N [--table T] [--capacity N] [--to FORMAT] [--physical]`
+    /// `linsim run FILE --slots N [--table T] [--capacity N] [--to FORMAT] [--physical]
+    /// [--configuration]`
     Run {
         settings: Settings<'a>,
         slots: u32,
@@ -433,7 +436,7 @@ fn reading_of(found: &ArgMatches<'_>) -> Reading {
     }
 }
 
-/// Returns what is reported in addition to the cluster: `[--physical]`, `[--lint]`.
+/// Returns what is read in addition to the cluster: `[--physical]`, `[--lint]`, `[--configuration]`.
 fn extras_of(found: &ArgMatches<'_>) -> Extras {
     Extras {
         encodings: if found.get_flag("physical") {
