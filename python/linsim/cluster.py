@@ -33,20 +33,21 @@ class Cluster:
     """A LIN cluster of an LDF file, in a process of its own, which ends with a `with` block.
 
     `bus["Heater"]` is a node. It begins with the schedule table `table`, or with the first one;
-    `capacity` is how many messages of a host may wait (16); the program is `program`, the
-    environment's LINSIM, the one that the wheel brings, or `linsim` on the path; an answer that
-    takes longer than `seconds` by the clock raises `TimeLimit`. Raises `LdfError` with the place of
-    each fault of the LDF, and `StartError`. `nodes`, `signals`, `frames` and `tables` have the
+    `capacity` is how many messages of a host may wait (16); with `configuration`, the node
+    configuration commands of its tables are sent; the program is `program`, the environment's
+    LINSIM, the one that the wheel brings, or `linsim` on the path; an answer that takes longer than
+    `seconds` by the clock raises `TimeLimit`. Raises `LdfError` with the place of each fault of the
+    LDF, and `StartError`; warnings are ignored. `nodes`, `signals`, `frames` and `tables` have the
     names in the LDF's order.
     """
 
     def __init__(self, ldf: Union[str, os.PathLike[str]], table: Optional[str] = None, *,
-                 capacity: Optional[int] = None, program: Optional[Program] = None,
-                 seconds: float = SECONDS) -> None:
+                 capacity: Optional[int] = None, configuration: bool = False,
+                 program: Optional[Program] = None, seconds: float = SECONDS) -> None:
         # (later processes start in whatever folder and environment the test has by then)
         self.ldf, self.program = os.fsdecode(ldf), located(program)
         self.path = os.path.abspath(self.ldf)
-        self.options = options_of(table, capacity)
+        self.options = options_of(table, capacity, configuration)
         self.nodes: Dict[str, Node] = {}
         self.signals: List[str] = []
         self.frames: List[str] = []
@@ -55,20 +56,21 @@ class Cluster:
         self.meanings: Dict[str, Meaning] = {}                  # by the signal
         self._publisher = ""                                    # of the frame that is declared
         self.texts = Texts(partial(Live, self.path, program=self.program, seconds=seconds))
-        for line in check(self.ldf, self.program, seconds):
+        for line in check(self.ldf, self.program, seconds, configuration):
             try:
                 self._declare(line.split(" "))
             except (IndexError, ValueError):
                 raise StartError(0, f"unexpected output of linsim check: {line}") from None
+        services = {name for name, _ in self.entries.values()} - {"-"}      # and names of frames
         self._names = {"node": set(self.nodes), "signal": set(self.signals),
-                       "frame": {*self.frames, REQUEST_NAME, RESPONSE_NAME},
+                       "frame": {*self.frames, *services, REQUEST_NAME, RESPONSE_NAME},
                        "table": set(self.tables)}
         if table is not None:
             self.known("table", table)
         self._fresh = partial(type(self), self.path, table, capacity=capacity,
-                              program=self.program, seconds=seconds)
-        self.live = Live(self.ldf, table, capacity=capacity, program=self.program,
-                         seconds=seconds)
+                              configuration=configuration, program=self.program, seconds=seconds)
+        self.live = Live(self.ldf, table, capacity=capacity, configuration=configuration,
+                         program=self.program, seconds=seconds)
         self.history = History(self.nodes)
         self._before: List[Tuple[Optional[str], Callable[[], object]]] = []
         self._after: List[Tuple[Optional[str], Callable[[Slot], object]]] = []
@@ -338,7 +340,7 @@ class Cluster:
             if self._is_looked_at or self._slot_damage or not most:
                 self._make_until_idle(run, most)
             else:
-                self.line(f"slots idle {most}")
+                self.step(f"slots idle {most}")         # (line would begin another Run)
         return run
 
     def _make_until_idle(self, run: Run, most: int) -> None:

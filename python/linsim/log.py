@@ -112,8 +112,9 @@ class Slot:
     table: str
     entry: int
     header: Optional[int]               # the protected identifier; None where no header is sent
-    name: str                           # of the entry: a frame, MasterReq, SlaveResp or -
+    name: str                           # of the entry: a frame, MasterReq, SlaveResp, service, -
     member: str = ""                    # of a sporadic frame, the frame that is sent
+    service: bool = False               # whether its frame is one of node configuration
     due: List[str] = field(default_factory=list)
     answers: Dict[str, bytes] = field(default_factory=dict)     # by node, with the checksum
     hurt: Optional[bytes] = None        # what was seen in place of the response, where damaged
@@ -121,7 +122,7 @@ class Slot:
     data: Optional[bytes] = None        # of a good response, without its checksum
     frame: Optional[str] = None         # that a good response carries
     signals: Dict[str, Value] = field(default_factory=dict)     # of that frame, raw
-    message: Optional[Message] = None   # of which it carries a frame, damaged or not
+    message: Optional[Message] = None   # of which it carries a frame, damaged or not; no service
     end: int = 0                        # microseconds
 
     def is_of(self, frame: str) -> bool:
@@ -143,8 +144,9 @@ class History:
     """Follows the lines of a log with names.
 
     It has two rules of LIN of its own. A diagnostic frame carries the oldest message of its host
-    that is neither sent nor lost, unless it is the sleep frame. A request frame with the address
-    126 is for all responders (a responder may be called `all`, as the log calls them).
+    that is neither sent nor lost, unless it is the sleep frame or the slot is for a service. A
+    request frame with the address 126 is for all responders (a responder may be called `all`, as
+    the log calls them).
     """
 
     def __init__(self, nodes: Iterable[str]) -> None:
@@ -208,6 +210,9 @@ class History:
         self._slot = Slot(self.finished, self.time, table, int(entry),
                           None if header == "-" else int(header, 16), name, " ".join(members))
 
+    def _service(self, _: List[str]) -> None:
+        self._slot.service = True
+
     def _due(self, fields: List[str]) -> None:
         self._slot.due.append(fields[0])
 
@@ -215,6 +220,8 @@ class History:
         node, response = fields[0], bytes_of(fields[1])
         self._slot.answers[node] = response
         header = self._slot.header
+        if self._slot.service:
+            return
         if header == RESPONSE or header == REQUEST and response[0] != SLEEP:
             self._slot.message = self._waiting[node][0]
 
@@ -260,7 +267,7 @@ class History:
             self.run.received += received
 
     _replies: Dict[str, Callable[[History, List[str]], None]] = {
-        "accepted": _accepted, "slot": _opened, "due": _due, "put": _put, "seen": _seen,
-        "frame": _frame, "transport": _transport, "message": _message, "sent": _sent,
-        "lost": _lost, "asleep": _asleep, "refused": _refused, "time": _time,
+        "accepted": _accepted, "slot": _opened, "service": _service, "due": _due, "put": _put,
+        "seen": _seen, "frame": _frame, "transport": _transport, "message": _message,
+        "sent": _sent, "lost": _lost, "asleep": _asleep, "refused": _refused, "time": _time,
     }

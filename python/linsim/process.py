@@ -90,10 +90,11 @@ def limit_of(seconds: float) -> float:
     return min(float(seconds), MOST_SECONDS)
 
 
-def options_of(table: Optional[str], capacity: Optional[int]) -> List[str]:
+def options_of(table: Optional[str], capacity: Optional[int], configuration: bool) -> List[str]:
     """Returns the options of a command for these settings."""
     return [*([] if table is None else ["--table", table]),
-            *([] if capacity is None else ["--capacity", str(count_of(capacity, "messages"))])]
+            *([] if capacity is None else ["--capacity", str(count_of(capacity, "messages"))]),
+            *(["--configuration"] if configuration else [])]
 
 
 def path_of(file: Union[str, bytes, os.PathLike[str]]) -> str:
@@ -109,12 +110,14 @@ def not_started(words: List[str], why: OSError) -> StartError:
     return StartError(None, text if why.errno in EXHAUSTED else text + hint)
 
 
-def check(ldf: str, program: Optional[Program] = None, seconds: float = SECONDS) -> List[str]:
-    """The lines of `linsim check`: frames, slots, and what the values of signals mean. Raises
-    `LdfError` with the file, line and column of each fault, and otherwise `StartError` or
-    `TimeLimit`."""
+def check(ldf: str, program: Optional[Program] = None, seconds: float = SECONDS,
+          configuration: bool = False) -> List[str]:
+    """The lines of `linsim check`: frames, slots, and what the values of signals mean. Warnings are
+    ignored. Raises `LdfError` with the file, line and column of each fault, and otherwise
+    `StartError` or `TimeLimit`."""
     words = command(program) + ["check", path_of(ldf), "--frames", "--slots", "--signals",
                                 "--physical", "--where"]
+    words += options_of(None, None, configuration)
     seconds = limit_of(seconds)
     try:
         done = subprocess.run(words, stdin=subprocess.DEVNULL, stdout=subprocess.PIPE,
@@ -142,7 +145,8 @@ def end(process: subprocess.Popen[bytes], errors: int, parent: int) -> None:
 class Live:
     """`linsim live FILE` in a process of its own, which ends with this object and with Python.
 
-    `form` is `"log"` or `"named"`. An answer that isn't whole after `seconds` by the clock raises
+    `form` is `"log"` or `"named"`. With `configuration`, node configuration commands are sent
+    (`--configuration`). An answer that isn't whole after `seconds` by the clock raises
     `TimeLimit`. After that, and after each other exception in the middle of answers, the process
     is ended. `lines` has the lines that make the run: all but questions and bad ones. A line and
     its answer belong to one thread; other threads wait.
@@ -150,11 +154,12 @@ class Live:
 
     def __init__(self, ldf: Union[str, os.PathLike[str]], table: Optional[str] = None,
                  form: str = "named", *, capacity: Optional[int] = None,
-                 program: Optional[Program] = None, seconds: float = SECONDS) -> None:
+                 configuration: bool = False, program: Optional[Program] = None,
+                 seconds: float = SECONDS) -> None:
         words = command(program) + ["live", path_of(ldf), "--to", form]
         if form == "named":
             words.append("--physical")
-        words += options_of(table, capacity)
+        words += options_of(table, capacity, configuration)
         self.seconds = limit_of(seconds)
         self.lines: List[str] = []
         self._turn = threading.RLock()

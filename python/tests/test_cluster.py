@@ -389,6 +389,13 @@ class Messages(unittest.TestCase):
             self.assertEqual([it.data for it in run.received], [b"\x62", b"\1"])
             self.assertEqual(bus.idle().slots, [])
 
+    def test_what_came_until_idle_without_hooks(self):
+        with cluster("Diag") as bus:
+            message = bus["BCM"].send("Heater", "22F190")
+            run = bus.idle()
+            self.assertEqual(([it.message for it in run.slots], run.sent), ([message], [message]))
+            self.assertEqual([it.target for it in run.received], ["Heater"])
+
 
 class Records(unittest.TestCase):
     def busy(self):
