@@ -1,15 +1,20 @@
 -- What `parse` and `check` say of a text, in the program's words.
-use Rattle.std.proofs.Common.{◌≡◌, ◌≢◌, ◌⊎◌, inl, inr, ℕ, ◌≤◌, List, [], length, map, true, Option, None, IfSome, IfOk, IfErr, IsPermutation, Result, Ok, Err, sym, subst, ◌∙◌}
+use Rattle.std.proofs.Common.{◌≡◌, ◌≢◌, ◌⊎◌, inl, inr, ℕ, ◌≤◌, List, [], ◌++◌, length, map, Bool, true, false, Option, None, IfSome, IfOk, IfErr, IsPermutation, Result, Ok, Err, refl, sym, ap, subst, ◌∙◌}
+use Rattle.std.proofs.lemmas.List.Sorted.{IsPermutation-trans, IsPermutation-append_left}
+use Rattle.lin_ldf.specs.Stream.{start_of}
+use Rattle.lin_ldf.specs.Symbols.{symbols_in}
+use Rattle.lin_ldf.specs.Tokens.{AreTokens, IsLexFault}
+use Rattle.lin_ldf.specs.declared.token.Token.{Token}
+use Rattle.lin_values.specs.Configuring.{configured_by, warnings_by}
+use Rattle.lin_values.proofs.ReadingSteps.{tokens-are}
 use Rattle.lin_ldf.specs.Describes.{Describes}
-use Rattle.lin_ldf.specs.Tokens.{IsLexFault}
 use Rattle.lin_ldf.specs.declared.fault.LdfFault.{LdfFault}
 use Rattle.lin_ldf.specs.declared.fault.LdfFault.TheVariants as ldf
 use Rattle.lin_parts.specs.declared.description.Description.{Description}
-use Rattle.lin_cluster.specs.SlotTimes.{NoSlotIsShort}
 use Rattle.lin_parts.specs.declared.parts.Parts.{Parts}
 use Rattle.lin_field.specs.declared.checking.Remark.{Remark}
 use Rattle.lin_tool.specs.Clusters.{IsSaidBy, Tells, TextFaults}
-use Rattle.lin_tool.specs.Coding.{coded_read, linted, AnswersCoded, AreWarnings, SaysSections}
+use Rattle.lin_tool.specs.Coding.{coded_read, configured_read, configuring_told, linted, AnswersCoded, AreWarnings, SaysSections}
 use Rattle.lin_tool.specs.Field.{ReadFaults}
 use Rattle.lin_tool.specs.Reading.{AnswersLdf}
 use Rattle.lin_tool.specs.declared.coding.Described.{Described}
@@ -32,26 +37,48 @@ tells_fault text (Ldf f) fault (same, some) only first = record {
 tells_fault text OutOfMemory fault h only first = tt
 tells_fault text _ fault h only first = absurd h
 
--- what is answered to what was parsed, where its cluster is this one
-pub coded_answer : (x : Extras) (r : Result Described Fault) (text : List ℕ) (d : Description) (c : Parts) (s : Sections) (none rs warned : List Remark)
-    → Describes text d → IsSaidBy d c → SaysSections x text d s → IsPermutation (map (remark true) s.found) none → IsPermutation (linted d [] s.configurables s.codings none) rs
+-- the commands of a text are those among its tokens
+requested : (b : Bool) (given text : List ℕ) (ts : List Token) (c : Parts) → (b ≡ true → given ≡ text) → AreTokens text ts
+    → configured_read b c (symbols_in given (start_of given).tokens) ≡ configured_read b c (symbols_in text ts)
+requested true given text ts c same are =
+    ap (λ bytes. configured_by c (symbols_in bytes (start_of bytes).tokens)) (same refl) ∙ ap (λ k. configured_by c (symbols_in text k)) (tokens-are text ts are)
+requested false given text ts c same are = refl
+
+warned_of : (b : Bool) (given text : List ℕ) (ts : List Token) (c : Parts) → (b ≡ true → given ≡ text) → AreTokens text ts
+    → configuring_told b c (symbols_in given (start_of given).tokens) ≡ configuring_told b c (symbols_in text ts)
+warned_of true given text ts c same are =
+    ap (λ bytes. warnings_by c (symbols_in bytes (start_of bytes).tokens)) (same refl) ∙ ap (λ k. warnings_by c (symbols_in text k)) (tokens-are text ts are)
+warned_of false given text ts c same are = refl
+
+-- what is answered to what was parsed, where its cluster is this one, and the commands are read from `given`
+pub coded_answer : (x : Extras) (r : Result Described Fault) (text given : List ℕ) (d : Description) (checked c : Parts) (s : Sections) (none odd rs warned : List Remark)
+    → (x.is_configured ≡ true → given ≡ text)
+    → Describes text d → IsSaidBy d checked → SaysSections x text d s → IsPermutation (map (remark true) s.found) none
+    → IsPermutation (linted d [] s.configurables s.codings none) odd
+    → c ≡ configured_read x.is_configured checked (symbols_in given (start_of given).tokens)
+    → IsPermutation (odd ++ map (remark true) (configuring_told x.is_configured checked (symbols_in given (start_of given).tokens))) rs
     → IfOk r (λ a. a.cluster ≡ c) → IfOk r (λ a. a.coded ≡ coded_read x.encodings a.cluster s.codings)
     → IfOk r (λ a. AreWarnings x.encodings a.cluster s.codings rs warned) → IfErr r (λ fault. fault ≡ OutOfMemory) → AnswersCoded x r warned text
-coded_answer x (Ok a) text d c s none rs warned described of says is are cluster coded warnings memory = record {
-  cluster = record {
-    description = d;
-    described = described;
-    free = of.free;
-    said = cluster ∙ of.said;
-    long = subst NoSlotIsShort (sym cluster) of.long;
-  };
-  sections = s;
-  says = says;
-  coded = coded;
-  warnings = reordered x.encodings a.cluster s.codings (linted d [] s.configurables s.codings (map (remark true) s.found)) rs warned
-      (linted_behind d [] s.configurables s.codings (map (remark true) s.found) none rs is are) warnings;
-}
-coded_answer x (Err fault) text d c s none rs warned described of says is are cluster coded warnings memory = subst (λ f. TextFaults f text) (sym memory) tt
+coded_answer x (Ok a) text given d checked c s none odd rs warned same described of (ts, are, is) kept joined sends told cluster coded warnings memory =
+    let found : List Remark = linted d [] s.configurables s.codings (map (remark true) s.found) in
+    let commands : List Remark = map (remark true) (configuring_told x.is_configured checked (symbols_in text ts)) in
+    let behind : IsPermutation (odd ++ commands) rs =
+    subst (λ fs. IsPermutation (odd ++ map (remark true) fs) rs) (warned_of x.is_configured given text ts checked same are) told in
+    let all : IsPermutation (found ++ commands) rs = IsPermutation-trans (found ++ commands) (odd ++ commands) rs
+    (IsPermutation-append_left commands found odd (linted_behind d [] s.configurables s.codings (map (remark true) s.found) none odd kept joined)) behind in
+    record {
+      checked = checked;
+      cluster = record { description = d; described = described; free = of.free; said = of.said; long = of.long };
+      tokens = ts;
+      are = are;
+      sends = cluster ∙ sends ∙ requested x.is_configured given text ts checked same are;
+      sections = s;
+      says = (ts, are, is);
+      coded = coded;
+      warnings = reordered x.encodings a.cluster s.codings (found ++ commands) rs warned all warnings;
+    }
+coded_answer x (Err fault) text given d checked c s none odd rs warned same described of says kept joined sends told cluster coded warnings memory =
+    subst (λ f. TextFaults f text) (sym memory) tt
 
 pub answers_read : (x : Extras) (r : Result Described Fault) (warned : List Remark) (told : Option (List ℕ)) (text : List ℕ)
     → IfSome told (λ bytes. text ≡ bytes) → length text ≤ 4194304 → AnswersCoded x r warned text → AnswersLdf x r warned told

@@ -128,17 +128,24 @@ AnswersSections x (Ok parsed) text =
     Describes text parsed.0 × SaysSections x text parsed.0 parsed.1
 AnswersSections x (Err fault) text = TextFaults fault text
 
--- this is the cluster of what a text describes, and these are the warnings
+-- this is the cluster of what a text describes, with the requests of its commands where these are sent,
+-- and these are the warnings
 pub record IsCodedCluster (x : Extras) (text : List ℕ) (d : Described) (warned : List Remark)
     : Type 0 where
-  pub cluster : IsClusterOf text d.cluster
+  pub checked : Parts
+  pub cluster : IsClusterOf text checked
+  pub tokens : List Token
+  pub are : AreTokens text tokens
+  pub sends : d.cluster ≡ configured_read x.is_configured checked (symbols_in text tokens)
   pub sections : Sections
   pub says : SaysSections x text cluster.description sections
   pub coded : d.coded ≡ coded_read x.encodings d.cluster sections.codings
   pub warnings
       : AreWarnings x.encodings d.cluster sections.codings
       (linted cluster.description [] sections.configurables sections.codings
-      (map (remark true) sections.found))
+      (map (remark true) sections.found)
+      ++ map (remark true)
+      (configuring_told x.is_configured checked (symbols_in text tokens)))
       warned
 
 -- what is answered to an LDF text, with these warnings

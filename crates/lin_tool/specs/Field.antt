@@ -1,6 +1,6 @@
 -- What is answered to an LDF text of the field.
 use Rattle.std.specs.Prelude.{◌≡◌, ◌≢◌, ℕ, ◌<◌, ◌≤◌, ◌++◌, List, length, map, true, Option, IfSome, Result, Ok, Err}
-use Rattle.lin_ldf.specs.Symbols.{symbols_in}
+use Rattle.lin_ldf.specs.Symbols.{Symbol, symbols_in}
 use Rattle.lin_ldf.specs.Tokens.{AreTokens, IsLexFault}
 use Rattle.lin_ldf.specs.declared.fault.LdfFault.{LdfFault}
 use Rattle.lin_ldf.specs.declared.fault.LdfFault.TheVariants as ldf
@@ -20,7 +20,8 @@ use Rattle.lin_field.specs.declared.reading.FieldText.{FieldText}
 use Rattle.lin_field.specs.declared.settling.Settled.{Settled}
 use Rattle.lin_parts.specs.declared.description.Description.{Description}
 use Rattle.lin_text.specs.Written.{WritesText}
-use Rattle.lin_tool.specs.Coding.{coded_read, linted, sections_read, AreWarnings}
+use Rattle.lin_tool.specs.Coding.{coded_read, configured_read, configuring_told}
+use Rattle.lin_tool.specs.Coding.{linted, sections_read, AreWarnings}
 use Rattle.lin_tool.specs.declared.coding.Described.{Described}
 use Rattle.lin_tool.specs.declared.coding.Extras.{Extras}
 use Rattle.lin_tool.specs.declared.coding.Sections.{Sections}
@@ -73,29 +74,31 @@ abbrev pub ChecksField : Settled → Result Checked Fault → Type 0
 ChecksField s (Ok checked) = IsChecked s checked
 ChecksField s (Err fault) = CheckFaults fault s
 
--- this is its cluster where its sections say that, and these are the warnings
-pub record IsFieldCluster (x : Extras) (s : Settled) (k : Sections) (d : Described)
-    (warned : List Remark) : Type 0 where
+-- this is its cluster where its sections say that, with the requests of the commands among these
+-- tokens where they are sent, and these are the warnings
+pub record IsFieldCluster (x : Extras) (s : Settled) (k : Sections) (ts : List Symbol)
+    (d : Described) (warned : List Remark) : Type 0 where
   pub free : IsFieldFree s
-  pub said : d.cluster ≡ parts_of s.description
+  pub sends : d.cluster ≡ configured_read x.is_configured (parts_of s.description) ts
   pub coded : d.coded ≡ coded_read x.encodings d.cluster k.codings
   pub warnings
       : AreWarnings x.encodings d.cluster k.codings
       (linted s.description s.placed_elsewhere k.configurables k.codings
-      (remarks s ++ map (remark true) k.found))
+      (remarks s ++ map (remark true) k.found)
+      ++ map (remark true) (configuring_told x.is_configured (parts_of s.description) ts))
       warned
 
-abbrev pub AnswersChecked : Extras → Settled → Sections → Result Described Fault → List Remark
-    → Type 0
-AnswersChecked x s k (Ok d) warned = IsFieldCluster x s k d warned
-AnswersChecked x s k (Err fault) warned = CheckFaults fault s
+abbrev pub AnswersChecked : Extras → Settled → Sections → List Symbol → Result Described Fault
+    → List Remark → Type 0
+AnswersChecked x s k ts (Ok d) warned = IsFieldCluster x s k ts d warned
+AnswersChecked x s k ts (Err fault) warned = CheckFaults fault s
 
--- the sections of a text of the field say this, without the marks that it has too many, as far as the
--- extras want them
-abbrev pub FieldSaysSections : Extras → List ℕ → Description → Sections → Type 0
-FieldSaysSections x text d k =
+-- the tokens of a text of the field say this, without the marks that it has too many: its sections, as
+-- far as the extras want them, and its commands
+abbrev pub FieldSays : Extras → List ℕ → Description → Sections → List Symbol → Type 0
+FieldSays x text d k said =
     (ts : List Token) × AreTokens (field_bytes text) ts
-    × (k ≡ sections_read true x d (mended (symbols_in (field_bytes text) ts)))
+    × ((said ≡ mended (symbols_in (field_bytes text) ts)) × (k ≡ sections_read true x d said))
 
 -- when a reader has this fault: what it has is told, or it isn't
 abbrev pub ReadFaults : Fault → Option (List ℕ) → Type 0
@@ -108,8 +111,8 @@ ReadFaults _ told = ⊥
 abbrev pub AnswersFieldText : Extras → Result Described Fault → List Remark → List ℕ → Type 0
 AnswersFieldText x (Ok d) warned text =
     (s : Settled) × IsSettled text s
-    × ((k : Sections) × FieldSaysSections x text s.description k
-    × IsFieldCluster x s k d warned)
+    × ((k : Sections) × ((said : List Symbol)
+    × (FieldSays x text s.description k said × IsFieldCluster x s k said d warned)))
 AnswersFieldText x (Err (Ldf f)) warned text = IsFieldFault text f
 AnswersFieldText x (Err fault) warned text = (s : Settled) × IsSettled text s × CheckFaults fault s
 

@@ -1,7 +1,7 @@
 //! Clusters from LDF texts: that of a reader or a file is read, and that of the built-in cluster
 //! stands here.
 
-ghost use Rattle.std.specs.Prelude.{◌≡◌, List, ℕ, IfOk, IsSome};
+ghost use Rattle.std.specs.Prelude.{◌≡◌, List, ℕ, IfOk, IsSome, true};
 ghost use Rattle.lin_ldf.specs.Describes.{Describes};
 ghost use Rattle.lin_cluster.specs.SlotTimes.{NoSlotIsShort};
 ghost use Rattle.lin_tool.specs.Clusters.{AnswersParse, AnswersText, IsSaidBy, Tells};
@@ -140,8 +140,8 @@ fn parse_text(
     Ok((description, sections))
 }
 
-/// The cluster of what was parsed, and what the values of its signals mean. The notes keep warnings,
-/// and tell where they stand in `text`.
+/// The cluster of what was parsed, with the requests of the commands in `text` if that is wanted, and what
+/// the values of its signals mean. The notes keep warnings, and tell where they stand in `text`.
 ///
 /// # Errors
 /// That of what was parsed; those of `said_by`.
@@ -152,7 +152,8 @@ fn check_parsed(
     text: &[u8],
     notes: &mut Notes<'_>,
 ) -> Result<Described, Fault>
-    ensures { (source : List ℕ) → AnswersSections extras parsed source
+    ensures { (source : List ℕ) → (extras.is_configured ≡ true → text.now ≡ source)
+        → AnswersSections extras parsed source
         → AnswersCoded extras result notes.new.warnings source }
 {
     let (description, sections) = parsed?;

@@ -1,5 +1,7 @@
 //! Clusters from LDF texts of the field.
 
+ghost use Rattle.lin_ldf.specs.Stream.{start_of};
+ghost use Rattle.lin_ldf.specs.Symbols.{symbols_in};
 ghost use Rattle.lin_tool.specs.Field.{AnswersChecked, AnswersField, AnswersSettled, ChecksField};
 ghost use Rattle.lin_tool.specs.Field.{WritesPlain};
 
@@ -114,7 +116,8 @@ fn cluster_noted(
     text: &[u8],
     notes: &mut Notes<'_>,
 ) -> Result<Described, Fault>
-    ensures { AnswersChecked extras settled.now sections result notes.new.warnings }
+    ensures { AnswersChecked extras settled.now sections
+        (symbols_in mended.now (start_of mended.now).tokens) result notes.new.warnings }
 {
     let Sections {
         codings,

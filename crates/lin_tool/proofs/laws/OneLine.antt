@@ -18,10 +18,9 @@ use Rattle.lin_log.specs.declared.reason.Reason.TheVariants as step
 use Rattle.lin_log.proofs.Items.{joined}
 use Rattle.lin_log.proofs.Quiet.{quiet-called, quiet-decimal, quiet-hex}
 use Rattle.lin_bench.specs.Fields.{frames_called}
-use Rattle.lin_bench.specs.LineWords.{Word, byte_word, carried_word, is_mark, pattern_word, seen_after, seen_byte, seen_text, seen_texts, spaced, spaced_words, word_text, words_text}
+use Rattle.lin_bench.specs.LineWords.{Word, byte_word, is_mark, pattern_word, seen_after, seen_byte, seen_text, seen_texts, spaced, spaced_words, word_text, words_text}
 use Rattle.lin_bench.specs.LineWords.Word.{Node, Signal, Table, Frame, Number, Range, Hex, Matching, Raw, Fixed, Said, Fields, Listed, Mark}
-use Rattle.lin_bench.specs.Texts.{all_pending_words, cluster_text, expected_text, expected_words, fields_word, got_text, got_words, hint_words, other_pending_words, pending_text, pending_words, reason_text, reason_words, step_reason_words, unmarked_words}
-use Rattle.lin_bench.specs.declared.expected.Carried.{Carried}
+use Rattle.lin_bench.specs.Texts.{all_pending_words, cluster_text, expected_text, expected_words, got_text, got_words, hint_words, other_pending_words, pending_text, pending_words, reason_text, reason_words, step_reason_words, unmarked_words}
 use Rattle.lin_bench.specs.declared.expected.Carried.TheVariants.{Signals, Request as RequestFrame, Response}
 use Rattle.lin_bench.specs.declared.expected.Expected.{Expected}
 use Rattle.lin_bench.specs.declared.expected.Expected.TheVariants as expected

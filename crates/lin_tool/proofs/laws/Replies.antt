@@ -77,16 +77,16 @@ signal-name c a k =
 pub frame-name : (c : Parts) → HasFrameNames c → (f : ℕ) → is_quiet (frame_name c f) ≡ true
 frame-name c b f = listed-name (λ (x : SignalFrame). x.name) no_frame refl c.frames f b.of_frames
 
-one-quiet : (b : Bool) (x y : List ℕ) → is_quiet x ≡ true → is_quiet y ≡ true → is_quiet (if b then x else y) ≡ true
-one-quiet true x y p q = p
-one-quiet false x y p q = q
+either-quiet : (b : Bool) (x y : List ℕ) → is_quiet x ≡ true → is_quiet y ≡ true → is_quiet (if b then x else y) ≡ true
+either-quiet true x y p q = p
+either-quiet false x y p q = q
 
 -- the name of a service
 service-quiet : (b : List ℕ) → is_quiet (service_name b) ≡ true
 service-quiet b =
-    one-quiet (asks 6 0xB0 b) _ _ refl (one-quiet (asks 6 0xB1 b) _ _ refl (one-quiet (asks 6 0xB2 b) _ _ refl
-    (one-quiet (asks 6 0xB3 b) _ _ refl (one-quiet (asks 6 0xB4 b) _ _ refl (one-quiet (asks 1 0xB6 b) _ _ refl
-    (one-quiet (asks 6 0xB7 b) _ _ refl refl))))))
+    either-quiet (asks 6 0xB0 b) _ _ refl (either-quiet (asks 6 0xB1 b) _ _ refl (either-quiet (asks 6 0xB2 b) _ _ refl
+    (either-quiet (asks 6 0xB3 b) _ _ refl (either-quiet (asks 6 0xB4 b) _ _ refl (either-quiet (asks 1 0xB6 b) _ _ refl
+    (either-quiet (asks 6 0xB7 b) _ _ refl refl))))))
 
 entry-name : (c : Parts) → HasFrameNames c → (e : Entry) → is_quiet (entry_name c e) ≡ true
 entry-name c b (Frame f) = frame-name c b f
