@@ -27,8 +27,7 @@ fn is_rounded(text: &[u8]) -> bool
     !has_zero_tail(fraction_part(text))
 }
 
-/// A number in thousandths of a unit.
-// DECR
+/// Reads a number with decimals as thousandths of a unit: `DECR`, which may have more than three decimals.
 pub fn read_decimal(parser: &mut Parser<'_>) -> Result<Decimal, LdfFault>
     ensures { Gives result parser.new (decimal.read parser.old) }
 {
@@ -43,7 +42,7 @@ pub fn read_decimal(parser: &mut Parser<'_>) -> Result<Decimal, LdfFault>
     })
 }
 
-// DECR, unit, mark
+/// Reads a number with decimals, its unit and a mark: `DECR unit mark`.
 pub fn decimal_in(parser: &mut Parser<'_>, unit: &[u8], end: TokenKind) -> Result<Decimal, LdfFault>
     ensures { Gives result parser.new ((decimal_in unit.now end).read parser.old) }
 {

@@ -188,7 +188,7 @@ fn read_sections<'a>(
     Ok(sections)
 }
 
-// file = header nodes { section }*, and nothing after
+/// Reads an LDF to its end: `header nodes { section }*`, and nothing after.
 pub fn file(parser: &mut Parser<'_>) -> Result<Loose, LdfFault>
     ensures { Gives result parser.new (field_file.read parser.old) }
 {

@@ -190,7 +190,7 @@ fn add_left_out(
     Ok(())
 }
 
-// header = lines, among them a version and a speed
+/// Reads the header: lines in any order, among them a version and a speed.
 pub fn read_header(parser: &mut Parser<'_>) -> Result<Header, LdfFault>
     ensures { Gives result parser.new (header.read parser.old) }
 {

@@ -115,6 +115,7 @@ impl<'a> NodeNames<'a> {
         }
     }
 
+    /// Whether a name is that of a responder: in the list of responders, and not that of the commander.
     pub fn is_responder(&self, name: &Name) -> bool
         ensures { result ≡ is_responder self.now name.now }
     {
@@ -129,6 +130,7 @@ impl<'a> NodeNames<'a> {
         !self.is_master(node)
     }
 
+    /// Whether a name is that of a node: the commander or a responder.
     pub fn is_node(&self, name: &Name) -> bool
         ensures { result ≡ is_node self.now name.now }
     {

@@ -39,7 +39,7 @@ fn master<'a>(
     Ok((name, (time_base, jitter)))
 }
 
-// nodes = 'Nodes' '{' master slaves
+/// Reads the nodes: `'Nodes' '{' master slaves`. `seen` has their names afterwards.
 pub fn nodes<'a>(parser: &mut Parser<'a>, seen: &mut Names<'a>) -> Result<LooseNodes, LdfFault>
     requires { seen.old ≡ [] }
     ensures read { Gives result parser.new (nodes.read parser.old) }

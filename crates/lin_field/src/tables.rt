@@ -19,6 +19,7 @@ use std::marker::Model;
 /// What follows the name of an event-triggered frame in that of the table of its members.
 const MEMBERS: &[u8] = b".members";
 
+/// Adds a warning (22 Rounded) if a number was rounded to thousandths.
 pub fn warn_of_rounding(warned: &mut Vec<Finding>, decimal: &Decimal) -> Result<(), AllocError>
     ensures { OnOk result (warned.new.items ≡ warned.old.items ++ rounded_warnings decimal.now) }
 {

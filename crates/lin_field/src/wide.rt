@@ -74,8 +74,7 @@ fn has_point(text: &[u8]) -> bool
     text.iter().any(|c| *c == b'.')
 }
 
-/// A number without fraction, of up to 64 bits.
-// WIDE
+/// Reads a number without a fraction, of up to 64 bits: `WIDE`.
 pub fn wide_int(parser: &mut Parser<'_>) -> Result<WideNumber, LdfFault>
     ensures { Gives result parser.new (wide_int.read parser.old) }
 {

@@ -18,6 +18,7 @@ static CLASS: [u8; 256] = *b"\
     xxxxxxxxxxxxxxxxxxxxxxxxxxxxxxxx\
     xxxxxxxxxxxxxxxxxxxxxxxxxxxxxxxx";
 
+/// Whether a byte separates tokens: a space, a tab, a line feed or a carriage return.
 #[inline(always)]
 pub fn is_separator(c: u8) -> bool
     ensures { result ≡ is_separator c }
@@ -25,6 +26,7 @@ pub fn is_separator(c: u8) -> bool
     CLASS[c as usize] == b's'
 }
 
+/// Whether a byte may begin a word: a letter or `_`.
 #[inline(always)]
 pub fn is_letter(c: u8) -> bool
     ensures { result ≡ is_letter c }
@@ -32,6 +34,7 @@ pub fn is_letter(c: u8) -> bool
     CLASS[c as usize] == b'L'
 }
 
+/// Whether a byte is a decimal digit.
 #[inline(always)]
 pub fn is_digit(c: u8) -> bool
     ensures { result ≡ is_digit c }
@@ -39,12 +42,14 @@ pub fn is_digit(c: u8) -> bool
     CLASS[c as usize] == b'D'
 }
 
+/// Whether a byte is a hexadecimal digit, in either case.
 pub fn is_hex_digit(c: u8) -> bool
     ensures { result ≡ is_hex_digit c }
 {
     is_digit(c) || (b'A' <= c && c <= b'F') || (b'a' <= c && c <= b'f')
 }
 
+/// Whether a byte may be in a word: a letter, `_` or a decimal digit.
 #[inline(always)]
 pub fn is_word_byte(c: u8) -> bool
     ensures { result ≡ is_word_byte c }

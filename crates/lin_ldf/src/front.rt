@@ -31,6 +31,7 @@ pub struct Front<'a> {
 }
 
 impl<'a> Front<'a> {
+    /// Makes a reader that is at the first token of a text.
     pub fn new(source: &'a [u8]) -> Front<'a>
         ensures ready { IsReady result.lexer }
         ensures symbols { symbols_of result ≡ symbols_in source.now (start_of source.now).tokens }

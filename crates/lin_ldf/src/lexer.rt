@@ -378,6 +378,7 @@ pub struct Lexer<'a> {
 }
 
 impl<'a> Lexer<'a> {
+    /// Makes a lexer that is at the first byte of a text, after a byte order mark.
     pub fn new(source: &'a [u8]) -> Lexer<'a>
         ensures start { still result ≡ start_of source.now }
         ensures within { mark_len source.now ≤ length source.now }

@@ -61,7 +61,7 @@ fn same_pairs(text: &[u8], word: &[u8]) -> bool
     text.iter().zip(word).all(|(a, b)| *a == *b)
 }
 
-// (words are short: byte by byte is faster than the search for a difference that `==` makes)
+/// Whether two texts are the same bytes. Words are short: a comparison byte by byte is faster than `==`.
 pub fn is_word(text: &[u8], word: &[u8]) -> bool
     ensures { result ≡ bytes_eq text.now word.now }
 {
@@ -89,6 +89,7 @@ fn is_header_word(word: &[u8]) -> bool
 }
 
 impl<'a> Parser<'a> {
+    /// Makes a parser that is at the first token of a text.
     pub fn new(alloc: Global, source: &'a [u8]) -> Parser<'a>
         ensures { result ≡ symbols_in source.now (start_of source.now).tokens }
     {
@@ -99,6 +100,7 @@ impl<'a> Parser<'a> {
         }
     }
 
+    /// The allocator, for what is read.
     pub fn alloc(&self) -> Global {
         self.alloc
     }
@@ -124,12 +126,14 @@ impl<'a> Parser<'a> {
         self.front.left()
     }
 
+    /// The kind of the next token, or `None` at the end of the text and before what isn't a token.
     pub fn front_kind(&self) -> Option<TokenKind>
         ensures { result ≡ front_kind self.now }
     {
         self.front.kind()
     }
 
+    /// Whether the next token is of this kind.
     pub fn is_at(&self, kind: TokenKind) -> bool
         ensures { result ≡ is_next kind self.now }
     {
@@ -139,6 +143,7 @@ impl<'a> Parser<'a> {
         }
     }
 
+    /// Whether the next token is this word.
     pub fn is_at_word(&self, word: &[u8]) -> bool
         ensures { result ≡ is_word_next word.now self.now }
     {
@@ -175,6 +180,7 @@ impl<'a> Parser<'a> {
         self.front.skip();
     }
 
+    /// Reads a mark. Another token is a syntax error at its place.
     pub fn mark(&mut self, kind: TokenKind) -> Result<(), LdfFault>
         ensures { Gives result self.new ((mark kind).read self.old) }
     {
@@ -197,6 +203,7 @@ impl<'a> Parser<'a> {
         Ok(place)
     }
 
+    /// Reads this word. Another token is a syntax error at its place.
     pub fn keyword(&mut self, word: &[u8]) -> Result<(), LdfFault>
         ensures { Gives result self.new ((keyword word.now).read self.old) }
     {
@@ -207,7 +214,7 @@ impl<'a> Parser<'a> {
         Ok(())
     }
 
-    // word, mark
+    /// Reads this word and a mark.
     pub fn keyword_before(&mut self, word: &[u8], end: TokenKind) -> Result<(), LdfFault>
         ensures { Gives result self.new ((keyword word.now <& mark end).read self.old) }
     {
@@ -227,6 +234,7 @@ impl<'a> Parser<'a> {
         Ok(Name { text, line, column })
     }
 
+    /// Reads a word as a name. Another token is a syntax error at its place.
     #[inline(always)]
     pub fn word(&mut self) -> Result<Name, LdfFault>
         ensures { Gives result self.new (word.read self.old) }
@@ -251,7 +259,7 @@ impl<'a> Parser<'a> {
         self.name()
     }
 
-    // new WORD, mark
+    /// Reads a name that isn't in `seen`, and a mark. `seen` has the name afterwards.
     pub fn declared_before(
         &mut self,
         seen: &mut Names<'a>,
@@ -265,7 +273,7 @@ impl<'a> Parser<'a> {
         Ok(name)
     }
 
-    // WORD, mark
+    /// Reads a name and a mark.
     pub fn word_before(&mut self, end: TokenKind) -> Result<Name, LdfFault>
         ensures { Gives result self.new ((word <& mark end).read self.old) }
     {
@@ -274,7 +282,7 @@ impl<'a> Parser<'a> {
         Ok(name)
     }
 
-    // INT, mark
+    /// Reads an integer and a mark.
     pub fn int_before(&mut self, end: TokenKind) -> Result<Number, LdfFault>
         ensures { Gives result self.new ((int <& mark end).read self.old) }
     {
@@ -317,6 +325,7 @@ impl<'a> Parser<'a> {
         }
     }
 
+    /// Reads an integer of up to 32 bits.
     pub fn int(&mut self) -> Result<Number, LdfFault>
         ensures { Gives result self.new (int.read self.old) }
     {
@@ -335,8 +344,7 @@ impl<'a> Parser<'a> {
         self.number(number_values::thousandths(self.text()))
     }
 
-    /// A number in thousandths of a unit.
-    // DEC, unit, mark
+    /// Reads a number with decimals as thousandths of a unit, the unit and a mark: `DEC unit mark`.
     pub fn dec_in(&mut self, unit: &[u8], end: TokenKind) -> Result<Number, LdfFault>
         ensures { Gives result self.new ((dec_in unit.now end).read self.old) }
     {

@@ -185,12 +185,14 @@ impl Description {
         self.slaves.as_slice()
     }
 
+    /// The signals, in the order of the LDF.
     pub fn signals(&self) -> &[Signal]
         ensures { result.now ≡ self.now.signals }
     {
         self.signals.as_slice()
     }
 
+    /// The unconditional frames, in the order of the LDF.
     pub fn frames(&self) -> &[Frame]
         ensures { result.now ≡ self.now.frames }
     {

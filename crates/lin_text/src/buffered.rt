@@ -113,6 +113,7 @@ impl<'a, W: Write> TextWriter<'a, W> {
         }
     }
 
+    /// Puts the bytes of a text. What doesn't fit into the buffer is written.
     #[inline]
     pub fn put_text(&mut self, text: &str)
         ensures { Grows W.contents self.old self.new text.now }
@@ -120,6 +121,7 @@ impl<'a, W: Write> TextWriter<'a, W> {
         self.put(text.as_bytes());
     }
 
+    /// Puts a byte. If the buffer is full, it is written first.
     #[inline]
     pub fn put_byte(&mut self, byte: u8)
         ensures { Grows W.contents self.old self.new (byte ∷ []) }

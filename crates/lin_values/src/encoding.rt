@@ -299,12 +299,14 @@ impl Encoding {
         })
     }
 
+    /// The items of the encoding.
     pub fn coding(&self) -> &CodingType
         ensures { result.now ≡ self.now }
     {
         &self.coding
     }
 
+    /// What the items have in common, found once.
     pub fn traits(&self) -> Traits
         ensures numeric { result.is_numeric ≡ is_numeric self.now.items }
         ensures range { result.has_range ≡ list_any is_range (all_items self.now.items) }

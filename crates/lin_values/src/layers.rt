@@ -19,6 +19,7 @@ pub struct Span {
 }
 
 impl Span {
+    /// Whether a number is in the span.
     pub fn has(self, number: u16) -> bool
         ensures { result ≡ in_span self number }
     {
@@ -158,6 +159,7 @@ fn fill(
 }
 
 impl Layers {
+    /// Makes layers without spans.
     pub fn new(alloc: Global) -> Layers
         ensures { result ≡ [] }
     {

@@ -29,6 +29,7 @@ impl Model for Coefficient {
 }
 
 impl Coefficient {
+    /// Makes a coefficient of a number in the limits of physical ranges.
     pub fn new(decimal: Decimal) -> Coefficient
         requires { IsInLimits decimal }
         ensures { result ≡ decimal }
@@ -36,6 +37,7 @@ impl Coefficient {
         Coefficient { decimal }
     }
 
+    /// The number.
     pub fn decimal(&self) -> Decimal
         ensures same { result ≡ self.now }
         ensures limits { IsInLimits result }

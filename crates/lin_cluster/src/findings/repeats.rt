@@ -128,6 +128,7 @@ impl Repeats {
         Ok(Repeats { all, uses })
     }
 
+    /// Returns all numbers, in the order in which they were given.
     pub fn numbers(&self) -> &[Number]
         ensures { result.now ≡ self.now }
     {

@@ -90,6 +90,7 @@ fn put_event<W: Write>(out: &mut TextWriter<'_, W>, event: &EventFrame, table: &
     out.put_text(";\n");
 }
 
+/// Writes the protocol version of a node, if it has one.
 pub fn put_protocol<W: Write>(out: &mut TextWriter<'_, W>, protocol: &Option<Text>)
     ensures { Grows W.contents out.old out.new (protocol_text protocol.now) }
 {
@@ -98,6 +99,7 @@ pub fn put_protocol<W: Write>(out: &mut TextWriter<'_, W>, protocol: &Option<Tex
     }
 }
 
+/// Writes the configured NAD of a node, if it has one.
 pub fn put_nad<W: Write>(out: &mut TextWriter<'_, W>, nad: Option<Number>)
     ensures { Grows W.contents out.old out.new (nad_text nad) }
 {
@@ -162,6 +164,7 @@ pub fn put_entries<W: Write>(
     }
 }
 
+/// Writes a line for each signal.
 pub fn put_all_signals<W: Write>(out: &mut TextWriter<'_, W>, signals: &[Signal])
     ensures { Grows W.contents out.old out.new (flat_map signal_text signals.now) }
 {
@@ -170,6 +173,7 @@ pub fn put_all_signals<W: Write>(out: &mut TextWriter<'_, W>, signals: &[Signal]
     }
 }
 
+/// Writes each unconditional frame with its signals.
 pub fn put_all_frames<W: Write>(out: &mut TextWriter<'_, W>, frames: &[Frame])
     ensures { Grows W.contents out.old out.new (flat_map frame_text frames.now) }
 {
@@ -178,6 +182,7 @@ pub fn put_all_frames<W: Write>(out: &mut TextWriter<'_, W>, frames: &[Frame])
     }
 }
 
+/// Writes a line for each sporadic frame.
 pub fn put_all_sporadic<W: Write>(out: &mut TextWriter<'_, W>, frames: &[Sporadic])
     ensures { Grows W.contents out.old out.new (flat_map sporadic_text frames.now) }
 {
