@@ -26,7 +26,7 @@ command_of word =
     else if bytes_eq word (codes "FreeFormat") then Some command.FreeFormat
     else None
 
--- ---- from behind the opening brace up to the closing one, where a byte is an INT up to 255
+-- ---- from after the opening brace up to the closing one, where a byte is an INT up to 255
 -- bytes may end here, where so many more are needed
 abbrev pub is_end : ℕ → List Symbol → Bool
 is_end needed ts = needed == 0 && is_next CloseBrace ts

@@ -31,7 +31,7 @@ use Rattle.lin_values.specs.declared.identities.NodeIdentity.{NodeIdentity}
 abbrev pub identities_by : Parts → List Symbol → List NodeIdentity
 identities_by c ts = identities_of (node_of c 0).name (node_attributes ts)
 
--- ---- a command, by what stands behind its opening brace
+-- ---- a command, by the tokens after its opening brace
 abbrev pub if_found : Result (List ℕ) Finding → Option (List ℕ)
 if_found (Ok bytes) = Some bytes
 if_found (Err f) = None

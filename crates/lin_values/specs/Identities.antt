@@ -58,7 +58,7 @@ abbrev pub initial_warnings : List (List Symbol) → List Finding
 initial_warnings attributes = option_map_or (stopped BadIdentity) (initial_read attributes) []
 
 -- ---- configurable_frames { { WORD ; | WORD = message ; }* }
--- behind the name of a frame
+-- after the name of a frame
 abbrev pub message_behind : List Symbol → Reading (Option ℕ)
 message_behind ts = do
   n ← number_next 0 0xFFFF ts

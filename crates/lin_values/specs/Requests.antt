@@ -108,7 +108,7 @@ assign_frame c ids node frame = do
       (at_name NotConfigurable frame)
 
 -- ---- AssignFrameIdRange { node , index [ , pid ].. }
--- without protected identifiers: those of the four frames of the list from the index on, FF behind its end
+-- without protected identifiers: those of the four frames of the list from the index on, FF after its end
 abbrev pub listed_pid : Parts → List ConfigurableFrame → ℕ → Option ℕ
 listed_pid c fs k = option_map_or (λ f. pid_named c f.name) (slice_get fs k) (Some 0xFF)
 
@@ -193,7 +193,7 @@ abbrev pub other_pid : Parts → Number → ConfigurableFrame → List Finding
 other_pid c pid f =
     when (not (pid.value == 0) && not (has_pid (pid_named c f.name) pid.value)) (at_number OtherPid pid)
 
--- 76: one behind the end of the list, if that is wanted
+-- 76: one after the end of the list, if that is wanted
 abbrev pub odd_pid : Parts → List ConfigurableFrame → Bool → ℕ → Number → List Finding
 odd_pid c fs is_wanted place pid =
     if pid.value == 0xFF then []

@@ -1,5 +1,5 @@
-//! The commands of node configuration in schedule tables (LIN 2.2A, section 9.2.5): what stands in their
-//! groups.
+//! The commands of node configuration in schedule tables (LIN 2.2A, section 9.2.5), and their
+//! arguments in braces.
 
 ghost use Rattle.std.specs.Prelude.{◌≡◌, IfOk, OnOk};
 ghost use Rattle.lin_values.specs.Commands.{arguments, byte_arguments, command_of, frame_arguments};
@@ -62,7 +62,7 @@ fn is_end(parser: &Parser<'_>, needed: usize) -> bool
     needed == 0 && parser.is_at(TokenKind::CloseBrace)
 }
 
-/// Reads up to the closing brace: at least so many bytes more, and at most so many, each behind a comma.
+/// Reads up to the closing brace: at least so many bytes more, and at most so many, each after a comma.
 fn more_bytes(
     parser: &mut Parser<'_>,
     bytes: &mut Vec<Number>,
@@ -121,8 +121,8 @@ fn byte_arguments(parser: &mut Parser<'_>, more: usize) -> Result<Arguments, Ldf
     Ok(Arguments::Bytes(Many::new(bytes)))
 }
 
-/// Reads the arguments of a command, from behind the opening brace up to the closing one. If it fails, the
-/// parser stands at the first token that can't stand there.
+/// Reads the arguments of a command, from after the opening brace up to the closing one. If it fails, the
+/// parser is at the first token that isn't valid there.
 pub(crate) fn read_arguments(
     parser: &mut Parser<'_>,
     command: Command,

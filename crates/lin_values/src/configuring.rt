@@ -37,7 +37,7 @@ pub(crate) struct TableRequests {
     requests: Many<Option<[u8; 8]>>,
 }
 
-/// Returns the request of a command, by what stands behind its opening brace, and adds what is wrong with
+/// Returns the request of a command, by the tokens after its opening brace, and adds what is wrong with
 /// the command.
 fn command_request(
     group: &Parser<'_>,

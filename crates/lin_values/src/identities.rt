@@ -105,7 +105,7 @@ fn initial_in(
     or_found(read, &value, FindingKind::BadIdentity, warned)
 }
 
-// [ '=' message ] ';', behind the name of a frame
+// [ '=' message ] ';', after the name of a frame
 fn line_message(parser: &mut Parser<'_>) -> Result<Option<u16>, LdfFault>
     ensures { Stops result parser.new (line_message parser.old) }
 {

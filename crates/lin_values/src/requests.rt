@@ -211,7 +211,7 @@ fn assign_frame(
     }
 }
 
-/// Returns the protected identifier of a frame of a list: FF behind its end, and `None` if the frame has
+/// Returns the protected identifier of a frame of a list: FF after its end, and `None` if the frame has
 /// none.
 fn listed_pid(cluster: &Cluster, frames: &[ConfigurableFrame], place: usize) -> Option<u8>
     ensures { result ≡ listed_pid cluster.now frames.now place }

@@ -1,4 +1,4 @@
-//! Readers that stop at the first token that can't stand there.
+//! Readers that stop at the first token that isn't valid there.
 
 ghost use Rattle.std.specs.Prelude.{◌≡◌, ◌++◌, ◌≤◌, IfOk, IfSome, Ok, OnOk};
 ghost use Rattle.lin_ldf.specs.Forms.{Gives};
@@ -10,7 +10,7 @@ use lin_ldf::{LdfFault, Parser, TokenKind};
 use lin_parts::description::{Name, Number};
 use std::alloc::AllocError;
 
-/// Returns what was read ahead. If it was in its form, the parser then stands behind it, else it stays.
+/// Returns what was read ahead. If it was valid, the parser is after it; otherwise the parser doesn't move.
 fn or_stop<'a, T: Drop>(
     parser: &mut Parser<'a>,
     ahead: Parser<'a>,
