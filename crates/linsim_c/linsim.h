@@ -95,7 +95,8 @@ enum {
 /* The bits of linsim_bench_settings.flags. */
 enum {
     LINSIM_FIELD = 1,   /* reads LDFs of LIN 1.3 to ISO 17987 and of vendors' tools, as `--field` */
-    LINSIM_PHYSICAL = 2 /* reports physical values next to raw values, as `--physical` */
+    LINSIM_PHYSICAL = 2, /* reports physical values next to raw values, as `--physical` */
+    LINSIM_CONFIGURATION = 4 /* sends the node configuration commands of schedule tables, as `--configuration` */
 };
 
 /* The settings of a bench, those of `linsim live`. They begin as
@@ -105,7 +106,7 @@ enum {
 typedef struct linsim_bench_settings {
     size_t size;     /* the bytes of the struct that the caller has, 8 to 4,096 */
     size_t capacity; /* maximum number of waiting messages of a host, 1 to 1,024; 0: 16 */
-    uint32_t flags;  /* LINSIM_FIELD, LINSIM_PHYSICAL, both (their sum), or 0 */
+    uint32_t flags;  /* the sum of LINSIM_FIELD, LINSIM_PHYSICAL and LINSIM_CONFIGURATION, as far as wanted, or 0 */
     uint16_t format; /* LINSIM_FORMAT_LOG or LINSIM_FORMAT_NAMED */
     uint16_t table;  /* the schedule table at the beginning, by its number from 0 */
 } linsim_bench_settings;

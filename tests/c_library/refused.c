@@ -303,6 +303,7 @@ int main(int argc, char **argv) {
     opened_bench(0);
     opened_bench(LINSIM_PHYSICAL);
     opened_bench(LINSIM_FIELD);
+    opened_bench(LINSIM_CONFIGURATION);
     bench_lines(LINSIM_FORMAT_LOG);
     bench_lines(LINSIM_FORMAT_NAMED);
     long_message();

@@ -98,7 +98,8 @@ static size_t read_all(const char *name, uint8_t *to, size_t room) {
 }
 
 int main(int argc, char **argv) {
-    static const uint32_t flags[] = {0, LINSIM_PHYSICAL, LINSIM_FIELD | LINSIM_PHYSICAL};
+    static const uint32_t flags[] = {0, LINSIM_PHYSICAL, LINSIM_FIELD | LINSIM_PHYSICAL,
+                                     LINSIM_FIELD | LINSIM_PHYSICAL | LINSIM_CONFIGURATION};
     size_t n;
     if (argc != 4)
         return 2;

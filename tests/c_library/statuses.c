@@ -181,7 +181,7 @@ static uint32_t opened_with(const void *settings, size_t size) {
 /* The sizes of settings: shorter ones have the defaults for what they don't have, and longer ones have no more bytes but 0. */
 static void sizes(void) {
     enum { KNOWN = sizeof(linsim_bench_settings), MOST = 4096 };
-    static const linsim_bench_settings wrong = {0, 5000, 4, 2, 1};
+    static const linsim_bench_settings wrong = {0, 5000, 8, 2, 1};
     static uint8_t settings[MOST + 1];
     size_t size;
     for (size = 0; size < 8; size++)
@@ -204,7 +204,7 @@ static void sizes(void) {
     CHECK(is_left(opened_with(settings, 8), LINSIM_DONE, 0, 0, 0, 0));
     CHECK(is_left(opened_with(settings, 16), LINSIM_BAD_CAPACITY, 0, 0, 0, 0));
     CHECK(is_left(opened_with(settings, 20), LINSIM_UNKNOWN_FLAGS, 0, 0, 0, 0));
-    settings[16] = 3;
+    settings[16] = 7;
     CHECK(is_left(opened_with(settings, KNOWN), LINSIM_BAD_CAPACITY, 0, 0, 0, 0));
     settings[8] = 0;
     settings[9] = 4;
@@ -236,6 +236,8 @@ static void benches_opened(void) {
     settings.capacity = SIZE_MAX;
     CHECK(is_left(opened(&handle, ldf, ldf_length, &settings), LINSIM_BAD_CAPACITY, 0, 0, 0, 0));
     settings.flags = 1u << 31 | LINSIM_FIELD;
+    CHECK(is_left(opened(&handle, ldf, ldf_length, &settings), LINSIM_UNKNOWN_FLAGS, 0, 0, 0, 0));
+    settings.flags = 8;
     CHECK(is_left(opened(&handle, ldf, ldf_length, &settings), LINSIM_UNKNOWN_FLAGS, 0, 0, 0, 0));
     settings.flags = settings.capacity = 0;
     settings.format = 2;
@@ -386,6 +388,7 @@ static void limits(void) {
     CHECK(LINSIM_END_OK == 1 && LINSIM_END_IS == 2 && LINSIM_END_REFUSED == 3 && LINSIM_END_EXPECTED == 4);
     CHECK(LINSIM_END_BAD_LINE == 5 && LINSIM_END_SLOT_LIMIT == 6);
     CHECK(LINSIM_FORMAT_LOG == 0 && LINSIM_FORMAT_NAMED == 1 && LINSIM_FIELD == 1 && LINSIM_PHYSICAL == 2);
+    CHECK(LINSIM_CONFIGURATION == 4);
 }
 
 /* Each status was seen but those that a full memory or a full log has. */

@@ -2,7 +2,7 @@
 use Rattle.std.proofs.Common.{◌≡◌, ◌∙◌, ℕ, true, false, List, [], ◌∷◌, ◌++◌, reverse, length, refl, sym, ap, arith, is_some, Result, Ok, Err, Some}
 use Rattle.std.proofs.lemmas.List.{length-reverse, reverse-append, reverse-reverse}
 use Rattle.lin_parts.specs.declared.parts.Parts.{Parts}
-use Rattle.lin_core.specs.Core.{CoreData, IsAlike, answered, past_of}
+use Rattle.lin_core.specs.Core.{CoreData, IsAlike, entry_with_reply, past_of}
 use Rattle.lin_core.specs.History.{Slot, finished_slot, open_slot}
 use Rattle.lin_core.specs.Replies.{may}
 use Rattle.lin_core.specs.Runs.{entry_of}
@@ -11,9 +11,9 @@ use Rattle.lin_core.specs.declared.port.PortId.{PortId}
 use Rattle.lin_core.specs.declared.step.Step.{Step}
 use Rattle.lin_core.specs.declared.step.Step.TheVariants.{Finish}
 use Rattle.lin_bench.specs.Added.{added_after, rules_after}
-use Rattle.lin_bench.specs.Adding.{AddedFail, Adds, AreAdded, HasFinished, IsFull, MakesAdded}
-use Rattle.lin_bench.specs.Making.{IsGrown, IsMade, MakesSteps, RuledData, StepsFail, course_on}
-use Rattle.lin_bench.specs.Slots.{Course, after, past_after}
+use Rattle.lin_bench.specs.Adding.{AddedFail, AddsAfterFinish, AreAdded, HasFinished, IsStepFault, MakesAdded}
+use Rattle.lin_bench.specs.Making.{IsGrown, AreExecuted, MakesSteps, RuledData, StepsFail, course_on}
+use Rattle.lin_bench.specs.Slots.{Course, course_after, past_after}
 use Rattle.lin_bench.specs.declared.rules.Rules.{Rules}
 use Rattle.lin_bench.specs.declared.fault.MakeFault.{MakeFault}
 use Rattle.lin_bench.specs.declared.fault.MakeFault.TheVariants.{LogFull, OutOfMemory}
@@ -28,7 +28,7 @@ past-append c o cap past (s ∷ ss) ts = past-append c o cap (entry_of c o cap p
 pub added-nothing : (a : CoreData) → AreAdded a [] a
 added-nothing a = record { past = refl; alike = (refl, refl, refl) }
 
-pub added-one : (a b : CoreData) (by : PortId) (step : Step) → b.log ≡ a.log ++ answered a by step ∷ [] → IsAlike a b → AreAdded a ((by, step) ∷ []) b
+pub added-one : (a b : CoreData) (by : PortId) (step : Step) → b.log ≡ a.log ++ entry_with_reply a by step ∷ [] → IsAlike a b → AreAdded a ((by, step) ∷ []) b
 added-one a b by step e alike = record { past = past-one a b by step e; alike = alike }
 
 pub added-more : (a b d : CoreData) (ss ts : List (PortId × Step)) → AreAdded a ss b → AreAdded b ts d → AreAdded a (ss ++ ts) d
@@ -74,7 +74,7 @@ pub fails-among : (fault : MakeFault) (a b d : CoreData) (ss : List (PortId × S
 fails-among fault a b d ss t ts p q =
     (added-fails-later fault a b ss (t ∷ ts) p (added-fails-first fault b (t ∷ []) ts q.0), grown-more a b d (grown-added a b ss p) q.1)
 
-pub one-fails : (fault : MakeFault) (a : CoreData) (by : PortId) (step : Step) → IsFull fault a → AddedFail fault a ((by, step) ∷ [])
+pub one-fails : (fault : MakeFault) (a : CoreData) (by : PortId) (step : Step) → IsStepFault fault a → AddedFail fault a ((by, step) ∷ [])
 one-fails LogFull a by step full = omega (arith, full, length-reverse a.log)
 one-fails OutOfMemory a by step full = tt
 
@@ -88,17 +88,17 @@ finish-course : (a : RuledData) (by : PortId) (c : Parts) (o cap : ℕ) (past fi
       past = past_after c o cap finished (added_after c (entry_of c o cap past (by, Finish)) past rules);
       rules = rules_after c (entry_of c o cap past (by, Finish)) past rules;
     }
-    ≡ after c o cap (course_on a) ((by, Finish) ∷ [])
+    ≡ course_after c o cap (course_on a) ((by, Finish) ∷ [])
 finish-course a by c o cap past finished rules p e same fin = rw (p, e, same, fin) refl
 
-alike-course : (a b : CoreData) (at : Course) (ss : List (PortId × Step)) → IsAlike a b → after b.cluster b.opening b.capacity at ss ≡ after a.cluster a.opening a.capacity at ss
+alike-course : (a b : CoreData) (at : Course) (ss : List (PortId × Step)) → IsAlike a b → course_after b.cluster b.opening b.capacity at ss ≡ course_after a.cluster a.opening a.capacity at ss
 alike-course a b at ss alike =
-    ap (λ c. after c b.opening b.capacity at ss) alike.0 ∙ ap (λ o. after a.cluster o b.capacity at ss) alike.1
-    ∙ ap (λ k. after a.cluster a.opening k at ss) alike.2
+    ap (λ c. course_after c b.opening b.capacity at ss) alike.0 ∙ ap (λ o. course_after a.cluster o b.capacity at ss) alike.1
+    ∙ ap (λ k. course_after a.cluster a.opening k at ss) alike.2
 
 pub finish-added : {X : Type 0} (a b d : RuledData) (by : PortId) (s : Slot) (r : Result X MakeFault)
     → AreAdded a.core ((by, Finish) ∷ []) b.core → b.rules ≡ a.rules → HasFinished b.core by (past_of a.core) s
-    → Adds b (entry_of b.core.cluster b.core.opening b.core.capacity (past_of a.core) (by, Finish)) (past_of a.core) r d
+    → AddsAfterFinish b (entry_of b.core.cluster b.core.opening b.core.capacity (past_of a.core) (by, Finish)) (past_of a.core) r d
     → MakesSteps a ((by, Finish) ∷ []) r d
 finish-added a b d by s (Ok x) p same fin q =
     let is = ap is_some (finished-slot b.core.cluster b.core.opening b.core.capacity (past_of a.core) by s fin.slot fin.may) in
@@ -124,12 +124,12 @@ has-finished a b by s p e m = record { newest = rw (p.alike.0, p.alike.1, p.alik
 
 -- ---- other steps
 pub plain-made : (a b : RuledData) (by : PortId) (step : Step) → AreAdded a.core ((by, step) ∷ []) b.core → b.rules ≡ a.rules
-    → is_some (finished_slot (answered a.core by step) (past_of a.core)) ≡ false → IsMade a ((by, step) ∷ []) b
+    → is_some (finished_slot (entry_with_reply a.core by step) (past_of a.core)) ≡ false → AreExecuted a ((by, step) ∷ []) b
 plain-made a b by step p same none =
     record {
       course =
           (let past = p.past in rw (past, same) refl)
-          ∙ sym (adds-nothing a.core.cluster a.core.opening a.core.capacity (past_of a.core) a.rules (answered a.core by step) none);
+          ∙ sym (adds-nothing a.core.cluster a.core.opening a.core.capacity (past_of a.core) a.rules (entry_with_reply a.core by step) none);
       alike = p.alike;
     }
 

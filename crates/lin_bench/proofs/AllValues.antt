@@ -14,13 +14,13 @@ use Rattle.lin_frame.specs.declared.value.Value.{Value}
 use Rattle.lin_frame.specs.declared.value.Value.TheVariants.{Scalar, Bytes}
 use Rattle.lin_values.specs.Coded.{signal_at, CodedData}
 use Rattle.lin_values.specs.Meaning.{meaning}
-use Rattle.lin_values.specs.Raws.{array_spelled, has, has_raw, has_text, is_decimal, is_value, raws_of, raws_within, same_value, scalars, values_of, RawsData}
-use Rattle.lin_values.specs.Warnings.{most_of}
+use Rattle.lin_values.specs.Raws.{array_spelled, has, has_raw, value_has_text, is_decimal_within, is_value, raws_of, raws_within, same_value, scalars, values_of, RawsData}
+use Rattle.lin_values.specs.Warnings.{greatest_raw}
 use Rattle.lin_values.specs.declared.layers.Span.{Span}
 use Rattle.lin_values.proofs.CodedAgain.{turned}
 use Rattle.lin_values.proofs.OnlyRaw.{same-value, value-same}
 use Rattle.lin_values.proofs.WaysBack.{array-fails, decimal-numeric}
-use Rattle.lin_bench.specs.Meant.{all_scalars, is_among, is_array, scalar_count, values_in, values_within, AreSmall}
+use Rattle.lin_bench.specs.Meant.{all_scalars, is_among_values, is_array, scalar_count, values_in, values_within, AreSmall}
 use Rattle.lin_bench.proofs.SpelledArrays.{array_bytes, one-array}
 
 -- ---- scalars that pass a test
@@ -63,7 +63,7 @@ scalars-counted = refl
 abbrev tested : CodedData → ℕ → (Value → Bool) → Value → Bool
 tested k s t v = is_value k s v && t v
 
-most-small : (bits : ℕ) → most_of bits < 65536
+most-small : (bits : ℕ) → greatest_raw bits < 65536
 most-small bits =
     let h : 2 ^ min bits 16 ≤ 2 ^ 16 = pow_mono {j = 16} (omega arith) in
     omega arith
@@ -72,20 +72,20 @@ second-fails : (a b c : Bool) → b ≡ false → (a && b) && c ≡ false
 second-fails true b c e = ap (λ x. x && c) e
 second-fails false b c e = refl
 
-great-value : (k : CodedData) (s : ℕ) (t : Value → Bool) (i : ℕ) → most_of (signal_at k s).bits + 1 ≤ i → tested k s t (Scalar i) ≡ false
+great-value : (k : CodedData) (s : ℕ) (t : Value → Bool) (i : ℕ) → greatest_raw (signal_at k s).bits + 1 ≤ i → tested k s t (Scalar i) ≡ false
 great-value k s t i le =
-    let no : nat_le i (most_of (signal_at k s).bits) ≡ false = grind (arith, nat_tests) in
-    second-fails (not (signal_at k s).is_array) (nat_le i (most_of (signal_at k s).bits)) (t (Scalar i)) no
+    let no : nat_le i (greatest_raw (signal_at k s).bits) ≡ false = grind (arith, nat_tests) in
+    second-fails (not (signal_at k s).is_array) (nat_le i (greatest_raw (signal_at k s).bits)) (t (Scalar i)) no
 
 scalars-tested : (k : CodedData) (s : ℕ) (t : Value → Bool) → filter (tested k s t) all_scalars ≡ filter (tested k s t) (map Scalar (scalars k s))
 scalars-tested k s t =
-    let lt : most_of (signal_at k s).bits < 65536 = most-small (signal_at k s).bits in
+    let lt : greatest_raw (signal_at k s).bits < 65536 = most-small (signal_at k s).bits in
     let n : scalar_count ≡ 65536 = scalars-counted in
-    pass-below (tested k s t) (most_of (signal_at k s).bits + 1) scalar_count (omega arith) (great-value k s t)
+    pass-below (tested k s t) (greatest_raw (signal_at k s).bits + 1) scalar_count (omega arith) (great-value k s t)
 
 no-scalars : (k : CodedData) (s : ℕ) (t : Value → Bool) → (signal_at k s).is_array ≡ true → filter (tested k s t) all_scalars ≡ []
 no-scalars k s t e =
-    none-pass (tested k s t) 0 scalar_count (λ i h. ap (λ b. (not b && nat_le i (most_of (signal_at k s).bits)) && t (Scalar i)) e)
+    none-pass (tested k s t) 0 scalar_count (λ i h. ap (λ b. (not b && nat_le i (greatest_raw (signal_at k s).bits)) && t (Scalar i)) e)
 
 first-fails : (a b c : Bool) → a ≡ false → (a && b) && c ≡ false
 first-fails true b c e = absurd (let no : true ≡ false = e in cc)
@@ -125,7 +125,7 @@ arrays-one spans (Some (Bytes bs)) p xs same one =
 
 pub text-values : (r : RawsData) (k : CodedData) (s : ℕ) (text : List ℕ) → ((v : Value) → has r v ≡ raws_of k s text v) → values_in r ≡ values_of k s text
 text-values r k s text same =
-    let t : Value → Bool = λ v. option_map_or (has_text k s text v) (meaning k s v) false in
+    let t : Value → Bool = λ v. option_map_or (value_has_text k s text v) (meaning k s v) false in
     let spelled : Value = array_spelled (signal_at k s).bits text in
     let array : Bool = (signal_at k s).is_array in
     ap (λ xs. xs ++ filter is_array (option_to_list r.coded)) (filter_agree (has r) (tested k s t) same all_scalars)
@@ -145,25 +145,25 @@ last-fails false b e = refl
 pub within-values : (r : RawsData) (k : CodedData) (s : ℕ) (low high : ℤ) (unit : List ℕ) → ((v : Value) → has r v ≡ raws_within k s low high unit v)
     → values_in r ≡ values_within k s low high unit
 within-values r k s low high unit same =
-    let t : Value → Bool = λ v. option_map_or (is_decimal low high unit) (meaning k s v) false in
+    let t : Value → Bool = λ v. option_map_or (is_decimal_within low high unit) (meaning k s v) false in
     ap (λ xs. xs ++ filter is_array (option_to_list r.coded)) (filter_agree (has r) (tested k s t) same all_scalars ∙ scalars-tested k s t)
     ∙ ap (λ xs. filter (tested k s t) (map Scalar (scalars k s)) ++ xs)
-    (arrays-none r.spans r.coded (λ bs. same (Bytes bs) ∙ last-fails (is_value k s (Bytes bs)) (t (Bytes bs)) (array-fails (is_decimal low high unit) (decimal-numeric low high unit) k s bs)))
+    (arrays-none r.spans r.coded (λ bs. same (Bytes bs) ∙ last-fails (is_value k s (Bytes bs)) (t (Bytes bs)) (array-fails (is_decimal_within low high unit) (decimal-numeric low high unit) k s bs)))
     ∙ append-nil (filter (tested k s t) (map Scalar (scalars k s)))
 
 small-value : (k : CodedData) (s : ℕ) (t : Value → Bool) (n : ℕ) → tested k s t (Scalar n) ≡ true → n < 65536
 small-value k s t n e =
-    let lt : most_of (signal_at k s).bits < 65536 = most-small (signal_at k s).bits in
-    elim (cases_lt n (most_of (signal_at k s).bits + 1)) [
+    let lt : greatest_raw (signal_at k s).bits < 65536 = most-small (signal_at k s).bits in
+    elim (cases_lt n (greatest_raw (signal_at k s).bits + 1)) [
       | inl below ↦ omega arith
       | inr above ↦ absurd (let no : true ≡ false = sym e ∙ great-value k s t n above in cc)
     ]
 
 pub text-small : (r : RawsData) (k : CodedData) (s : ℕ) (text : List ℕ) → ((v : Value) → has r v ≡ raws_of k s text v) → AreSmall r
-text-small r k s text same n e = small-value k s (λ v. option_map_or (has_text k s text v) (meaning k s v) false) n (sym (same (Scalar n)) ∙ e)
+text-small r k s text same n e = small-value k s (λ v. option_map_or (value_has_text k s text v) (meaning k s v) false) n (sym (same (Scalar n)) ∙ e)
 
 pub within-small : (r : RawsData) (k : CodedData) (s : ℕ) (low high : ℤ) (unit : List ℕ) → ((v : Value) → has r v ≡ raws_within k s low high unit v) → AreSmall r
-within-small r k s low high unit same n e = small-value k s (λ v. option_map_or (is_decimal low high unit) (meaning k s v) false) n (sym (same (Scalar n)) ∙ e)
+within-small r k s low high unit same n e = small-value k s (λ v. option_map_or (is_decimal_within low high unit) (meaning k s v) false) n (sym (same (Scalar n)) ∙ e)
 
 pub same-range : (r : RawsData) (k : CodedData) (s : ℕ) (low high from to : ℤ) (unit : List ℕ) → from ≡ low → to ≡ high
     → ((v : Value) → has r v ≡ raws_within k s from to unit v) → (v : Value) → has r v ≡ raws_within k s low high unit v
@@ -215,7 +215,7 @@ or-none : (a b : Bool) → b ≡ false → (a || b) ≡ a
 or-none true b e = refl
 or-none false b e = e
 
-pub among : (r : RawsData) (v : Value) → AreSmall r → has r v ≡ is_among (values_in r) v
+pub among : (r : RawsData) (v : Value) → AreSmall r → has r v ≡ is_among_values (values_in r) v
 among r (Scalar n) small =
     let test : Value → Bool = same_value (Scalar n) in
     let found : Bool = list_any test (filter (has r) all_scalars) in

@@ -5,17 +5,17 @@ use Rattle.std.specs.Str.Lines.{strip_carriage_return}
 use Rattle.lin_parts.specs.declared.parts.Parts.{Parts}
 use Rattle.lin_values.specs.Coded.{CodedData}
 use Rattle.lin_bench.specs.Words.{read_worded_line}
-use Rattle.lin_bench.specs.Scripts.{Script, bad_from, bad_lines, read, read_lines, with_bad, with_line, with_said, without_mark}
+use Rattle.lin_bench.specs.Scripts.{Script, bad_from, bad_lines, read, read_lines, with_bad_line, with_line, with_read_line, without_mark}
 use Rattle.lin_bench.specs.Read.{AreBadOf}
-use Rattle.lin_bench.specs.declared.line.Line.{Line}
+use Rattle.lin_bench.specs.declared.line.ScriptLine.{ScriptLine}
 use Rattle.lin_bench.specs.declared.reason.Reason.{Reason}
 
 -- one line more
-with-line : (l : ℕ × Line) (r : Script) (bad : List (ℕ × Reason)) → AreBadOf r bad → AreBadOf (with_line l r) bad
+with-line : (l : ℕ × ScriptLine) (r : Script) (bad : List (ℕ × Reason)) → AreBadOf r bad → AreBadOf (with_line l r) bad
 with-line l (Ok ls) bad h = h
 with-line l (Err first) bad h = h
 
-first-with : (n : ℕ) (line : Result (Option Line) Reason) (r : Script) (bad : List (ℕ × Reason)) → AreBadOf r bad → AreBadOf (with_said n line r) (with_bad n line bad)
+first-with : (n : ℕ) (line : Result (Option ScriptLine) Reason) (r : Script) (bad : List (ℕ × Reason)) → AreBadOf r bad → AreBadOf (with_read_line n line r) (with_bad_line n line bad)
 first-with n (Err why) r bad h = (bad, refl)
 first-with n (Ok None) r bad h = h
 first-with n (Ok (Some l)) r bad h = with-line (n, l) r bad h

@@ -5,11 +5,11 @@ use Rattle.lin_core.specs.Core.{CoreData, past_of}
 use Rattle.lin_core.specs.History.{time}
 use Rattle.lin_core.specs.declared.port.PortId.{PortId}
 use Rattle.lin_core.specs.declared.step.Step.{Step}
-use Rattle.lin_bench.specs.Bench.{BenchData, Fails, Judges, Makes, MakesLine, made_on, made_slots, ruled_of, state_of}
-use Rattle.lin_bench.specs.Made.{BenchState, judged, made, said, stepped}
-use Rattle.lin_bench.specs.Making.{IsGrown, IsMade, MakesSteps, RuledData, SlotsFail, StepsFail, extent_on}
+use Rattle.lin_bench.specs.Bench.{BenchData, MakeFails, GivesVerdict, MakesBench, MakesLine, made_on, made_slots, ruled_of, state_of}
+use Rattle.lin_bench.specs.Made.{BenchState, bench_with_verdict, made, said, bench_after_steps}
+use Rattle.lin_bench.specs.Making.{IsGrown, AreExecuted, MakesSteps, RuledData, SlotsFail, StepsFail, extent_on}
 use Rattle.lin_bench.specs.Rules.{ruled}
-use Rattle.lin_bench.specs.Slots.{Course, slots_in}
+use Rattle.lin_bench.specs.Slots.{Course, ended_slot_count}
 use Rattle.lin_bench.specs.declared.expected.Expected.{Expected}
 use Rattle.lin_bench.specs.declared.fault.MakeFault.{MakeFault}
 use Rattle.lin_bench.specs.declared.fault.MakeFault.TheVariants.{LogFull, OutOfMemory}
@@ -17,7 +17,7 @@ use Rattle.lin_bench.specs.declared.got.Verdict.{Verdict}
 use Rattle.lin_bench.specs.declared.got.Verdict.TheVariants.{Nothing}
 use Rattle.lin_bench.specs.declared.line.Disturbance.{Disturbance}
 use Rattle.lin_bench.specs.declared.line.Extent.{Extent}
-use Rattle.lin_bench.specs.declared.line.Line.TheVariants as line
+use Rattle.lin_bench.specs.declared.line.ScriptLine.TheVariants as line
 use Rattle.lin_bench.specs.declared.rules.Rule.{Rule}
 use Rattle.lin_bench.proofs.Makes.{grown-made, grown-more, grown-nothing}
 
@@ -27,42 +27,42 @@ steps-grown a b ss (Ok x) made = grown-made a b ss made
 steps-grown a b ss (Err fault) fails = fails.1
 
 -- there is no room for slots
-judged-past : (c : Parts) (o : ℕ) (b : BenchState) (what : Option Expected) → (judged c o b what).0.past ≡ b.past
+judged-past : (c : Parts) (o : ℕ) (b : BenchState) (what : Option Expected) → (bench_with_verdict c o b what).0.past ≡ b.past
 judged-past c o b None = refl
 judged-past c o b (Some what) = refl
 
 no-room-within : (b : BenchData) (how : Disturbance) (extent : Extent) (ends : Course → Bool) (what : Option Expected) (t : Bool)
-    → nat_lt b.left (slots_in (extent_on (ruled_of b) how extent ends)) ≡ t → SlotsFail LogFull (ruled_of b) how extent ends b.left
-    → Fails LogFull (made_slots b how extent ends what).0
+    → nat_lt b.left (ended_slot_count (extent_on (ruled_of b) how extent ends)) ≡ t → SlotsFail LogFull (ruled_of b) how extent ends b.left
+    → MakeFails LogFull (made_slots b how extent ends what).0
 no-room-within b how extent ends what true h full =
-    let many = ltb-true b.left (slots_in (extent_on (ruled_of b) how extent ends)) h in
+    let many = ltb-true b.left (ended_slot_count (extent_on (ruled_of b) how extent ends)) h in
     rw h (full.1 many)
 no-room-within b how extent ends what false h full =
-    let few = ltb-false b.left (slots_in (extent_on (ruled_of b) how extent ends)) h in
+    let few = ltb-false b.left (ended_slot_count (extent_on (ruled_of b) how extent ends)) h in
     let all = extent_on (ruled_of b) how extent ends in
-    rw h (rw (judged-past b.core.cluster b.core.opening (stepped b.core.cluster b.core.opening b.core.capacity (state_of b) (slots_in all) all) what) (full.0 few))
+    rw h (rw (judged-past b.core.cluster b.core.opening (bench_after_steps b.core.cluster b.core.opening b.core.capacity (state_of b) (ended_slot_count all) all) what) (full.0 few))
 
 pub slots-fail : (fault : MakeFault) (b : BenchData) (how : Disturbance) (extent : Extent) (ends : Course → Bool) (what : Option Expected)
-    → SlotsFail fault (ruled_of b) how extent ends b.left → Fails fault (made_slots b how extent ends what).0
+    → SlotsFail fault (ruled_of b) how extent ends b.left → MakeFails fault (made_slots b how extent ends what).0
 slots-fail LogFull b how extent ends what full = no-room-within b how extent ends what _ refl full
 slots-fail OutOfMemory b how extent ends what none = tt
 
 -- a bench is as steps left it
-made-state : (b new : BenchData) (count : ℕ) (ss : List (PortId × Step)) → IsMade (ruled_of b) ss (ruled_of new) → new.taken ≡ b.taken → new.left ≡ b.left - count
-    → state_of new ≡ stepped b.core.cluster b.core.opening b.core.capacity (state_of b) count ss
+made-state : (b new : BenchData) (count : ℕ) (ss : List (PortId × Step)) → AreExecuted (ruled_of b) ss (ruled_of new) → new.taken ≡ b.taken → new.left ≡ b.left - count
+    → state_of new ≡ bench_after_steps b.core.cluster b.core.opening b.core.capacity (state_of b) count ss
 made-state b new count ss made taken left =
     ap (λ (k : Course). record (state_of new) { past = k.past; rules = k.rules }) made.course ∙ rw (taken, left) refl
 
 -- slots were made, and then it was judged
 pub slots-judged : (b mid new : BenchData) (how : Disturbance) (extent : Extent) (ends : Course → Bool) (what : Option Expected) (r : Result Verdict MakeFault)
-    → IsMade (ruled_of b) (extent_on (ruled_of b) how extent ends) (ruled_of mid) → slots_in (extent_on (ruled_of b) how extent ends) + mid.left ≡ b.left
-    → mid.taken ≡ b.taken → Judges mid what r new → Makes (made_slots b how extent ends what) b r new
+    → AreExecuted (ruled_of b) (extent_on (ruled_of b) how extent ends) (ruled_of mid) → ended_slot_count (extent_on (ruled_of b) how extent ends) + mid.left ≡ b.left
+    → mid.taken ≡ b.taken → GivesVerdict mid what r new → MakesBench (made_slots b how extent ends what) b r new
 slots-judged b mid new how extent ends what (Ok verdict) made count taken (is, same) =
     let all = extent_on (ruled_of b) how extent ends in
-    let few : nat_lt b.left (slots_in all) ≡ false = le-ltb _ _ (omega (arith, count)) in
-    let left : mid.left ≡ b.left - slots_in all = omega (arith, count) in
-    let state = made-state b mid (slots_in all) all made taken left in (
-      is ∙ ap (λ (s : BenchState). judged mid.core.cluster mid.core.opening s what) state ∙ rw (made.alike.0, made.alike.1, few) refl,
+    let few : nat_lt b.left (ended_slot_count all) ≡ false = le-ltb _ _ (omega (arith, count)) in
+    let left : mid.left ≡ b.left - ended_slot_count all = omega (arith, count) in
+    let state = made-state b mid (ended_slot_count all) all made taken left in (
+      is ∙ ap (λ (s : BenchState). bench_with_verdict mid.core.cluster mid.core.opening s what) state ∙ rw (made.alike.0, made.alike.1, few) refl,
       (ap (λ (k : CoreData). k.cluster) same ∙ made.alike.0, ap (λ (k : CoreData). k.opening) same ∙ made.alike.1, ap (λ (k : CoreData). k.capacity) same ∙ made.alike.2),
     )
 slots-judged b mid new how extent ends what (Err LogFull) made count taken none = absurd none
@@ -73,7 +73,7 @@ slots-judged b mid new how extent ends what (Err OutOfMemory) made count taken s
 )
 
 -- a step was made
-pub step-made : (b new : BenchData) (by : PortId) (step : Step) → IsMade (ruled_of b) ((by, step) ∷ []) (ruled_of new) → new.taken ≡ b.taken → new.left ≡ b.left
+pub step-made : (b new : BenchData) (by : PortId) (step : Step) → AreExecuted (ruled_of b) ((by, step) ∷ []) (ruled_of new) → new.taken ≡ b.taken → new.left ≡ b.left
     → MakesLine b (line.Step by step) (Ok Nothing) new
 unfolding made said
 step-made b new by step made taken left =
@@ -82,7 +82,7 @@ step-made b new by step made taken left =
     (rw none (ap (λ (s : BenchState). (s, Nothing)) (made-state b new 0 ((by, step) ∷ []) made taken same)), made.alike)
 
 pub step-fails : (fault : MakeFault) (b : BenchData) (by : PortId) (step : Step) → StepsFail fault (ruled_of b) ((by, step) ∷ [])
-    → Fails fault (made_on b (line.Step by step)).0
+    → MakeFails fault (made_on b (line.Step by step)).0
 unfolding made said
 step-fails LogFull b by step full = let none : nat_lt b.left 0 ≡ false = le-ltb _ _ (omega arith) in rw none full
 step-fails OutOfMemory b by step none = tt

@@ -16,7 +16,7 @@ use Rattle.lin_values.specs.Layers.{in_span, IsBefore, IsSomeSpan}
 use Rattle.lin_values.specs.Raws.{count_of, has, has_raw, in_spans, same_value, AreRaws, RawsData}
 use Rattle.lin_values.specs.declared.layers.Span.{Span}
 use Rattle.lin_values.proofs.OnlyRaw.{same-value, value-same}
-use Rattle.lin_bench.specs.Meant.{all_scalars, is_among, is_array, only_one, scalar_count, values_in, AreSmall}
+use Rattle.lin_bench.specs.Meant.{all_scalars, is_among_values, is_array, only_one, scalar_count, values_in, AreSmall}
 use Rattle.lin_bench.proofs.AllValues.{among, range-split, scalars-counted}
 
 -- ---- how many pass a test
@@ -194,7 +194,7 @@ abbrev pub IsOnly : RawsData → Option Value → Type 0
 IsOnly r None = ((v : Value) → has r v ≡ false) ⊎ ((v : Value) × (w : Value) × (v ≢ w) × (has r v ≡ true) × (has r w ≡ true))
 IsOnly r (Some v) = has r v ≡ true
 
-only-by : (r : RawsData) (o : Option Value) (vs : List Value) → ((v : Value) → has r v ≡ is_among vs v) → length vs ≡ 1 → IsOnly r o → o ≡ only_one vs
+only-by : (r : RawsData) (o : Option Value) (vs : List Value) → ((v : Value) → has r v ≡ is_among_values vs v) → length vs ≡ 1 → IsOnly r o → o ≡ only_one vs
 only-by r o [] among one is = absurd (omega arith)
 only-by r (Some v) (x ∷ []) among one is = ap Some (alone x v (sym (among v) ∙ is))
 only-by r None (x ∷ []) among one (inl none) =

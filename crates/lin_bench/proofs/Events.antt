@@ -11,7 +11,7 @@ use Rattle.std.specs.Option.{option_map_or, option_or}
 use Rattle.lin_core.specs.History.{events}
 use Rattle.lin_core.specs.declared.event.Event.{Event}
 use Rattle.lin_core.specs.declared.log.LogEntry.{LogEntry}
-use Rattle.lin_bench.specs.Verdicts.{all_events, is_of, kind_of, same_kind}
+use Rattle.lin_bench.specs.Verdicts.{all_events, is_of_kind, kind_of, same_kind}
 use Rattle.lin_bench.specs.declared.taken.EventKind.{EventKind}
 use Rattle.lin_bench.proofs.Makes.{append-nothing}
 
@@ -22,10 +22,10 @@ one-kind kind None ks = zero-add (count_by (same_kind kind) ks)
 one-kind kind (Some k) ks = sym (sum_by-cons (λ x. cond (same_kind kind x) 1 0) k ks)
 
 -- the events of a kind are as many as the kinds of all events have it
-pub count-kinds : (kind : EventKind) (es : List Event) → count_by (is_of kind) es ≡ count_by (same_kind kind) (filter_map kind_of es)
+pub count-kinds : (kind : EventKind) (es : List Event) → count_by (is_of_kind kind) es ≡ count_by (same_kind kind) (filter_map kind_of es)
 count-kinds kind [] = refl
 count-kinds kind (e ∷ es) =
-    sum_by-cons (λ x. cond (is_of kind x) 1 0) e es ∙ ap (λ n. cond (is_of kind e) 1 0 + n) (count-kinds kind es) ∙ one-kind kind (kind_of e) (filter_map kind_of es)
+    sum_by-cons (λ x. cond (is_of_kind kind x) 1 0) e es ∙ ap (λ n. cond (is_of_kind kind e) 1 0 + n) (count-kinds kind es) ∙ one-kind kind (kind_of e) (filter_map kind_of es)
 
 -- ---- a log
 events-oldest : (ps : List LogEntry) (e : LogEntry) → all_events (ps ++ e ∷ []) ≡ events e ++ all_events ps
@@ -42,14 +42,14 @@ events-of-log (e ∷ es) =
 -- the events of a kind from an entry on
 pub from-entry : (kind : EventKind) (es : List LogEntry) (i : ℕ) (e : LogEntry) (told : List Event) (k : ℕ) → i < length es → e ≡ get_or es i e
     → told ≡ events e
-    → slice_get (filter (is_of kind) (flat_map events (drop i es))) k
-    ≡ slice_get (filter (is_of kind) told ++ filter (is_of kind) (flat_map events (drop (i + 1) es))) k
+    → slice_get (filter (is_of_kind kind) (flat_map events (drop i es))) k
+    ≡ slice_get (filter (is_of_kind kind) told ++ filter (is_of_kind kind) (flat_map events (drop (i + 1) es))) k
 from-entry kind es i e told k h is same =
     let rest = drop (i + 1) es in
     let here : drop i es ≡ e ∷ rest = drop-cons es i e h ∙ ap (λ x. x ∷ drop (suc i) es) (sym is) ∙ ap (λ j. e ∷ drop j es) (sym (add-one i)) in
-    ap (λ l. slice_get (filter (is_of kind) (flat_map events l)) k) here
-    ∙ ap (λ l. slice_get l k) (filter-append (is_of kind) (events e) (flat_map events rest))
-    ∙ ap (λ l. slice_get (filter (is_of kind) l ++ filter (is_of kind) (flat_map events rest)) k) (sym same)
+    ap (λ l. slice_get (filter (is_of_kind kind) (flat_map events l)) k) here
+    ∙ ap (λ l. slice_get l k) (filter-append (is_of_kind kind) (events e) (flat_map events rest))
+    ∙ ap (λ l. slice_get (filter (is_of_kind kind) l ++ filter (is_of_kind kind) (flat_map events rest)) k) (sym same)
 
 dropped : {A : Type 0} (xs : List A) (i : ℕ) → length xs ≤ i → drop i xs ≡ []
 dropped [] zero h = refl
@@ -58,8 +58,8 @@ dropped (x ∷ xs) zero h = absurd (omega arith)
 dropped (x ∷ xs) (suc i) h = dropped xs i (omega arith)
 
 no-entry : (kind : EventKind) (es : List LogEntry) (i k : ℕ) → length es ≤ i
-    → slice_get (filter (is_of kind) (flat_map events (drop i es))) k ≡ None
-no-entry kind es i k h = ap (λ l. slice_get (filter (is_of kind) (flat_map events l)) k) (dropped es i h)
+    → slice_get (filter (is_of_kind kind) (flat_map events (drop i es))) k ≡ None
+no-entry kind es i k h = ap (λ l. slice_get (filter (is_of_kind kind) (flat_map events l)) k) (dropped es i h)
 
 after-others : {A : Type 0} (xs ys : List A) (k : ℕ) → slice_get (xs ++ ys) (length xs + k) ≡ slice_get ys k
 after-others [] ys k = ap (slice_get ys) (zero-add k)
@@ -74,40 +74,40 @@ among-first (y ∷ xs) ys (suc k) x h = among-first xs ys k x h
 
 -- the events of a kind behind those of the first entries
 behind : (kind : EventKind) (es : List LogEntry) (i k : ℕ)
-    → slice_get (filter (is_of kind) (flat_map events es)) (count_by (is_of kind) (flat_map events (take i es)) + k)
-    ≡ slice_get (filter (is_of kind) (flat_map events (drop i es))) k
+    → slice_get (filter (is_of_kind kind) (flat_map events es)) (count_by (is_of_kind kind) (flat_map events (take i es)) + k)
+    ≡ slice_get (filter (is_of_kind kind) (flat_map events (drop i es))) k
 behind kind es i k =
     let xs = flat_map events (take i es) in
     let ys = flat_map events (drop i es) in
-    let n = count_by (is_of kind) xs + k in
-    ap (λ l. slice_get (filter (is_of kind) (flat_map events l)) n) (sym (take-append-drop i es))
-    ∙ ap (λ l. slice_get (filter (is_of kind) l) n) (flat_map-append events (take i es) (drop i es))
-    ∙ ap (λ l. slice_get l n) (filter-append (is_of kind) xs ys)
-    ∙ ap (λ m. slice_get (filter (is_of kind) xs ++ filter (is_of kind) ys) (m + k)) (sym (length-filter (is_of kind) xs))
-    ∙ after-others (filter (is_of kind) xs) (filter (is_of kind) ys) k
+    let n = count_by (is_of_kind kind) xs + k in
+    ap (λ l. slice_get (filter (is_of_kind kind) (flat_map events l)) n) (sym (take-append-drop i es))
+    ∙ ap (λ l. slice_get (filter (is_of_kind kind) l) n) (flat_map-append events (take i es) (drop i es))
+    ∙ ap (λ l. slice_get l n) (filter-append (is_of_kind kind) xs ys)
+    ∙ ap (λ m. slice_get (filter (is_of_kind kind) xs ++ filter (is_of_kind kind) ys) (m + k)) (sym (length-filter (is_of_kind kind) xs))
+    ∙ after-others (filter (is_of_kind kind) xs) (filter (is_of_kind kind) ys) k
 
 pub found-behind : (kind : EventKind) (es : List LogEntry) (i : ℕ) (e : LogEntry) (told : List Event) (k : ℕ) (x : Event) → i < length es
-    → e ≡ get_or es i e → told ≡ events e → slice_get (filter (is_of kind) told) k ≡ Some x
-    → slice_get (filter (is_of kind) (flat_map events es)) (count_by (is_of kind) (flat_map events (take i es)) + k) ≡ Some x
+    → e ≡ get_or es i e → told ≡ events e → slice_get (filter (is_of_kind kind) told) k ≡ Some x
+    → slice_get (filter (is_of_kind kind) (flat_map events es)) (count_by (is_of_kind kind) (flat_map events (take i es)) + k) ≡ Some x
 found-behind kind es i e told k x h is same found =
     behind kind es i k ∙ from-entry kind es i e told k h is same
-    ∙ among-first (filter (is_of kind) told) (filter (is_of kind) (flat_map events (drop (i + 1) es))) k x found
+    ∙ among-first (filter (is_of_kind kind) told) (filter (is_of_kind kind) (flat_map events (drop (i + 1) es))) k x found
 
 pub none-behind : (kind : EventKind) (es : List LogEntry) (i k : ℕ) → length es ≤ i
-    → slice_get (filter (is_of kind) (flat_map events es)) (count_by (is_of kind) (flat_map events (take i es)) + k) ≡ None
+    → slice_get (filter (is_of_kind kind) (flat_map events es)) (count_by (is_of_kind kind) (flat_map events (take i es)) + k) ≡ None
 none-behind kind es i k h = behind kind es i k ∙ no-entry kind es i k h
 
 -- how many events of a kind the first entries have, with one entry more
 pub with-entry : (kind : EventKind) (es : List LogEntry) (i : ℕ) (e : LogEntry) (told : List Event) → i < length es → e ≡ get_or es i e
     → told ≡ events e
-    → count_by (is_of kind) (flat_map events (take (i + 1) es))
-    ≡ count_by (is_of kind) (flat_map events (take i es)) + count_by (is_of kind) told
+    → count_by (is_of_kind kind) (flat_map events (take (i + 1) es))
+    ≡ count_by (is_of_kind kind) (flat_map events (take i es)) + count_by (is_of_kind kind) told
 with-entry kind es i e told h is same =
     let before = flat_map events (take i es) in
     let here : take (i + 1) es ≡ take i es ++ e ∷ [] = take_more es i e h ∙ ap (λ x. take i es ++ x ∷ []) (sym is) in
-    ap (λ l. count_by (is_of kind) (flat_map events l)) here
-    ∙ ap (count_by (is_of kind)) (flat_map-append events (take i es) (e ∷ []) ∙ ap (λ l. before ++ l) (append-nothing (events e) ∙ sym same))
-    ∙ sum_by-append (λ x. cond (is_of kind x) 1 0) before told
+    ap (λ l. count_by (is_of_kind kind) (flat_map events l)) here
+    ∙ ap (count_by (is_of_kind kind)) (flat_map-append events (take i es) (e ∷ []) ∙ ap (λ l. before ++ l) (append-nothing (events e) ∙ sym same))
+    ∙ sum_by-append (λ x. cond (is_of_kind kind x) 1 0) before told
 
 within : {A : Type 0} (xs : List A) (k : ℕ) (x : A) → slice_get xs k ≡ Some x → k < length xs
 within [] k x h = cc
@@ -116,10 +116,10 @@ within (y ∷ xs) (suc k) x h = let w = within xs k x h in omega (arith, w)
 
 -- an event after others of its entry is one of those up to the entry
 pub reached-at : (kind : EventKind) (es : List LogEntry) (i : ℕ) (e : LogEntry) (told : List Event) (k : ℕ) (x : Event) → i < length es
-    → e ≡ get_or es i e → told ≡ events e → slice_get (filter (is_of kind) told) k ≡ Some x
-    → count_by (is_of kind) (flat_map events (take i es)) + (k + 1) ≤ count_by (is_of kind) (flat_map events (take (i + 1) es))
+    → e ≡ get_or es i e → told ≡ events e → slice_get (filter (is_of_kind kind) told) k ≡ Some x
+    → count_by (is_of_kind kind) (flat_map events (take i es)) + (k + 1) ≤ count_by (is_of_kind kind) (flat_map events (take (i + 1) es))
 reached-at kind es i e told k x h is same found =
-    omega (arith, with-entry kind es i e told h is same, within (filter (is_of kind) told) k x found, length-filter (is_of kind) told)
+    omega (arith, with-entry kind es i e told h is same, within (filter (is_of_kind kind) told) k x found, length-filter (is_of_kind kind) told)
 
 kept-more : {A : Type 0} (p : A → Bool) (y : A) (ys zs : List A) (x : A) (b : Bool) → p y ≡ b → slice_get (filter p ys) (length (filter p zs)) ≡ Some x
     → slice_get (filter p (y ∷ ys)) (length (filter p (y ∷ zs))) ≡ Some x
@@ -136,12 +136,12 @@ kept-at p (y ∷ ys) (suc i) x h is passes = kept-more p y ys (take i ys) x (p y
 -- ---- the last event
 pub up-to-entry : (kind : EventKind) (es : List LogEntry) (n i : ℕ) (e : LogEntry) (told : List Event) → n ≡ i + 1 → i < length es → e ≡ get_or es i e
     → told ≡ events e
-    → find (is_of kind) (reverse (flat_map events (take n es)))
-    ≡ option_or (find (is_of kind) (reverse told)) (find (is_of kind) (reverse (flat_map events (take i es))))
+    → find (is_of_kind kind) (reverse (flat_map events (take n es)))
+    ≡ option_or (find (is_of_kind kind) (reverse told)) (find (is_of_kind kind) (reverse (flat_map events (take i es))))
 up-to-entry kind es n i e told en h is same =
     let before = flat_map events (take i es) in
     let here : take n es ≡ take i es ++ e ∷ [] = ap (λ j. take j es) en ∙ take_more es i e h ∙ ap (λ x. take i es ++ x ∷ []) (sym is) in
-    ap (λ l. find (is_of kind) (reverse (flat_map events l))) here
-    ∙ ap (λ l. find (is_of kind) (reverse l)) (flat_map-append events (take i es) (e ∷ []) ∙ ap (λ l. before ++ l) (append-nothing (events e) ∙ sym same))
-    ∙ ap (find (is_of kind)) (reverse-append before told)
-    ∙ find-append (is_of kind) (reverse told) (reverse before)
+    ap (λ l. find (is_of_kind kind) (reverse (flat_map events l))) here
+    ∙ ap (λ l. find (is_of_kind kind) (reverse l)) (flat_map-append events (take i es) (e ∷ []) ∙ ap (λ l. before ++ l) (append-nothing (events e) ∙ sym same))
+    ∙ ap (find (is_of_kind kind)) (reverse-append before told)
+    ∙ find-append (is_of_kind kind) (reverse told) (reverse before)

@@ -16,19 +16,19 @@ use Rattle.lin_core.specs.declared.reply.Refusal.{Refusal}
 use Rattle.lin_core.specs.declared.reply.Reply.TheVariants.{Done, Refused}
 use Rattle.lin_core.specs.declared.step.Step.{Step}
 use Rattle.lin_core.specs.declared.step.Step.TheVariants.{Open, Finish}
-use Rattle.lin_bench.specs.Made.{BenchState, course_of, expects, judged, made, made_within, said, slots_made, stepped}
-use Rattle.lin_bench.specs.Played.{first, in_turn, next, told}
-use Rattle.lin_bench.specs.Plays.{IsLogFull, Overfills, PlayFails, has_rule, is_rule}
+use Rattle.lin_bench.specs.Made.{BenchState, course_of, expects, bench_with_verdict, made, made_within, said, slots_made, bench_after_steps}
+use Rattle.lin_bench.specs.Played.{initial_bench, in_turn, next, line_result}
+use Rattle.lin_bench.specs.Plays.{EndsWithFullLog, Overfills, PlayFails, has_rule, is_rule}
 use Rattle.lin_bench.specs.Rules.{no_rules}
-use Rattle.lin_bench.specs.Slots.{Course, after, decision, due_in, due_node, due_now, extent_steps, hurt_steps, is_opened, most, past_after, slot_limit, slot_rest, slot_steps, slots_in, slots_steps}
+use Rattle.lin_bench.specs.Slots.{Course, course_after, decision, due_in, due_node, due_now, extent_steps, hurt_steps, is_opened, most, past_after, slot_limit, slot_rest, slot_steps, ended_slot_count, slots_steps}
 use Rattle.lin_bench.specs.declared.fault.PlayFault.{PlayFault}
 use Rattle.lin_bench.specs.declared.fault.PlayFault.TheVariants.{SlotLimit, LogFull, OutOfMemory}
 use Rattle.lin_bench.specs.declared.line.Disturbance.{Disturbance}
 use Rattle.lin_bench.specs.declared.line.Disturbance.TheVariants as slot
 use Rattle.lin_bench.specs.declared.expected.Expected.{Expected}
 use Rattle.lin_bench.specs.declared.line.Extent.{Extent}
-use Rattle.lin_bench.specs.declared.line.Line.{Line}
-use Rattle.lin_bench.specs.declared.line.Line.TheVariants as line
+use Rattle.lin_bench.specs.declared.line.ScriptLine.{ScriptLine}
+use Rattle.lin_bench.specs.declared.line.ScriptLine.TheVariants as line
 use Rattle.lin_bench.specs.declared.got.Verdict.{Verdict}
 use Rattle.lin_bench.specs.declared.rules.Rules.{Rules}
 use Rattle.lin_bench.proofs.DueFew.{IsSmall, nodes-few}
@@ -103,10 +103,10 @@ slot-refused c o cap how past h = refused-one how (due_now c o cap past) h
 
 -- ---- the steps of a line
 turn-few : (goes is_open : Bool) (one rest : List (PortId × Step)) → length one ≤ most_steps
-    → (is_open ≡ true → slots_in one ≡ 1) → (is_open ≡ false → length one ≤ 1)
-    → length rest ≤ most_steps * slots_in rest + 1
+    → (is_open ≡ true → ended_slot_count one ≡ 1) → (is_open ≡ false → length one ≤ 1)
+    → length rest ≤ most_steps * ended_slot_count rest + 1
     → length (cond goes (one ++ cond is_open rest []) [])
-    ≤ most_steps * slots_in (cond goes (one ++ cond is_open rest []) []) + 1
+    ≤ most_steps * ended_slot_count (cond goes (one ++ cond is_open rest []) []) + 1
 turn-few false is_open one rest few ends shut more = omega arith
 turn-few true true one rest few ends shut more =
     omega (arith, length-append one rest, slots_in-append one rest, few, ends refl, more)
@@ -114,8 +114,8 @@ turn-few true false one rest few ends shut more =
     let none : List (PortId × Step) = [] in
     omega (arith, length-append one none, slots_in-append one none, shut refl)
 
-turn-at-most : (goes is_open : Bool) (one rest : List (PortId × Step)) (n : ℕ) → (is_open ≡ true → slots_in one ≡ 1)
-    → (is_open ≡ false → slots_in one ≡ 0) → slots_in rest ≤ n → slots_in (cond goes (one ++ cond is_open rest []) []) ≤ suc n
+turn-at-most : (goes is_open : Bool) (one rest : List (PortId × Step)) (n : ℕ) → (is_open ≡ true → ended_slot_count one ≡ 1)
+    → (is_open ≡ false → ended_slot_count one ≡ 0) → ended_slot_count rest ≤ n → ended_slot_count (cond goes (one ++ cond is_open rest []) []) ≤ suc n
 turn-at-most false is_open one rest n ends shut more = omega arith
 turn-at-most true true one rest n ends shut more = omega (arith, slots_in-append one rest, ends refl, more)
 turn-at-most true false one rest n ends shut more =
@@ -124,27 +124,27 @@ turn-at-most true false one rest n ends shut more =
 slots-few : (c : Parts) (o cap : ℕ) (how : Disturbance) (goes : Course → Bool) (n : ℕ)
     (at : Course) → IsSmall c
     → length (slots_steps c o cap how goes n at)
-    ≤ most_steps * slots_in (slots_steps c o cap how goes n at) + 1
+    ≤ most_steps * ended_slot_count (slots_steps c o cap how goes n at) + 1
 unfolding slots_steps
 slots-few c o cap how goes zero at few = omega arith
 slots-few c o cap how goes (suc n) at few =
     let one = slot_steps c o cap how at.past in
     turn-few (goes at) (is_opened (due_now c o cap at.past)) one
-    (slots_steps c o cap how goes n (after c o cap at one)) (slot-few c o cap how at.past few)
+    (slots_steps c o cap how goes n (course_after c o cap at one)) (slot-few c o cap how at.past few)
     (λ h. one-slot c o cap how at.past h) (λ h. slot-refused c o cap how at.past h)
-    (slots-few c o cap how goes n (after c o cap at one) few)
+    (slots-few c o cap how goes n (course_after c o cap at one) few)
 
 -- at most n slots are made of n
 slots-at-most : (c : Parts) (o cap : ℕ) (how : Disturbance) (goes : Course → Bool) (n : ℕ) (at : Course)
-    → slots_in (slots_steps c o cap how goes n at) ≤ n
+    → ended_slot_count (slots_steps c o cap how goes n at) ≤ n
 unfolding slots_steps
 slots-at-most c o cap how goes zero at = omega arith
 slots-at-most c o cap how goes (suc n) at =
     let one = slot_steps c o cap how at.past in
-    turn-at-most (goes at) (is_opened (due_now c o cap at.past)) one (slots_steps c o cap how goes n (after c o cap at one)) n
-    (λ h. one-slot c o cap how at.past h) (λ h. no-slot c o cap how at.past h) (slots-at-most c o cap how goes n (after c o cap at one))
+    turn-at-most (goes at) (is_opened (due_now c o cap at.past)) one (slots_steps c o cap how goes n (course_after c o cap at one)) n
+    (λ h. one-slot c o cap how at.past h) (λ h. no-slot c o cap how at.past h) (slots-at-most c o cap how goes n (course_after c o cap at one))
 
-said-few : (c : Parts) (o cap : ℕ) (limit : Extent → ℕ) (b : BenchState) (l : Line) → IsSmall c
+said-few : (c : Parts) (o cap : ℕ) (limit : Extent → ℕ) (b : BenchState) (l : ScriptLine) → IsSmall c
     → length (said c o cap limit b l) ≤ most_steps * slots_made l (said c o cap limit b l) + 1
 unfolding said extent_steps
 said-few c o cap limit b (line.Step by step) few = omega arith
@@ -156,7 +156,7 @@ said-few c o cap limit b (line.Expect what) few = omega arith
 said-few c o cap limit b line.Forget few = omega arith
 said-few c o cap limit b (line.Rule rule) few = omega arith
 
-first-few : (c : Parts) (o cap n : ℕ) (b : BenchState) (l : Line) → slots_made l (said c o cap (λ e. n) b l) ≤ n
+first-few : (c : Parts) (o cap n : ℕ) (b : BenchState) (l : ScriptLine) → slots_made l (said c o cap (λ e. n) b l) ≤ n
 unfolding said extent_steps
 first-few c o cap n b (line.Step by step) = omega arith
 first-few c o cap n b (line.Slot how) = slots-at-most c o cap how _ n (course_of b)
@@ -176,15 +176,15 @@ record IsFew (b : BenchState) (most : ℕ) : Type 0 where
   rules : b.rules ≡ no_rules
   few : still_to_come b ≤ most
 
-judged-few : (c : Parts) (o : ℕ) (b : BenchState) (what : Option Expected) (n : ℕ) → IsFew b n → IsFew (judged c o b what).0 n
+judged-few : (c : Parts) (o : ℕ) (b : BenchState) (what : Option Expected) (n : ℕ) → IsFew b n → IsFew (bench_with_verdict c o b what).0 n
 judged-few c o b None n h = record { rules = h.rules; few = h.few }
 judged-few c o b (Some what) n h = record { rules = h.rules; few = h.few }
 
 stepped-few : (c : Parts) (o cap : ℕ) (b : BenchState) (count : ℕ) (steps : List (PortId × Step)) → b.rules ≡ no_rules → count ≤ b.left
-    → length steps ≤ most_steps * count + 1 → IsFew (stepped c o cap b count steps) (still_to_come b + 1)
+    → length steps ≤ most_steps * count + 1 → IsFew (bench_after_steps c o cap b count steps) (still_to_come b + 1)
 stepped-few c o cap b count steps none few short =
-    let is : after c o cap (course_of b) steps ≡ record { past = past_after c o cap b.past steps; rules = no_rules } =
-    ap (λ (r : Rules). after c o cap (record { past = b.past; rules = r }) steps) none ∙ unchanged c o cap b.past steps in
+    let is : course_after c o cap (course_of b) steps ≡ record { past = past_after c o cap b.past steps; rules = no_rules } =
+    ap (λ (r : Rules). course_after c o cap (record { past = b.past; rules = r }) steps) none ∙ unchanged c o cap b.past steps in
     let longer = ap (λ (k : Course). length k.past) is ∙ past-longer c o cap b.past steps in
     record { rules = ap (λ (k : Course). k.rules) is; few = omega (arith, few, short, longer) }
 
@@ -195,9 +195,9 @@ within-few c o cap b count steps first what true none h all some =
     rw h (stepped-few c o cap b b.left first none (omega arith) some)
 within-few c o cap b count steps first what false none h all some =
     let few : count ≤ b.left = ltb-false b.left count h in
-    rw h (judged-few c o (stepped c o cap b count steps) what (still_to_come b + 1) (stepped-few c o cap b count steps none few all))
+    rw h (judged-few c o (bench_after_steps c o cap b count steps) what (still_to_come b + 1) (stepped-few c o cap b count steps none few all))
 
-steps-few : (c : Parts) (o cap : ℕ) (b : BenchState) (l : Line) → IsSmall c → b.rules ≡ no_rules
+steps-few : (c : Parts) (o cap : ℕ) (b : BenchState) (l : ScriptLine) → IsSmall c → b.rules ≡ no_rules
     → IsFew (made_within c o cap b (slots_made l (said c o cap most b l)) (said c o cap most b l) (said c o cap (λ e. b.left) b l) (expects l)).0 (still_to_come b + 1)
 steps-few c o cap b l few none =
     let all = said c o cap most b l in
@@ -207,7 +207,7 @@ steps-few c o cap b l few none =
     (let e = said-few c o cap (λ e. b.left) b l few in omega (arith, e, first-few c o cap b.left b l))
 
 -- it grows by one at a line
-made-few : (c : Parts) (o cap : ℕ) (b : BenchState) (l : Line) → IsSmall c → b.rules ≡ no_rules → is_rule l ≡ false
+made-few : (c : Parts) (o cap : ℕ) (b : BenchState) (l : ScriptLine) → IsSmall c → b.rules ≡ no_rules → is_rule l ≡ false
     → IsFew (made c o cap b l).0 (still_to_come b + 1)
 unfolding made
 made-few c o cap b line.Forget few none h = record { rules = none; few = omega arith }
@@ -224,10 +224,10 @@ neither : (a b : Bool) → (a || b) ≡ false → (a ≡ false) × (b ≡ false)
 neither true b h = absurd (cc)
 neither false b h = (refl, h)
 
-told-few : (n m : ℕ) (b end : BenchState) (v : Verdict) → told n b v ≡ Ok end → IsFew b m → IsFew end m
+told-few : (n m : ℕ) (b end : BenchState) (v : Verdict) → line_result n b v ≡ Ok end → IsFew b m → IsFew end m
 told-few n m b end v e h = subst (λ (x : BenchState). IsFew x m) (told-bench n b end v e) h
 
-turn-few-by : (c : Parts) (o cap : ℕ) (b end : BenchState) (m : ℕ) (l : ℕ × Line) (ls : List (ℕ × Line)) (r : Result BenchState ℕ)
+turn-few-by : (c : Parts) (o cap : ℕ) (b end : BenchState) (m : ℕ) (l : ℕ × ScriptLine) (ls : List (ℕ × ScriptLine)) (r : Result BenchState ℕ)
     → ((mid : BenchState) → IsFew mid m → in_turn c o cap (Ok mid) ls ≡ Ok end → IsFew end (m + length ls))
     → IsFew (made c o cap b l.1).0 m → next c o cap b l ≡ r → in_turn c o cap r ls ≡ Ok end → IsFew end (m + length ls)
 turn-few-by c o cap b end m l ls (Ok mid) more h is e =
@@ -237,7 +237,7 @@ turn-few-by c o cap b end m l ls (Err n) more h is e = let no : Err n ≡ Ok end
 more-few : (b : BenchState) (m n : ℕ) → IsFew b m → m ≤ n → IsFew b n
 more-few b m n h le = record { rules = h.rules; few = omega (arith, h.few, le) }
 
-turns-few : (c : Parts) (o cap : ℕ) (b end : BenchState) (m : ℕ) (ls : List (ℕ × Line)) → IsSmall c → has_rule ls ≡ false → IsFew b m
+turns-few : (c : Parts) (o cap : ℕ) (b end : BenchState) (m : ℕ) (ls : List (ℕ × ScriptLine)) → IsSmall c → has_rule ls ≡ false → IsFew b m
     → in_turn c o cap (Ok b) ls ≡ Ok end → IsFew end (m + length ls)
 turns-few c o cap b end m [] few none h e =
     let same : b ≡ end = cc in
@@ -249,24 +249,24 @@ turns-few c o cap b end m (l ∷ ls) few none h e =
     more-few end (m + 1 + length ls) (m + length (l ∷ ls)) all (omega arith)
 
 -- lines without a rule never fill a log
-never-full : (c : Parts) (o cap : ℕ) (ls : List (ℕ × Line)) → IsSmall c → length ls ≤ 16777217 → has_rule ls ≡ false → Overfills c o cap ls → ⊥
+never-full : (c : Parts) (o cap : ℕ) (ls : List (ℕ × ScriptLine)) → IsSmall c → length ls ≤ 16777217 → has_rule ls ≡ false → Overfills c o cap ls → ⊥
 never-full c o cap ls few short none f =
     let parts =
     neither (has_rule f.before) (has_rule (f.line ∷ f.behind))
-    (sym (list_any-append (λ (l : ℕ × Line). is_rule l.1) f.before (f.line ∷ f.behind)) ∙ ap has_rule (sym f.all) ∙ none) in
+    (sym (list_any-append (λ (l : ℕ × ScriptLine). is_rule l.1) f.before (f.line ∷ f.behind)) ∙ ap has_rule (sym f.all) ∙ none) in
     let at = neither (is_rule f.line.1) (has_rule f.behind) parts.1 in
-    let begun : IsFew first (most_steps * slot_limit) = record { rules = refl; few = omega arith } in
-    let so_far = turns-few c o cap first f.bench (most_steps * slot_limit) f.before few parts.0 begun f.so_far in
+    let begun : IsFew initial_bench (most_steps * slot_limit) = record { rules = refl; few = omega arith } in
+    let so_far = turns-few c o cap initial_bench f.bench (most_steps * slot_limit) f.before few parts.0 begun f.so_far in
     let line = made-few c o cap f.bench f.line.1 few so_far.rules at.0 in
     let all = ap length f.all ∙ length-append f.before (f.line ∷ f.behind) in
     omega (arith, so_far.few, line.few, all, short, f.full)
 
-full-by : (c : Parts) (o cap : ℕ) (ls : List (ℕ × Line)) (t : Bool) → has_rule ls ≡ t → IsSmall c → length ls ≤ 16777217 → Overfills c o cap ls → has_rule ls ≡ true
+full-by : (c : Parts) (o cap : ℕ) (ls : List (ℕ × ScriptLine)) (t : Bool) → has_rule ls ≡ t → IsSmall c → length ls ≤ 16777217 → Overfills c o cap ls → has_rule ls ≡ true
 full-by c o cap ls true h few short f = h
 full-by c o cap ls false h few short f = absurd (never-full c o cap ls few short h f)
 
-pub full-by-rule : (strict : Bool) (c : Parts) (o cap : ℕ) (ls : List (ℕ × Line)) (fault : PlayFault) → IsSmall c → PlayFails strict c o cap ls fault → length ls ≤ 16777217
-    → IsLogFull (Err fault) → has_rule ls ≡ true
+pub full-by-rule : (strict : Bool) (c : Parts) (o cap : ℕ) (ls : List (ℕ × ScriptLine)) (fault : PlayFault) → IsSmall c → PlayFails strict c o cap ls fault → length ls ≤ 16777217
+    → EndsWithFullLog (Err fault) → has_rule ls ≡ true
 full-by-rule strict c o cap ls (SlotLimit n) few fails short full = absurd full
 full-by-rule strict c o cap ls LogFull few fails short full = full-by c o cap ls (has_rule ls) refl few short fails
 full-by-rule strict c o cap ls OutOfMemory few fails short full = absurd full

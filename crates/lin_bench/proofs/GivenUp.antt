@@ -10,7 +10,7 @@ use Rattle.lin_parts.specs.declared.parts.Parts.{Parts}
 use Rattle.lin_core.specs.declared.log.LogEntry.{LogEntry}
 use Rattle.lin_core.specs.declared.port.PortId.{PortId}
 use Rattle.lin_core.specs.declared.step.Step.{Step}
-use Rattle.lin_bench.specs.Added.{is_given_up, links_at, timeout_of}
+use Rattle.lin_bench.specs.Added.{is_given_up, links_at, timeout_step}
 use Rattle.lin_bench.proofs.Makes.{append-nothing}
 
 more-by : {A B C : Type 0} (p : B → Bool) (q : A → Bool) (f : A → List B) (t : B → C) (xs : List A) (i : A) (b : Bool) → q i ≡ b
@@ -28,19 +28,19 @@ more-by p q f t xs i false h =
 
 -- the links of one more node
 given-more : (c : Parts) (past : List LogEntry) (ms i : ℕ) (b : Bool) → is_some (nad c i) ≡ b
-    → map timeout_of (filter (is_given_up c past ms) (flat_map links_at (filter (λ n. is_some (nad c n)) (numbers (i + 1)))))
-    ≡ map timeout_of (filter (is_given_up c past ms) (flat_map links_at (filter (λ n. is_some (nad c n)) (numbers i))))
-    ++ map timeout_of (filter (is_given_up c past ms) (cond (is_some (nad c i)) (links_at i) []))
+    → map timeout_step (filter (is_given_up c past ms) (flat_map links_at (filter (λ n. is_some (nad c n)) (numbers (i + 1)))))
+    ≡ map timeout_step (filter (is_given_up c past ms) (flat_map links_at (filter (λ n. is_some (nad c n)) (numbers i))))
+    ++ map timeout_step (filter (is_given_up c past ms) (cond (is_some (nad c i)) (links_at i) []))
 given-more c past ms i true h =
-    rw (add-one) (more-by (is_given_up c past ms) (λ n. is_some (nad c n)) links_at timeout_of (numbers i) i true h ∙ rw h refl)
+    rw (add-one) (more-by (is_given_up c past ms) (λ n. is_some (nad c n)) links_at timeout_step (numbers i) i true h ∙ rw h refl)
 given-more c past ms i false h =
-    rw (add-one) (more-by (is_given_up c past ms) (λ n. is_some (nad c n)) links_at timeout_of (numbers i) i false h ∙ rw h refl)
+    rw (add-one) (more-by (is_given_up c past ms) (λ n. is_some (nad c n)) links_at timeout_step (numbers i) i false h ∙ rw h refl)
 
 pub one-more-given : (c : Parts) (past : List LogEntry) (ms i : ℕ) (first steps more : List (PortId × Step))
-    → steps ≡ first ++ map timeout_of (filter (is_given_up c past ms) (flat_map links_at (filter (λ n. is_some (nad c n)) (numbers i))))
-    → more ≡ steps ++ map timeout_of (filter (is_given_up c past ms) (cond (is_some (nad c i)) (links_at i) []))
-    → more ≡ first ++ map timeout_of (filter (is_given_up c past ms) (flat_map links_at (filter (λ n. is_some (nad c n)) (numbers (i + 1)))))
+    → steps ≡ first ++ map timeout_step (filter (is_given_up c past ms) (flat_map links_at (filter (λ n. is_some (nad c n)) (numbers i))))
+    → more ≡ steps ++ map timeout_step (filter (is_given_up c past ms) (cond (is_some (nad c i)) (links_at i) []))
+    → more ≡ first ++ map timeout_step (filter (is_given_up c past ms) (flat_map links_at (filter (λ n. is_some (nad c n)) (numbers (i + 1)))))
 one-more-given c past ms i first steps more is and =
-    let one : List (PortId × Step) = map timeout_of (filter (is_given_up c past ms) (cond (is_some (nad c i)) (links_at i) [])) in
-    let so-far : List (PortId × Step) = map timeout_of (filter (is_given_up c past ms) (flat_map links_at (filter (λ n. is_some (nad c n)) (numbers i)))) in
+    let one : List (PortId × Step) = map timeout_step (filter (is_given_up c past ms) (cond (is_some (nad c i)) (links_at i) [])) in
+    let so-far : List (PortId × Step) = map timeout_step (filter (is_given_up c past ms) (flat_map links_at (filter (λ n. is_some (nad c n)) (numbers i)))) in
     and ∙ ap (λ l. l ++ one) is ∙ append_assoc first so-far one ∙ ap (λ l. first ++ l) (sym (given-more c past ms i (is_some (nad c i)) refl))

@@ -4,7 +4,7 @@ use Rattle.std.specs.Option.{option_map_or}
 use Rattle.std.proofs.lemmas.List.{reverse-append}
 use Rattle.lin_parts.specs.Cluster.{nad}
 use Rattle.lin_parts.specs.declared.parts.Parts.{Parts}
-use Rattle.lin_core.specs.Core.{CoreData, answered, past_of}
+use Rattle.lin_core.specs.Core.{CoreData, entry_with_reply, past_of}
 use Rattle.lin_core.specs.History.{Slot, done, done_step, events, finished_slot, good, good_bytes, is_finish, open_slot, seen_by, time}
 use Rattle.lin_core.specs.Replies.{finish_events, link_at, may, reply}
 use Rattle.lin_core.specs.Runs.{entry_of}
@@ -19,7 +19,7 @@ use Rattle.lin_core.specs.declared.step.Step.{Step}
 use Rattle.lin_core.specs.declared.step.Step.TheVariants.{Finish}
 use Rattle.lin_transport.specs.Transport.{looks_at}
 use Rattle.lin_bench.specs.Added.{is_good_on}
-use Rattle.lin_bench.specs.Adding.{AreEnds, IsAfterFinish, IsHeard, good_in}
+use Rattle.lin_bench.specs.Adding.{AreEnds, IsAfterFinish, AreHeardTimes, good_in}
 
 -- ---- a slot that was seen good has a header, and one response
 pub record IsGoodSlot (hd : Option ℕ) (puts : List (ℕ × List ℕ)) (bytes : List ℕ) : Type 0 where
@@ -73,19 +73,19 @@ pub good-told : (c : Parts) (o cap : ℕ) (past : List LogEntry) (by : PortId) (
 good-told c o cap past by s e m = rw (finish-done c o cap past by s e m) (rw e refl)
 
 -- ---- ends of links
-pub past-one : (old new : CoreData) (by : PortId) (step : Step) → new.log ≡ old.log ++ answered old by step ∷ []
-    → past_of new ≡ answered old by step ∷ past_of old
-past-one old new by step e = ap reverse e ∙ reverse-append old.log (answered old by step ∷ [])
+pub past-one : (old new : CoreData) (by : PortId) (step : Step) → new.log ≡ old.log ++ entry_with_reply old by step ∷ []
+    → past_of new ≡ entry_with_reply old by step ∷ past_of old
+past-one old new by step e = ap reverse e ∙ reverse-append old.log (entry_with_reply old by step ∷ [])
 
 -- an entry by which no slot was finished
 pub ends-stay : (old new : CoreData) (by : PortId) (step : Step) (dir : Direction) (xs : List ℕ)
-    → new.log ≡ old.log ++ answered old by step ∷ [] → new.cluster ≡ old.cluster
-    → finished_slot (answered old by step) (past_of old) ≡ None → AreEnds old dir xs → AreEnds new dir xs
+    → new.log ≡ old.log ++ entry_with_reply old by step ∷ [] → new.cluster ≡ old.cluster
+    → finished_slot (entry_with_reply old by step) (past_of old) ≡ None → AreEnds old dir xs → AreEnds new dir xs
 ends-stay old new by step dir xs e same none are n small =
     rw (same, past-one old new by step e, none) (are n (rw same at small))
 
 ends-heard : (old new : CoreData) (by : PortId) (s : Slot) (dir : Direction) (xs ys : List ℕ) → IsAfterFinish old by s new → may by Finish ≡ true
-    → AreEnds old dir xs → IsHeard new.cluster (time new.cluster (past_of new)) s dir xs ys → AreEnds new dir ys
+    → AreEnds old dir xs → AreHeardTimes new.cluster (time new.cluster (past_of new)) s dir xs ys → AreEnds new dir ys
 ends-heard old new by s dir xs ys after m are heard n small =
     let fin = finished-slot old.cluster old.opening old.capacity (past_of old) by s after.slot m in
     let was = are n (rw after.alike.0 at small) in
@@ -120,7 +120,7 @@ others-finish-none c o cap past by step h = by-reply (reply c o cap past by step
 
 -- ---- what was heard by a finish
 stays-by : (old new : CoreData) (by : PortId) (s : Slot) (dir : Direction) (xs : List ℕ) (m : Bool) → IsAfterFinish old by s new → may by Finish ≡ m
-    → good_in (events (answered old by Finish)) ≡ None → AreEnds old dir xs → AreEnds new dir xs
+    → good_in (events (entry_with_reply old by Finish)) ≡ None → AreEnds old dir xs → AreEnds new dir xs
 stays-by old new by s dir xs true after m none are =
     let g = sym (good-told old.cluster old.opening old.capacity (past_of old) by s after.slot m) ∙ none in
     ends-heard old new by s dir xs xs after m are (λ n small. rw g refl)
@@ -129,12 +129,12 @@ stays-by old new by s dir xs false after m none are =
     ends-stay old new by Finish dir xs after.log after.alike.0 (rw refused refl) are
 
 pub none-heard : (old new : CoreData) (by : PortId) (s : Slot) (dir : Direction) (xs : List ℕ) → IsAfterFinish old by s new
-    → good_in (events (answered old by Finish)) ≡ None → AreEnds old dir xs → AreEnds new dir xs
+    → good_in (events (entry_with_reply old by Finish)) ≡ None → AreEnds old dir xs → AreEnds new dir xs
 none-heard old new by s dir xs after none are = stays-by old new by s dir xs (may by Finish) after refl none are
 
 heard-by : (old new : CoreData) (by : PortId) (s : Slot) (b : List ℕ) (dir : Direction) (xs ys : List ℕ) (m : Bool) → IsAfterFinish old by s new → may by Finish ≡ m
-    → good_in (events (answered old by Finish)) ≡ Some b → AreEnds old dir xs
-    → (good s ≡ Some b → IsHeard new.cluster (time new.cluster (past_of new)) s dir xs ys) → AreEnds new dir ys
+    → good_in (events (entry_with_reply old by Finish)) ≡ Some b → AreEnds old dir xs
+    → (good s ≡ Some b → AreHeardTimes new.cluster (time new.cluster (past_of new)) s dir xs ys) → AreEnds new dir ys
 heard-by old new by s b dir xs ys true after m some are heard =
     let g = sym (good-told old.cluster old.opening old.capacity (past_of old) by s after.slot m) ∙ some in
     ends-heard old new by s dir xs ys after m are (heard g)
@@ -144,6 +144,6 @@ heard-by old new by s b dir xs ys false after m some are heard =
     absurd (cc)
 
 pub some-heard : (old new : CoreData) (by : PortId) (s : Slot) (b : List ℕ) (dir : Direction) (xs ys : List ℕ) → IsAfterFinish old by s new
-    → good_in (events (answered old by Finish)) ≡ Some b → AreEnds old dir xs
-    → (good s ≡ Some b → IsHeard new.cluster (time new.cluster (past_of new)) s dir xs ys) → AreEnds new dir ys
+    → good_in (events (entry_with_reply old by Finish)) ≡ Some b → AreEnds old dir xs
+    → (good s ≡ Some b → AreHeardTimes new.cluster (time new.cluster (past_of new)) s dir xs ys) → AreEnds new dir ys
 some-heard old new by s b dir xs ys after some are heard = heard-by old new by s b dir xs ys (may by Finish) after refl some are heard

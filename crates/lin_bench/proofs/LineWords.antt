@@ -7,7 +7,7 @@ use Rattle.lin_text.specs.declared.buffered.TextWriter.{TextWriter}
 use Rattle.lin_text.proofs.Growing.{grows-more, same-growth}
 use Rattle.lin_log.proofs.Ends.{mapped-more}
 use Rattle.lin_log.specs.Language.{Called, Language}
-use Rattle.lin_bench.specs.LineWords.{Word, spaced, spaced_words, word_text, words_text}
+use Rattle.lin_bench.specs.LineWords.{Word, text_after_space, spaced_words, word_text, words_text}
 use Rattle.lin_bench.specs.LineWords.Word.{Node, Number, Fixed}
 use Rattle.lin_bench.specs.Texts.{got_words, pending_words, short_words}
 use Rattle.lin_bench.specs.declared.got.Got.{Got}
@@ -53,7 +53,7 @@ words-more : (l : Language) (frames : Called) (w : Word) (ws more : List Word)
     → words_text l frames (w ∷ ws) ++ spaced_words l frames more ≡ words_text l frames ((w ∷ ws) ++ more)
 words-more l frames w ws more =
     append_assoc (word_text l frames w) (spaced_words l frames ws) (spaced_words l frames more)
-    ∙ ap (λ t. word_text l frames w ++ t) (sym (flat_map-append (spaced l frames) ws more))
+    ∙ ap (λ t. word_text l frames w ++ t) (sym (flat_map-append (text_after_space l frames) ws more))
 
 pub pending-more : (l : Language) (frames : Called) (p : Pending) (more : List Word)
     → words_text l frames (pending_words p) ++ spaced_words l frames more ≡ words_text l frames (pending_words p ++ more)

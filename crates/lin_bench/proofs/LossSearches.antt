@@ -12,12 +12,12 @@ use Rattle.lin_core.specs.declared.event.Event.TheVariants as event
 use Rattle.lin_core.specs.declared.link.Cause.{Cause}
 use Rattle.lin_core.specs.declared.log.LogEntry.{LogEntry}
 use Rattle.lin_bench.specs.Losses.{AreOf, is_left}
-use Rattle.lin_bench.specs.Searches.{AreClear, IsKnown, kind_found, last_end, taken_by}
-use Rattle.lin_bench.specs.Verdicts.{first_loss, is_host, is_loss_left, is_of, kind_of, loss_after, same_kind}
+use Rattle.lin_bench.specs.Searches.{AreClear, IsSearchState, kind_found, last_end, taken_by}
+use Rattle.lin_bench.specs.Verdicts.{first_loss, is_host, is_loss_left, is_of_kind, kind_of, loss_after, same_kind}
 use Rattle.lin_bench.specs.declared.taken.EventKind.{EventKind}
 use Rattle.lin_bench.specs.declared.taken.EventKind.TheVariants.{Fates}
-use Rattle.lin_bench.specs.declared.taken.Place.{Place}
-use Rattle.lin_bench.specs.declared.taken.Taken.{Taken}
+use Rattle.lin_bench.specs.declared.taken.LogPlace.{LogPlace}
+use Rattle.lin_bench.specs.declared.taken.TakenEvents.{TakenEvents}
 use Rattle.lin_bench.proofs.Makes.{append-nothing}
 use Rattle.lin_bench.proofs.Events.{count-kinds, events-of-log}
 use Rattle.lin_bench.proofs.Walks.{beyond}
@@ -89,8 +89,8 @@ still-taken : (which : Option ℕ) (taken more : List EventKind) (before : List 
     → is_loss_left which (taken ++ more) before e ≡ false
 still-taken which taken more before (event.Lost host number cause) h =
     let both = sum_by-append (λ x. cond (same_kind (Fates host) x) 1 0) taken more in
-    ap (λ n. is_host which host && nat_le n (count_by (is_of (Fates host)) before)) both
-    ∙ le-more (count_by (same_kind (Fates host)) taken) (count_by (same_kind (Fates host)) more) (count_by (is_of (Fates host)) before) (is_host which host) h
+    ap (λ n. is_host which host && nat_le n (count_by (is_of_kind (Fates host)) before)) both
+    ∙ le-more (count_by (same_kind (Fates host)) taken) (count_by (same_kind (Fates host)) more) (count_by (is_of_kind (Fates host)) before) (is_host which host) h
 still-taken which taken more before (event.Accepted host number) h = refl
 still-taken which taken more before (event.Slot table entry header) h = refl
 still-taken which taken more before event.Service h = refl
@@ -117,27 +117,27 @@ none-more which taken more before (e ∷ es) h =
     more-step which taken more before es e (is_loss_left which taken before e) refl (none-more which taken more (before ++ e ∷ []) es) h
 
 -- ---- what is forgotten is taken
-pub more-of : (kind : EventKind) (before : List Event) (e : Event) (es : List Event) → is_of kind e ≡ true
-    → count_by (is_of kind) before < count_by (is_of kind) (before ++ e ∷ es)
+pub more-of : (kind : EventKind) (before : List Event) (e : Event) (es : List Event) → is_of_kind kind e ≡ true
+    → count_by (is_of_kind kind) before < count_by (is_of_kind kind) (before ++ e ∷ es)
 more-of kind before e es is =
-    let both = sum_by-append (λ x. cond (is_of kind x) 1 0) before (e ∷ es) in
-    let one : count_by (is_of kind) (e ∷ es) ≡ 1 + count_by (is_of kind) es =
-    sum_by-cons (λ x. cond (is_of kind x) 1 0) e es ∙ ap (λ b. cond b 1 0 + count_by (is_of kind) es) is in
+    let both = sum_by-append (λ x. cond (is_of_kind kind x) 1 0) before (e ∷ es) in
+    let one : count_by (is_of_kind kind) (e ∷ es) ≡ 1 + count_by (is_of_kind kind) es =
+    sum_by-cons (λ x. cond (is_of_kind kind x) 1 0) e es ∙ ap (λ b. cond b 1 0 + count_by (is_of_kind kind) es) is in
     omega (arith, both, one)
 
 le-false : (m n : ℕ) (b : Bool) → n < m → b && nat_le m n ≡ false
 le-false m n true h = grind (arith, nat_tests)
 le-false m n false h = refl
 
-pub same-host : (h : ℕ) → is_of (Fates h) (event.Sent h 0) ≡ true
+pub same-host : (h : ℕ) → is_of_kind (Fates h) (event.Sent h 0) ≡ true
 same-host h = grind (arith, nat_tests)
 
 not-left : (which : Option ℕ) (taken : List EventKind) (before : List Event) (e : Event) (es : List Event)
-    → ((h : ℕ) → count_by (is_of (Fates h)) (before ++ e ∷ es) ≤ count_by (same_kind (Fates h)) taken)
+    → ((h : ℕ) → count_by (is_of_kind (Fates h)) (before ++ e ∷ es) ≤ count_by (same_kind (Fates h)) taken)
     → is_loss_left which taken before e ≡ false
 not-left which taken before (event.Lost host number cause) es few =
     let more = more-of (Fates host) before (event.Lost host number cause) es (same-host host) in
-    le-false (count_by (same_kind (Fates host)) taken) (count_by (is_of (Fates host)) before) (is_host which host) (omega (arith, few host, more))
+    le-false (count_by (same_kind (Fates host)) taken) (count_by (is_of_kind (Fates host)) before) (is_host which host) (omega (arith, few host, more))
 not-left which taken before (event.Accepted host number) es few = refl
 not-left which taken before (event.Slot table entry header) es few = refl
 not-left which taken before event.Service es few = refl
@@ -149,7 +149,7 @@ not-left which taken before (event.Sent host number) es few = refl
 not-left which taken before event.Asleep es few = refl
 
 passed-over : (which : Option ℕ) (taken : List EventKind) (before es rest : List Event)
-    → ((h : ℕ) → count_by (is_of (Fates h)) (before ++ es) ≤ count_by (same_kind (Fates h)) taken)
+    → ((h : ℕ) → count_by (is_of_kind (Fates h)) (before ++ es) ≤ count_by (same_kind (Fates h)) taken)
     → loss_after which taken before (es ++ rest) ≡ loss_after which taken (before ++ es) rest
 passed-over which taken before [] rest few = ap (λ l. loss_after which taken l rest) (sym (append-nothing before))
 passed-over which taken before (e ∷ es) rest few =
@@ -159,12 +159,12 @@ passed-over which taken before (e ∷ es) rest few =
     ∙ ap (λ l. loss_after which taken l rest) assoc
 
 one-more : (kind : EventKind) (e : LogEntry) (es : List LogEntry)
-    → count_by (is_of kind) (flat_map events (e ∷ es)) ≡ count_by (is_of kind) (events e) + count_by (is_of kind) (flat_map events es)
-one-more kind e es = sum_by-append (λ x. cond (is_of kind x) 1 0) (events e) (flat_map events es)
+    → count_by (is_of_kind kind) (flat_map events (e ∷ es)) ≡ count_by (is_of_kind kind) (events e) + count_by (is_of_kind kind) (flat_map events es)
+one-more kind e es = sum_by-append (λ x. cond (is_of_kind kind x) 1 0) (events e) (flat_map events es)
 
 -- how many events of a kind the first entries have
 pub fewer : (kind : EventKind) (es : List LogEntry) (m n : ℕ) → m ≤ n
-    → count_by (is_of kind) (flat_map events (take m es)) ≤ count_by (is_of kind) (flat_map events (take n es))
+    → count_by (is_of_kind kind) (flat_map events (take m es)) ≤ count_by (is_of_kind kind) (flat_map events (take n es))
 fewer kind es zero n h = omega arith
 fewer kind [] (suc m) n h = omega arith
 fewer kind (e ∷ es) (suc m) zero h = absurd (omega arith)
@@ -175,7 +175,7 @@ fewer kind (e ∷ es) (suc m) (suc n) h =
     omega (arith, rest, one, two)
 
 pub grown-count : (kind : EventKind) (es more : List LogEntry) (n : ℕ)
-    → count_by (is_of kind) (flat_map events (take n es)) ≤ count_by (is_of kind) (flat_map events (take n (es ++ more)))
+    → count_by (is_of_kind kind) (flat_map events (take n es)) ≤ count_by (is_of_kind kind) (flat_map events (take n (es ++ more)))
 grown-count kind es more zero = omega arith
 grown-count kind [] more (suc n) = omega arith
 grown-count kind (e ∷ es) more (suc n) =
@@ -185,16 +185,16 @@ grown-count kind (e ∷ es) more (suc n) =
     omega (arith, rest, one, two)
 
 -- how many fates of a host are taken
-taken-of : (es : List LogEntry) (t : Taken) (h : ℕ)
+taken-of : (es : List LogEntry) (t : TakenEvents) (h : ℕ)
     → count_by (same_kind (Fates h)) (taken_by es t)
-    ≡ count_by (is_of (Fates h)) (flat_map events (take t.forgotten es)) + count_by (same_kind (Fates h)) (flat_map kind_found t.searches.items)
+    ≡ count_by (is_of_kind (Fates h)) (flat_map events (take t.forgotten es)) + count_by (same_kind (Fates h)) (flat_map kind_found t.searches.items)
 taken-of es t h =
     let gone = flat_map events (take t.forgotten es) in
     let found = flat_map kind_found t.searches.items in
     sum_by-append (λ x. cond (same_kind (Fates h) x) 1 0) (filter_map kind_of gone) found
     ∙ ap (λ n. n + count_by (same_kind (Fates h)) found) (sym (count-kinds (Fates h) gone))
 
-pub clear-at-first : (which : Option ℕ) (es : List LogEntry) (t : Taken) (n : ℕ) → t.forgotten ≤ length es → n ≤ t.forgotten → AreClear es t which n
+pub clear-at-first : (which : Option ℕ) (es : List LogEntry) (t : TakenEvents) (n : ℕ) → t.forgotten ≤ length es → n ≤ t.forgotten → AreClear es t which n
 clear-at-first which es t n within h =
     let first = flat_map events (take n es) in (
       omega (arith, within, h),
@@ -240,10 +240,10 @@ where-left m n end i k c first before false true l s ms ns h g f =
 where-left m n end i k c first before false false l s ms ns h g f =
     let few = f (grind (arith, nat_tests)) in grind (arith, nat_tests)
 
-pub left-at : (es : List LogEntry) (t : Taken) (host i : ℕ) (before : List Event) (e : Event) (rest : List Event) → IsKnown es t
-    → AreOf es i (before ++ e ∷ rest) → is_of (Fates host) e ≡ true
+pub left-at : (es : List LogEntry) (t : TakenEvents) (host i : ℕ) (before : List Event) (e : Event) (rest : List Event) → IsSearchState es t
+    → AreOf es i (before ++ e ∷ rest) → is_of_kind (Fates host) e ≡ true
     → nat_lt (last_end (Fates host) t).entry i
-    || (nat_eq i (last_end (Fates host) t).entry && nat_le (last_end (Fates host) t).events (count_by (is_of (Fates host)) before))
+    || (nat_eq i (last_end (Fates host) t).entry && nat_le (last_end (Fates host) t).events (count_by (is_of_kind (Fates host)) before))
     ≡ is_left (taken_by es t) host (flat_map events (take i es) ++ before)
 left-at es t host i before e rest k are is =
     let kind = Fates host in
@@ -251,27 +251,27 @@ left-at es t host i before e rest k are is =
     let taken = k.taken kind in
     let reached = k.reached kind in
     let some = more-of kind before e rest is in
-    let here = sum_by-append (λ x. cond (is_of kind x) 1 0) (flat_map events (take i es)) before in
-    let with : count_by (is_of kind) (flat_map events (take (i + 1) es))
-    ≡ count_by (is_of kind) (flat_map events (take i es)) + count_by (is_of kind) (before ++ e ∷ rest) =
-    ap (count_by (is_of kind)) are ∙ sum_by-append (λ x. cond (is_of kind x) 1 0) (flat_map events (take i es)) (before ++ e ∷ rest) in
-    where-left (count_by (same_kind kind) (taken_by es t)) (count_by (is_of kind) (flat_map events (take i es) ++ before)) p.entry i p.events
-    (count_by (is_of kind) before) (count_by (is_of kind) (flat_map events (take i es))) (count_by (is_of kind) (flat_map events (take p.entry es)))
+    let here = sum_by-append (λ x. cond (is_of_kind kind x) 1 0) (flat_map events (take i es)) before in
+    let with : count_by (is_of_kind kind) (flat_map events (take (i + 1) es))
+    ≡ count_by (is_of_kind kind) (flat_map events (take i es)) + count_by (is_of_kind kind) (before ++ e ∷ rest) =
+    ap (count_by (is_of_kind kind)) are ∙ sum_by-append (λ x. cond (is_of_kind kind x) 1 0) (flat_map events (take i es)) (before ++ e ∷ rest) in
+    where-left (count_by (same_kind kind) (taken_by es t)) (count_by (is_of_kind kind) (flat_map events (take i es) ++ before)) p.entry i p.events
+    (count_by (is_of_kind kind) before) (count_by (is_of_kind kind) (flat_map events (take i es))) (count_by (is_of_kind kind) (flat_map events (take p.entry es)))
     (nat_lt p.entry i) (nat_eq i p.entry) refl refl (sym taken) here
     (λ h. let few = fewer kind es (p.entry + 1) i (omega (arith, h)) in omega (arith, few, reached, taken))
-    (λ h. ap (λ n. count_by (is_of kind) (flat_map events (take n es))) h)
+    (λ h. ap (λ n. count_by (is_of_kind kind) (flat_map events (take n es))) h)
     (λ h. let few = fewer kind es (i + 1) p.entry (omega (arith, h)) in omega (arith, few, with, some, here, taken))
 
-pub left-here : (es : List LogEntry) (t : Taken) (host i : ℕ) (before : List Event) (e : Event) (rest : List Event) (end : Place) → IsKnown es t
-    → AreOf es i (before ++ e ∷ rest) → is_of (Fates host) e ≡ true → end ≡ last_end (Fates host) t → i ≡ end.entry
-    → nat_le end.events (count_by (is_of (Fates host)) before) ≡ is_left (taken_by es t) host (flat_map events (take i es) ++ before)
+pub left-here : (es : List LogEntry) (t : TakenEvents) (host i : ℕ) (before : List Event) (e : Event) (rest : List Event) (end : LogPlace) → IsSearchState es t
+    → AreOf es i (before ++ e ∷ rest) → is_of_kind (Fates host) e ≡ true → end ≡ last_end (Fates host) t → i ≡ end.entry
+    → nat_le end.events (count_by (is_of_kind (Fates host)) before) ≡ is_left (taken_by es t) host (flat_map events (take i es) ++ before)
 left-here es t host i before e rest end k are is at h =
     let p = last_end (Fates host) t in
-    let n = count_by (is_of (Fates host)) before in
-    let there : i ≡ p.entry = h ∙ ap (λ (q : Place). q.entry) at in
+    let n = count_by (is_of_kind (Fates host)) before in
+    let there : i ≡ p.entry = h ∙ ap (λ (q : LogPlace). q.entry) at in
     let later : nat_lt p.entry i ≡ false = grind (arith, nat_tests) in
     let same : nat_eq i p.entry ≡ true = grind (arith, nat_tests) in
-    ap (λ (q : Place). nat_le q.events n) at ∙ sym (ap (λ b. b && nat_le p.events n) same)
+    ap (λ (q : LogPlace). nat_le q.events n) at ∙ sym (ap (λ b. b && nat_le p.events n) same)
     ∙ sym (ap (λ b. b || (nat_eq i p.entry && nat_le p.events n)) later)
     ∙ left-at es t host i before e rest k are is
 
@@ -279,14 +279,14 @@ or-nothing : (l s b : Bool) → s ≡ false → l || (s && b) ≡ l
 or-nothing true s b h = refl
 or-nothing false s b h = rw h refl
 
-pub left-apart : (es : List LogEntry) (t : Taken) (host i : ℕ) (before : List Event) (e : Event) (rest : List Event) (end : Place) → IsKnown es t
-    → AreOf es i (before ++ e ∷ rest) → is_of (Fates host) e ≡ true → end ≡ last_end (Fates host) t → nat_eq i end.entry ≡ false
+pub left-apart : (es : List LogEntry) (t : TakenEvents) (host i : ℕ) (before : List Event) (e : Event) (rest : List Event) (end : LogPlace) → IsSearchState es t
+    → AreOf es i (before ++ e ∷ rest) → is_of_kind (Fates host) e ≡ true → end ≡ last_end (Fates host) t → nat_eq i end.entry ≡ false
     → nat_lt end.entry i ≡ is_left (taken_by es t) host (flat_map events (take i es) ++ before)
 left-apart es t host i before e rest end k are is at h =
     let p = last_end (Fates host) t in
-    let n = count_by (is_of (Fates host)) before in
-    let other : nat_eq i p.entry ≡ false = subst (λ (q : Place). nat_eq i q.entry ≡ false) at h in
-    ap (λ (q : Place). nat_lt q.entry i) at ∙ sym (or-nothing (nat_lt p.entry i) (nat_eq i p.entry) (nat_le p.events n) other)
+    let n = count_by (is_of_kind (Fates host)) before in
+    let other : nat_eq i p.entry ≡ false = subst (λ (q : LogPlace). nat_eq i q.entry ≡ false) at h in
+    ap (λ (q : LogPlace). nat_lt q.entry i) at ∙ sym (or-nothing (nat_lt p.entry i) (nat_eq i p.entry) (nat_le p.events n) other)
     ∙ left-at es t host i before e rest k are is
 
 pub lost-left : (which : Option ℕ) (taken : List EventKind) (before : List Event) (e : Event) (host number : ℕ) (cause : Cause) → e ≡ event.Lost host number cause
@@ -305,7 +305,7 @@ split-at xs i e h at =
     drop-cons xs i e h ∙ ap (λ x. x ∷ drop (suc i) xs) (sym at) ∙ ap (λ j. e ∷ drop j xs) (sym (add-one i)) in
     sym (take-append-drop i xs) ∙ ap (λ l. take i xs ++ l) here
 
-pub found-first : (which : Option ℕ) (es : List LogEntry) (t : Taken) (i : ℕ) (entry : LogEntry) (told : List Event) (e : Event) → i < length es
+pub found-first : (which : Option ℕ) (es : List LogEntry) (t : TakenEvents) (i : ℕ) (entry : LogEntry) (told : List Event) (e : Event) → i < length es
     → entry ≡ get_or es i entry → told ≡ events entry → AreClear es t which i
     → loss_after which (taken_by es t) (flat_map events (take i es)) told ≡ Some e → first_loss (reverse es) (taken_by es t) which ≡ Some e
 found-first which es t i entry told e h at same clear found =
@@ -318,7 +318,7 @@ found-first which es t i entry told e h at same clear found =
     ap (loss_after which taken []) (events-of-log es) ∙ ap (loss_after which taken []) whole ∙ none-before which taken [] before (told ++ rest) clear.1
     ∙ some-before which taken before told rest e found
 
-pub clear-with : (which : Option ℕ) (es : List LogEntry) (t : Taken) (i : ℕ) (entry : LogEntry) (told : List Event) → i < length es
+pub clear-with : (which : Option ℕ) (es : List LogEntry) (t : TakenEvents) (i : ℕ) (entry : LogEntry) (told : List Event) → i < length es
     → entry ≡ get_or es i entry → told ≡ events entry → AreClear es t which i
     → loss_after which (taken_by es t) (flat_map events (take i es)) told ≡ None → AreClear es t which (i + 1)
 clear-with which es t i entry told h at same clear none = (
@@ -327,7 +327,7 @@ clear-with which es t i entry told h at same clear none = (
       ∙ none-before which (taken_by es t) [] (flat_map events (take i es)) told clear.1 ∙ none,
 )
 
-pub clear-all : (which : Option ℕ) (es : List LogEntry) (t : Taken) (i : ℕ) → length es ≤ i → AreClear es t which i
+pub clear-all : (which : Option ℕ) (es : List LogEntry) (t : TakenEvents) (i : ℕ) → length es ≤ i → AreClear es t which i
     → first_loss (reverse es) (taken_by es t) which ≡ None
 clear-all which es t i h clear =
     ap (loss_after which (taken_by es t) []) (events-of-log es)

@@ -2,7 +2,7 @@
 use Rattle.std.proofs.Common.{◌≡◌, ◌∙◌, ℕ, suc, ◌+◌, ◌-◌, ◌<◌, ◌≤◌, false, List, [], ◌∷◌, ◌++◌, reverse, length, get_or, refl, sym, ap, arith, append_assoc, is_some, Result, Ok, Err}
 use Rattle.std.proofs.lemmas.List.{reverse-append, reverse-reverse}
 use Rattle.lin_parts.specs.declared.parts.Parts.{Parts}
-use Rattle.lin_core.specs.Core.{CoreData, IsAlike, answered, past_of}
+use Rattle.lin_core.specs.Core.{CoreData, IsAlike, entry_with_reply, past_of}
 use Rattle.lin_core.specs.History.{finished_slot, is_finish}
 use Rattle.lin_core.specs.Runs.{entry_of, history}
 use Rattle.lin_core.specs.declared.log.LogEntry.{LogEntry}
@@ -10,15 +10,15 @@ use Rattle.lin_core.specs.declared.port.PortId.{PortId}
 use Rattle.lin_core.specs.declared.reply.Reply.{Reply}
 use Rattle.lin_core.specs.declared.reply.Reply.TheVariants.{Done, Refused}
 use Rattle.lin_core.specs.declared.step.Step.{Step}
-use Rattle.lin_bench.specs.Added.{added}
-use Rattle.lin_bench.specs.Making.{IsGrown, IsMade, MakesSteps, RuledData, StepsFail, course_on}
-use Rattle.lin_bench.specs.Slots.{Course, after, past_after, with_entry}
+use Rattle.lin_bench.specs.Added.{added_steps}
+use Rattle.lin_bench.specs.Making.{IsGrown, AreExecuted, MakesSteps, RuledData, StepsFail, course_on}
+use Rattle.lin_bench.specs.Slots.{Course, course_after, past_after, with_entry}
 use Rattle.lin_bench.specs.declared.fault.MakeFault.{MakeFault}
 use Rattle.lin_bench.specs.declared.fault.MakeFault.TheVariants.{LogFull, OutOfMemory}
 use Rattle.lin_bench.specs.declared.rules.Rules.{Rules}
 
 pub after-append : (c : Parts) (o cap : ℕ) (at : Course) (ss ts : List (PortId × Step))
-    → after c o cap at (ss ++ ts) ≡ after c o cap (after c o cap at ss) ts
+    → course_after c o cap at (ss ++ ts) ≡ course_after c o cap (course_after c o cap at ss) ts
 after-append c o cap at [] ts = refl
 after-append c o cap at (s ∷ ss) ts = after-append c o cap (with_entry c o cap at (entry_of c o cap at.past s)) ss ts
 
@@ -40,17 +40,17 @@ pub adds-nothing : (c : Parts) (o cap : ℕ) (past : List LogEntry) (rules : Rul
     → with_entry c o cap (record { past = past; rules = rules }) e ≡ record { past = e ∷ past; rules = rules }
 adds-nothing c o cap past rules e h = rw h refl
 
-pub made-nothing : (a : RuledData) → IsMade a [] a
+pub made-nothing : (a : RuledData) → AreExecuted a [] a
 made-nothing a = record { course = refl; alike = (refl, refl, refl) }
 
 -- a step to which no rule adds
-pub made-one : (a b : RuledData) (by : PortId) (step : Step) → b.core.log ≡ a.core.log ++ answered a.core by step ∷ [] → IsAlike a.core b.core → b.rules ≡ a.rules
-    → is_some (finished_slot (answered a.core by step) (past_of a.core)) ≡ false → IsMade a ((by, step) ∷ []) b
+pub made-one : (a b : RuledData) (by : PortId) (step : Step) → b.core.log ≡ a.core.log ++ entry_with_reply a.core by step ∷ [] → IsAlike a.core b.core → b.rules ≡ a.rules
+    → is_some (finished_slot (entry_with_reply a.core by step) (past_of a.core)) ≡ false → AreExecuted a ((by, step) ∷ []) b
 made-one a b by step e alike same none =
     record {
       course =
-          (let past = ap reverse e ∙ reverse-append a.core.log (answered a.core by step ∷ []) in rw (past, same) refl)
-          ∙ sym (adds-nothing a.core.cluster a.core.opening a.core.capacity (past_of a.core) a.rules (answered a.core by step) none);
+          (let past = ap reverse e ∙ reverse-append a.core.log (entry_with_reply a.core by step ∷ []) in rw (past, same) refl)
+          ∙ sym (adds-nothing a.core.cluster a.core.opening a.core.capacity (past_of a.core) a.rules (entry_with_reply a.core by step) none);
       alike = alike;
     }
 
@@ -61,14 +61,14 @@ no-finish by step (Done es) past h = rw h refl
 no-finish by step (Refused why) past h = refl
 
 -- so it is an entry and no more
-pub made-past : (a b : RuledData) (by : PortId) (step : Step) → is_finish step ≡ false → IsMade a ((by, step) ∷ []) b
-    → past_of b.core ≡ answered a.core by step ∷ past_of a.core
+pub made-past : (a b : RuledData) (by : PortId) (step : Step) → is_finish step ≡ false → AreExecuted a ((by, step) ∷ []) b
+    → past_of b.core ≡ entry_with_reply a.core by step ∷ past_of a.core
 made-past a b by step h made =
-    let none = no-finish by step (answered a.core by step).reply (past_of a.core) h in
+    let none = no-finish by step (entry_with_reply a.core by step).reply (past_of a.core) h in
     ap (λ (k : Course). k.past) made.course
-    ∙ ap (λ (k : Course). k.past) (adds-nothing a.core.cluster a.core.opening a.core.capacity (past_of a.core) a.rules (answered a.core by step) none)
+    ∙ ap (λ (k : Course). k.past) (adds-nothing a.core.cluster a.core.opening a.core.capacity (past_of a.core) a.rules (entry_with_reply a.core by step) none)
 
-pub made-more : (a b d : RuledData) (ss ts : List (PortId × Step)) → IsMade a ss b → IsMade b ts d → IsMade a (ss ++ ts) d
+pub made-more : (a b d : RuledData) (ss ts : List (PortId × Step)) → AreExecuted a ss b → AreExecuted b ts d → AreExecuted a (ss ++ ts) d
 made-more a b d ss ts p q =
     record {
       course =
@@ -107,11 +107,11 @@ past-longer c o cap past [] = omega arith
 past-longer c o cap past (s ∷ ss) =
     let e = past-longer c o cap (entry_of c o cap past s ∷ past) ss in omega (arith, e)
 
-pub after-longer : (c : Parts) (o cap : ℕ) (at : Course) (ss : List (PortId × Step)) → length at.past + length ss ≤ length (after c o cap at ss).past
+pub after-longer : (c : Parts) (o cap : ℕ) (at : Course) (ss : List (PortId × Step)) → length at.past + length ss ≤ length (course_after c o cap at ss).past
 after-longer c o cap at [] = omega arith
 after-longer c o cap at (s ∷ ss) =
     let e : LogEntry = entry_of c o cap at.past s in
-    let one = past-longer c o cap (e ∷ at.past) (added c e at.past at.rules) in
+    let one = past-longer c o cap (e ∷ at.past) (added_steps c e at.past at.rules) in
     let more = after-longer c o cap (with_entry c o cap at e) ss in
     omega (arith, one, more)
 
@@ -122,15 +122,15 @@ past-adds c o cap past (s ∷ ss) =
     let r = past-adds c o cap (e ∷ past) ss in
     (r.0 ++ e ∷ [], r.1 ∙ sym (append_assoc r.0 (e ∷ []) past))
 
-after-adds : (c : Parts) (o cap : ℕ) (at : Course) (ss : List (PortId × Step)) → (more : List LogEntry) × ((after c o cap at ss).past ≡ more ++ at.past)
+after-adds : (c : Parts) (o cap : ℕ) (at : Course) (ss : List (PortId × Step)) → (more : List LogEntry) × ((course_after c o cap at ss).past ≡ more ++ at.past)
 after-adds c o cap at [] = ([], refl)
 after-adds c o cap at (s ∷ ss) =
     let e : LogEntry = entry_of c o cap at.past s in
-    let one = past-adds c o cap (e ∷ at.past) (added c e at.past at.rules) in
+    let one = past-adds c o cap (e ∷ at.past) (added_steps c e at.past at.rules) in
     let rest = after-adds c o cap (with_entry c o cap at e) ss in
     (rest.0 ++ (one.0 ++ e ∷ []), rest.1 ∙ ap (λ l. rest.0 ++ l) (one.1 ∙ sym (append_assoc one.0 (e ∷ []) at.past)) ∙ sym (append_assoc rest.0 (one.0 ++ e ∷ []) at.past))
 
-pub grown-made : (a b : RuledData) (ss : List (PortId × Step)) → IsMade a ss b → IsGrown a.core b.core
+pub grown-made : (a b : RuledData) (ss : List (PortId × Step)) → AreExecuted a ss b → IsGrown a.core b.core
 grown-made a b ss p =
     let r = after-adds a.core.cluster a.core.opening a.core.capacity (course_on a) ss in
     record {
@@ -151,11 +151,11 @@ grown-more a b d p q =
 pub fails-before : (fault : MakeFault) (a : RuledData) (ss ts : List (PortId × Step)) → StepsFail fault a ss → StepsFail fault a (ss ++ ts)
 fails-before LogFull a ss ts full =
     let e = ap (λ (k : Course). length k.past) (after-append a.core.cluster a.core.opening a.core.capacity (course_on a) ss ts) in
-    let more = after-longer a.core.cluster a.core.opening a.core.capacity (after a.core.cluster a.core.opening a.core.capacity (course_on a) ss) ts in
+    let more = after-longer a.core.cluster a.core.opening a.core.capacity (course_after a.core.cluster a.core.opening a.core.capacity (course_on a) ss) ts in
     omega (arith, e, more, full)
 fails-before OutOfMemory a ss ts none = tt
 
-pub fails-after : (fault : MakeFault) (a b : RuledData) (ss ts : List (PortId × Step)) → IsMade a ss b → StepsFail fault b ts → StepsFail fault a (ss ++ ts)
+pub fails-after : (fault : MakeFault) (a b : RuledData) (ss ts : List (PortId × Step)) → AreExecuted a ss b → StepsFail fault b ts → StepsFail fault a (ss ++ ts)
 fails-after LogFull a b ss ts p full =
     let e = ap (λ (k : Course). length k.past) (after-append a.core.cluster a.core.opening a.core.capacity (course_on a) ss ts) in
     let there = rw (p.alike.0, p.alike.1, p.alike.2, p.course) at full in
@@ -163,7 +163,7 @@ fails-after LogFull a b ss ts p full =
 fails-after OutOfMemory a b ss ts p none = tt
 
 -- what making steps after others answers
-pub makes-more : {X : Type 0} (a b d : RuledData) (ss ts : List (PortId × Step)) (r : Result X MakeFault) → IsMade a ss b → MakesSteps b ts r d
+pub makes-more : {X : Type 0} (a b d : RuledData) (ss ts : List (PortId × Step)) (r : Result X MakeFault) → AreExecuted a ss b → MakesSteps b ts r d
     → MakesSteps a (ss ++ ts) r d
 makes-more a b d ss ts (Ok x) p q = made-more a b d ss ts p q
 makes-more a b d ss ts (Err fault) p (fails, grown) =

@@ -6,8 +6,8 @@ use Rattle.std.specs.Prelude.{codes}
 use Rattle.std.specs.Str.{bytes_eq}
 use Rattle.std.proofs.lemmas.List.Quantifiers.{position-Some}
 use Rattle.std.proofs.lemmas.List.Sums.{fails_before_first}
-use Rattle.lin_bench.specs.Fields.{words}
-use Rattle.lin_bench.specs.RuleLines.{cut}
+use Rattle.lin_bench.specs.Fields.{field_texts}
+use Rattle.lin_bench.specs.RuleLines.{cut_at_answer}
 
 not-so : (b : Bool) (n : ℕ) → cond b (Some n) None ≡ None → b ≡ false
 not-so true n h = cc
@@ -26,45 +26,45 @@ is-answer f = bytes_eq f.now (codes "answer")
 
 cut-within : (fs : List (Bor (List ℕ))) (i : ℕ) (d : Bor (List ℕ)) → i < length fs → is-answer (get_or fs i d) ≡ true
     → ((k : ℕ) → k < i → is-answer (get_or fs k d) ≡ false)
-    → cut (words fs) ≡ Some (words (take i fs), words (drop (suc i) fs))
+    → cut_at_answer (field_texts fs) ≡ Some (field_texts (take i fs), field_texts (drop (suc i) fs))
 cut-within [] i d h this before = absurd (omega arith)
 cut-within (f ∷ fs) zero d h this before = rw this refl
 cut-within (f ∷ fs) (suc i) d h this before =
     rw (before 0 (omega arith), cut-within fs i d (omega arith) this (λ k q. before (suc k) (omega arith))) refl
 
 pub cut-at : (fs : List (Bor (List ℕ))) (d : Bor (List ℕ)) (i : ℕ) → Some i ≡ position is-answer fs
-    → cut (words fs) ≡ Some (words (take i fs), words (drop (i + 1) fs))
+    → cut_at_answer (field_texts fs) ≡ Some (field_texts (take i fs), field_texts (drop (i + 1) fs))
 cut-at fs d i e =
     let at = position-Some is-answer fs i d (sym e) in
-    cut-within fs i d at.0 at.1 at.2 ∙ ap (λ j. Some (words (take i fs), words (drop j fs))) (sym (add-one i))
+    cut-within fs i d at.0 at.1 at.2 ∙ ap (λ j. Some (field_texts (take i fs), field_texts (drop j fs))) (sym (add-one i))
 
-uncut : (fs : List (Bor (List ℕ))) (d : Bor (List ℕ)) → ((k : ℕ) → k < length fs → is-answer (get_or fs k d) ≡ false) → cut (words fs) ≡ None
+uncut : (fs : List (Bor (List ℕ))) (d : Bor (List ℕ)) → ((k : ℕ) → k < length fs → is-answer (get_or fs k d) ≡ false) → cut_at_answer (field_texts fs) ≡ None
 uncut [] d others = refl
 uncut (f ∷ fs) d others = rw (others 0 (omega arith), uncut fs d (λ k q. others (suc k) (omega arith))) refl
 
-pub cut-nowhere : (fs : List (Bor (List ℕ))) (d : Bor (List ℕ)) → None ≡ position is-answer fs → cut (words fs) ≡ None
+pub cut-nowhere : (fs : List (Bor (List ℕ))) (d : Bor (List ℕ)) → None ≡ position is-answer fs → cut_at_answer (field_texts fs) ≡ None
 cut-nowhere fs d e = uncut fs d (none-at is-answer fs d (sym e))
 
 -- ---- lists that are split at a word
 split-within : (p : List ℕ → Bool) (fs : List (Bor (List ℕ))) (i : ℕ) (d : Bor (List ℕ)) → i < length fs → p (get_or fs i d).now ≡ true
     → ((k : ℕ) → k < i → p (get_or fs k d).now ≡ false)
-    → slice_split p (words fs) ≡ words (take i fs) ∷ slice_split p (words (drop (suc i) fs))
+    → slice_split p (field_texts fs) ≡ field_texts (take i fs) ∷ slice_split p (field_texts (drop (suc i) fs))
 split-within p [] i d h this before = absurd (omega arith)
 split-within p (f ∷ fs) zero d h this before = rw this refl
 split-within p (f ∷ fs) (suc i) d h this before =
     rw (before 0 (omega arith)) (ap (onto_first f.now) (split-within p fs i d (omega arith) this (λ k q. before (suc k) (omega arith))))
 
 pub split-at : (p : List ℕ → Bool) (fs : List (Bor (List ℕ))) (d : Bor (List ℕ)) (i : ℕ) → Some i ≡ position (λ f. p f.now) fs
-    → slice_split p (words fs) ≡ words (take i fs) ∷ slice_split p (words (drop (i + 1) fs))
+    → slice_split p (field_texts fs) ≡ field_texts (take i fs) ∷ slice_split p (field_texts (drop (i + 1) fs))
 split-at p fs d i e =
     let at = position-Some (λ f. p f.now) fs i d (sym e) in
-    split-within p fs i d at.0 at.1 at.2 ∙ ap (λ j. words (take i fs) ∷ slice_split p (words (drop j fs))) (sym (add-one i))
+    split-within p fs i d at.0 at.1 at.2 ∙ ap (λ j. field_texts (take i fs) ∷ slice_split p (field_texts (drop j fs))) (sym (add-one i))
 
 unsplit : (p : List ℕ → Bool) (fs : List (Bor (List ℕ))) (d : Bor (List ℕ)) → ((k : ℕ) → k < length fs → p (get_or fs k d).now ≡ false)
-    → slice_split p (words fs) ≡ words fs ∷ []
+    → slice_split p (field_texts fs) ≡ field_texts fs ∷ []
 unsplit p [] d others = refl
 unsplit p (f ∷ fs) d others = rw (others 0 (omega arith)) (ap (onto_first f.now) (unsplit p fs d (λ k q. others (suc k) (omega arith))))
 
 pub split-nowhere : (p : List ℕ → Bool) (fs : List (Bor (List ℕ))) (d : Bor (List ℕ)) → None ≡ position (λ f. p f.now) fs
-    → slice_split p (words fs) ≡ words fs ∷ []
+    → slice_split p (field_texts fs) ≡ field_texts fs ∷ []
 split-nowhere p fs d e = unsplit p fs d (none-at (λ f. p f.now) fs d (sym e))

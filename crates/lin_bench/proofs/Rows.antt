@@ -3,8 +3,8 @@ use Rattle.std.proofs.Common.{◌≡◌, ◌∙◌, ℕ, suc, zero, ◌-◌, ◌
 use Rattle.std.specs.Option.{option_map_or}
 use Rattle.std.proofs.lemmas.Grind.{common_steps}
 use Rattle.std.specs.Borrow.{Bor}
-use Rattle.lin_bench.specs.Fields.{words}
-use Rattle.lin_bench.specs.RuleLines.{AddsRow, fields_before, joined, last_field, row}
+use Rattle.lin_bench.specs.Fields.{field_texts}
+use Rattle.lin_bench.specs.RuleLines.{AddsRow, fields_before, all_parts, last_field, row_of_pairs}
 
 abbrev pub behind : {A : Type 0} → List A → Option (List A) → Option (List A)
 behind xs o = option_map (λ more. xs ++ more) o
@@ -42,25 +42,25 @@ two-left : (x y : ℕ) (zs : List ℕ) → take (length (x ∷ y ∷ zs) - 2) zs
 two-left x y zs = grind (arith, common_steps)
 
 pub row-next : {A : Type 0} (pair : ℕ → ℕ → Option A) (xs : List ℕ) (one : A) → 2 ≤ length xs → pair (get_or xs 0 0) (get_or xs 1 0) ≡ Some one
-    → row pair xs ≡ option_map (λ others. one ∷ others) (row pair (take (length xs - 2) (drop 2 xs)))
+    → row_of_pairs pair xs ≡ option_map (λ others. one ∷ others) (row_of_pairs pair (take (length xs - 2) (drop 2 xs)))
 row-next pair [] one h e = absurd (omega arith)
 row-next pair (x ∷ []) one h e = absurd (omega arith)
 row-next pair (x ∷ y ∷ zs) one h e = rw (e, two-left x y zs) refl
 
-pub row-ends : {A : Type 0} (pair : ℕ → ℕ → Option A) (xs : List ℕ) → 2 ≤ length xs → pair (get_or xs 0 0) (get_or xs 1 0) ≡ None → row pair xs ≡ None
+pub row-ends : {A : Type 0} (pair : ℕ → ℕ → Option A) (xs : List ℕ) → 2 ≤ length xs → pair (get_or xs 0 0) (get_or xs 1 0) ≡ None → row_of_pairs pair xs ≡ None
 row-ends pair [] h e = absurd (omega arith)
 row-ends pair (x ∷ []) h e = absurd (omega arith)
 row-ends pair (x ∷ y ∷ zs) h e = rw e refl
 
 pub row-is-over : {A : Type 0} (pair : ℕ → ℕ → Option A) (xs : List ℕ) (is : Bool) (r : Option (List A)) (old new : List A) → length xs < 2
-    → is ≡ (length xs == 0) → behind old r ≡ behind new (row pair xs) → AddsRow r old is new
+    → is ≡ (length xs == 0) → behind old r ≡ behind new (row_of_pairs pair xs) → AddsRow r old is new
 row-is-over pair [] is r old new h e same = rw e (is-added r old new (same ∙ ap Some (append-nil new)))
 row-is-over pair (x ∷ []) is r old new h e same = rw e (is-not-added r old new same)
 row-is-over pair (x ∷ y ∷ zs) is r old new h e same = absurd (omega arith)
 
 -- ---- rows in turn
-pub words-at : (fs : List (Bor (List ℕ))) (i : ℕ) (d : Bor (List ℕ)) → i < length fs → words (drop i fs) ≡ (get_or fs i d).now ∷ words (drop (i + 1) fs)
-words-at fs i d h = ap words (drop-cons fs i d h) ∙ ap (λ j. (get_or fs i d).now ∷ words (drop j fs)) (sym (add-one i))
+pub words-at : (fs : List (Bor (List ℕ))) (i : ℕ) (d : Bor (List ℕ)) → i < length fs → field_texts (drop i fs) ≡ (get_or fs i d).now ∷ field_texts (drop (i + 1) fs)
+words-at fs i d h = ap field_texts (drop-cons fs i d h) ∙ ap (λ j. (get_or fs i d).now ∷ field_texts (drop j fs)) (sym (add-one i))
 
 step-adds : {A : Type 0} (o others : Option (List A)) (before new : List A) → AddsRow o before true new
     → behind before (option_map_or (λ some. behind some others) o None) ≡ behind new others
@@ -69,18 +69,18 @@ step-adds (Some some) others before new h = behind-append before some others ∙
 
 pub next-adds : {A : Type 0} (read : List ℕ → Option (List A)) (fs : List (Bor (List ℕ))) (i : ℕ) (d : Bor (List ℕ)) (is : Bool) (r : Option (List A)) (old before new : List A)
     → i < length fs → is ≡ true → AddsRow (read (get_or fs i d).now) before is new
-    → behind old r ≡ behind before (joined read (words (drop i fs))) → behind old r ≡ behind new (joined read (words (drop (i + 1) fs)))
+    → behind old r ≡ behind before (all_parts read (field_texts (drop i fs))) → behind old r ≡ behind new (all_parts read (field_texts (drop (i + 1) fs)))
 next-adds read fs i d is r old before new h was adds e =
     let f = (get_or fs i d).now in
-    let others = joined read (words (drop (i + 1) fs)) in
-    e ∙ ap (λ l. behind before (joined read l)) (words-at fs i d h) ∙ step-adds (read f) others before new (rw was at adds)
+    let others = all_parts read (field_texts (drop (i + 1) fs)) in
+    e ∙ ap (λ l. behind before (all_parts read l)) (words-at fs i d h) ∙ step-adds (read f) others before new (rw was at adds)
 
 pub next-fails : {A : Type 0} (read : List ℕ → Option (List A)) (fs : List (Bor (List ℕ))) (i : ℕ) (d : Bor (List ℕ)) (is : Bool) (r : Option (List A)) (old before new : List A)
     → i < length fs → is ≡ false → AddsRow (read (get_or fs i d).now) before is new
-    → behind old r ≡ behind before (joined read (words (drop i fs))) → AddsRow r old false new
+    → behind old r ≡ behind before (all_parts read (field_texts (drop i fs))) → AddsRow r old false new
 next-fails read fs i d is r old before new h was adds e =
     let none : read (get_or fs i d).now ≡ None = not-added (read (get_or fs i d).now) before new (rw was at adds) in
-    is-not-added r old new (e ∙ ap (λ l. behind before (joined read l)) (words-at fs i d h) ∙ rw none refl)
+    is-not-added r old new (e ∙ ap (λ l. behind before (all_parts read l)) (words-at fs i d h) ∙ rw none refl)
 
 pub dropped : {A : Type 0} (xs : List A) (i : ℕ) → length xs ≤ i → drop i xs ≡ []
 dropped [] zero h = refl
@@ -89,9 +89,9 @@ dropped (x ∷ xs) zero h = absurd (omega arith)
 dropped (x ∷ xs) (suc i) h = dropped xs i (omega arith)
 
 pub all-added : {A : Type 0} (read : List ℕ → Option (List A)) (fs : List (Bor (List ℕ))) (i : ℕ) (r : Option (List A)) (old new : List A) → length fs ≤ i
-    → behind old r ≡ behind new (joined read (words (drop i fs))) → AddsRow r old true new
+    → behind old r ≡ behind new (all_parts read (field_texts (drop i fs))) → AddsRow r old true new
 all-added read fs i r old new h e =
-    is-added r old new (e ∙ ap (λ l. behind new (joined read (words l))) (dropped fs i h) ∙ ap Some (append-nil new))
+    is-added r old new (e ∙ ap (λ l. behind new (all_parts read (field_texts l))) (dropped fs i h) ∙ ap Some (append-nil new))
 
 one-more : {A : Type 0} (o : Option (List A)) → option_map_or (λ some. behind some (Some [])) o None ≡ behind [] o
 one-more None = refl
@@ -105,10 +105,10 @@ in-turn (Some a) None last = refl
 in-turn (Some a) (Some b) last = behind-append a b last
 
 joined-append : {A : Type 0} (read : List ℕ → Option (List A)) (fs : List (List ℕ)) (f : List ℕ)
-    → joined read (fs ++ f ∷ []) ≡ option_map_or (λ some. behind some (read f)) (joined read fs) None
+    → all_parts read (fs ++ f ∷ []) ≡ option_map_or (λ some. behind some (read f)) (all_parts read fs) None
 joined-append read [] f = one-more (read f)
 joined-append read (g ∷ fs) f =
-    ap (λ o. option_map_or (λ some. behind some o) (read g) None) (joined-append read fs f) ∙ in-turn (read g) (joined read fs) (read f)
+    ap (λ o. option_map_or (λ some. behind some o) (read g) None) (joined-append read fs f) ∙ in-turn (read g) (all_parts read fs) (read f)
 
 last-step : {A : Type 0} (o last : Option (List A)) (is : Bool) (old mid new : List A) → AddsRow o old true mid → AddsRow last mid is new
     → AddsRow (option_map_or (λ some. behind some last) o None) old is new
@@ -117,24 +117,24 @@ last-step (Some a) None is old mid new h k = k
 last-step (Some a) (Some b) is old mid new h k = (k.0, k.1 ∙ ap (λ l. l ++ b) h.1 ∙ append_assoc old a b)
 
 pub last-adds : {A : Type 0} (read : List ℕ → Option (List A)) (fs : List (List ℕ)) (f : List ℕ) (was is : Bool) (old mid new : List A) → was ≡ true
-    → AddsRow (joined read fs) old was mid → AddsRow (read f) mid is new → AddsRow (joined read (fs ++ f ∷ [])) old is new
+    → AddsRow (all_parts read fs) old was mid → AddsRow (read f) mid is new → AddsRow (all_parts read (fs ++ f ∷ [])) old is new
 last-adds read fs f was is old mid new e h k =
-    rw (joined-append read fs f) (last-step (joined read fs) (read f) is old mid new (rw e at h) k)
+    rw (joined-append read fs f) (last-step (all_parts read fs) (read f) is old mid new (rw e at h) k)
 
 pub first-fails : {A : Type 0} (read : List ℕ → Option (List A)) (fs : List (List ℕ)) (f : List ℕ) (was : Bool) (old mid new : List A) → was ≡ false
-    → AddsRow (joined read fs) old was mid → AddsRow (joined read (fs ++ f ∷ [])) old false new
+    → AddsRow (all_parts read fs) old was mid → AddsRow (all_parts read (fs ++ f ∷ [])) old false new
 first-fails read fs f was old mid new e h =
-    rw (joined-append read fs f, not-added (joined read fs) old mid (rw e at h)) refl
+    rw (joined-append read fs f, not-added (all_parts read fs) old mid (rw e at h)) refl
 
 -- ---- the last field, and those before it
-pub words-before : (fs : List (Bor (List ℕ))) → 1 ≤ length fs → words (take (length fs - 1) fs) ≡ fields_before (words fs)
+pub words-before : (fs : List (Bor (List ℕ))) → 1 ≤ length fs → field_texts (take (length fs - 1) fs) ≡ fields_before (field_texts fs)
 words-before [] h = absurd (omega arith)
 words-before (f ∷ []) h = refl
 words-before (f ∷ g ∷ fs) h =
     let e : length (f ∷ g ∷ fs) - 1 ≡ suc (length (g ∷ fs) - 1) = omega arith in
-    ap (λ n. words (take n (f ∷ g ∷ fs))) e ∙ ap (λ l. f.now ∷ l) (words-before (g ∷ fs) (omega arith))
+    ap (λ n. field_texts (take n (f ∷ g ∷ fs))) e ∙ ap (λ l. f.now ∷ l) (words-before (g ∷ fs) (omega arith))
 
-pub words-last : (fs : List (Bor (List ℕ))) (d : Bor (List ℕ)) → 1 ≤ length fs → (get_or fs (length fs - 1) d).now ≡ last_field (words fs)
+pub words-last : (fs : List (Bor (List ℕ))) (d : Bor (List ℕ)) → 1 ≤ length fs → (get_or fs (length fs - 1) d).now ≡ last_field (field_texts fs)
 words-last [] d h = absurd (omega arith)
 words-last (f ∷ []) d h = refl
 words-last (f ∷ g ∷ fs) d h =

@@ -8,7 +8,7 @@ use Rattle.lin_core.specs.Runs.{entry_of}
 use Rattle.lin_core.specs.declared.event.Event.{Event}
 use Rattle.lin_core.specs.declared.event.Event.TheVariants as event
 use Rattle.lin_core.specs.declared.log.LogEntry.{LogEntry}
-use Rattle.lin_bench.specs.Added.{added, added_after, noted_now, rules_after, went_to_all}
+use Rattle.lin_bench.specs.Added.{added_steps, added_after, noted_now, rules_after, went_to_all}
 use Rattle.lin_bench.specs.Made.{made, said}
 use Rattle.lin_bench.specs.RuleLaws.{AddedByAnyFinish, AddedByHistoryAndRules, NoRuleAddsNothing, NoRuleChangesNothing}
 use Rattle.lin_bench.specs.Rules.{no_rules, notes_for}
@@ -44,7 +44,7 @@ noted-nothing c e past = either-nothing (option_map_or went_to_all (finished_slo
 after-nothing : (c : Parts) (e : LogEntry) (past : List LogEntry) → added_after c e past no_rules ≡ []
 after-nothing c e past = rw (noted-nothing c e past) refl
 
-added-nothing : (c : Parts) (e : LogEntry) (past : List LogEntry) → added c e past no_rules ≡ []
+added-nothing : (c : Parts) (e : LogEntry) (past : List LogEntry) → added_steps c e past no_rules ≡ []
 added-nothing c e past = nothing-or (is_some (finished_slot e past)) (added_after c e past no_rules) (after-nothing c e past)
 
 same-rules : (c : Parts) (e : LogEntry) (past : List LogEntry) (b : Bool) → is_some (finished_slot e past) ≡ b → rules_after c e past no_rules ≡ no_rules

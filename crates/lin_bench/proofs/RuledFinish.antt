@@ -1,17 +1,17 @@
 -- What rules add after a finish, on a core on which they are in force.
 use Rattle.std.proofs.Common.{◌≡◌, ◌∙◌, ℕ, List, [], ◌∷◌, ◌++◌, map, refl, sym, subst, ap, append_assoc, cond, is_some, true, slice_index_or, length, ◌-◌, Result, Ok, Err}
 use Rattle.std.specs.Prelude.{filter}
-use Rattle.lin_core.specs.Core.{answered, past_of}
+use Rattle.lin_core.specs.Core.{entry_with_reply, past_of}
 use Rattle.lin_core.specs.History.{Slot, done, is_finish, open_slot, time}
 use Rattle.lin_core.specs.Replies.{may}
 use Rattle.lin_core.specs.declared.log.LogEntry.{LogEntry}
 use Rattle.lin_core.specs.declared.port.PortId.{PortId}
 use Rattle.lin_core.specs.declared.step.Step.{Step}
 use Rattle.lin_core.specs.declared.step.Step.TheVariants.{Send, Write, Open, Answer, Leave, Hurt, Finish, Timeout, Switch, AskSleep, Wake, Close}
-use Rattle.lin_bench.specs.Added.{added_after, has_time, noted_by, rules_after, send_of, step_of, timeouts}
+use Rattle.lin_bench.specs.Added.{added_after, has_time, noted_by, rules_after, send_of, step_to_repeat, timeouts}
 use Rattle.lin_bench.specs.Errors.{errors_told}
-use Rattle.lin_bench.specs.Adding.{Adds, AreAdded, HasFinished, MakesAdded}
-use Rattle.lin_bench.specs.Making.{IsMade, MakesSteps, RuledData}
+use Rattle.lin_bench.specs.Adding.{AddsAfterFinish, AreAdded, HasFinished, MakesAdded}
+use Rattle.lin_bench.specs.Making.{AreExecuted, MakesSteps, RuledData}
 use Rattle.lin_bench.specs.Rules.{kept_at, no_rules, sent_at}
 use Rattle.lin_bench.specs.declared.fault.MakeFault.{MakeFault}
 use Rattle.lin_bench.specs.declared.rules.Noted.{Noted}
@@ -31,7 +31,7 @@ pub record IsReady (a i : RuledData) (by : PortId) (past : List LogEntry) (began
 all-steps : (a i : RuledData) (by : PortId) (past : List LogEntry) (s : Slot) (began now : ℕ) → HasFinished a.core by past s → IsReady a i by past began now
     → timeouts i.core.cluster (past_of i.core) i.rules.limit_ms
     ++ (errors_told i.core.cluster (finish_of i.core past by) past i.rules.errors
-    ++ (map send_of (sent_at now i.rules.noted) ++ map step_of (filter (has_time began now) i.rules.everies)))
+    ++ (map send_of (sent_at now i.rules.noted) ++ map step_to_repeat (filter (has_time began now) i.rules.everies)))
     ≡ added_after a.core.cluster (finish_of a.core past by) past a.rules
 all-steps a i by past s began now fin at = rw (at.now_is, at.rules, at.core, at.began_is, fin.newest) refl
 
@@ -47,7 +47,7 @@ all-rules a i by past s began now fin at =
     (sym (ap is_some is))
 
 in-turn : {X : Type 0} (a d : RuledData) (e : LogEntry) (past : List LogEntry) (steps : List (PortId × Step)) (r : Result X MakeFault)
-    → steps ≡ added_after a.core.cluster e past a.rules → MakesAdded a.core steps r d.core → d.rules ≡ rules_after a.core.cluster e past a.rules → Adds a e past r d
+    → steps ≡ added_after a.core.cluster e past a.rules → MakesAdded a.core steps r d.core → d.rules ≡ rules_after a.core.cluster e past a.rules → AddsAfterFinish a e past r d
 in-turn a d e past steps (Ok x) is made rules = (rw is at made, rules)
 in-turn a d e past steps (Err fault) is made rules = rw is at made
 
@@ -56,13 +56,13 @@ pub rules-add : {X : Type 0} (a i d : RuledData) (by : PortId) (past : List LogE
     → s0 ≡ [] → s1 ≡ s0 ++ timeouts i.core.cluster (past_of i.core) i.rules.limit_ms
     → (HasFinished i.core by past s → st ≡ s1 ++ errors_told i.core.cluster (finish_of i.core past by) past i.rules.errors)
     → s2 ≡ st ++ map send_of (sent_at now i.rules.noted) → noted ≡ kept_at now i.rules.noted
-    → s3 ≡ s2 ++ map step_of (filter (has_time began now) i.rules.everies)
+    → s3 ≡ s2 ++ map step_to_repeat (filter (has_time began now) i.rules.everies)
     → MakesAdded i.core s3 r d.core → d.rules ≡ record i.rules { noted = noted }
-    → Adds a (finish_of a.core past by) past r d
+    → AddsAfterFinish a (finish_of a.core past by) past r d
 rules-add a i d by past s began now s0 s1 st s2 s3 noted r fin at e0 e1 et e2 en e3 made rules =
     let sent : List (PortId × Step) = map send_of (sent_at now i.rules.noted) in
     let given : List (PortId × Step) = timeouts i.core.cluster (past_of i.core) i.rules.limit_ms in
-    let again : List (PortId × Step) = map step_of (filter (has_time began now) i.rules.everies) in
+    let again : List (PortId × Step) = map step_to_repeat (filter (has_time began now) i.rules.everies) in
     let told : List (PortId × Step) = errors_told i.core.cluster (finish_of i.core past by) past i.rules.errors in
     let steps : s3 ≡ given ++ (told ++ (sent ++ again)) =
     e3 ∙ ap (λ l. l ++ again) (e2 ∙ ap (λ l. l ++ sent) (et (subst (λ k. HasFinished k by past s) (sym at.core) fin) ∙ ap (λ l. l ++ told) (e1 ∙ ap (λ l. l ++ given) e0)))
@@ -88,7 +88,7 @@ finish-is (Close host) h = absurd (cc)
 -- what adding answers, whatever finish the newest step is
 abbrev pub AddsAfter : {X : Type 0} → RuledData → ℕ → Result X MakeFault → RuledData → Type 0
 AddsAfter b began r d =
-    (by : PortId) → (past : List LogEntry) → (s : Slot) → HasFinished b.core by past s → began ≡ time b.core.cluster past → Adds b (finish_of b.core past by) past r d
+    (by : PortId) → (past : List LogEntry) → (s : Slot) → HasFinished b.core by past s → began ≡ time b.core.cluster past → AddsAfterFinish b (finish_of b.core past by) past r d
 
 finish-made : {X : Type 0} (a b d : RuledData) (by : PortId) (newest : LogEntry) (began : ℕ) (r : Result X MakeFault) → AreAdded a.core ((by, Finish) ∷ []) b.core → b.rules ≡ a.rules
     → newest ≡ slice_index_or b.core.log (length b.core.log - 1) newest → is_some (done newest) ≡ true → began ≡ time a.core.cluster (past_of a.core)
@@ -107,8 +107,8 @@ done-finish a b d by step newest began r f p same new is-done at adds =
     rw is (finish-made a b d by newest began r (rw is at p) same new is-done at adds)
 
 -- ---- where no rule is in force
-pub unruled-made : (a b : RuledData) (by : PortId) (step : Step) → AreAdded a.core ((by, step) ∷ []) b.core → b.rules ≡ a.rules → b.rules ≡ no_rules → IsMade a ((by, step) ∷ []) b
+pub unruled-made : (a b : RuledData) (by : PortId) (step : Step) → AreAdded a.core ((by, step) ∷ []) b.core → b.rules ≡ a.rules → b.rules ≡ no_rules → AreExecuted a ((by, step) ∷ []) b
 unruled-made a b by step p same none =
     let before : a.rules ≡ no_rules = sym same ∙ none in
-    let adds = no-rule a.core.cluster (answered a.core by step) (past_of a.core) in
+    let adds = no-rule a.core.cluster (entry_with_reply a.core by step) (past_of a.core) in
     record { course = (let past = p.past in rw (past, none, before, adds.0, adds.1) refl); alike = p.alike }

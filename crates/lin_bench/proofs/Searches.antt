@@ -12,33 +12,33 @@ use Rattle.lin_core.specs.History.{events}
 use Rattle.lin_core.specs.declared.event.Event.{Event}
 use Rattle.lin_core.specs.declared.log.LogEntry.{LogEntry}
 use Rattle.lin_bench.specs.Making.{IsGrown}
-use Rattle.lin_bench.specs.Searches.{AreClear, Finds, IsBehind, IsKnown, IsReached, KeepsCleared, before, cleared, end_of, how_many, kind_found, last_end, last_search, place_before, same_host, taken_by}
-use Rattle.lin_bench.specs.Verdicts.{all_taken, is_of, kind_of, loss_after, next_event, same_kind, with_taken}
+use Rattle.lin_bench.specs.Searches.{AreClear, Finds, IsBehind, IsSearchState, IsReached, KeepsCleared, before, cleared_count, end_of, how_many, kind_found, last_end, last_search, place_before, same_host, taken_by}
+use Rattle.lin_bench.specs.Verdicts.{all_taken, is_of_kind, kind_of, loss_after, next_event, same_kind, with_taken}
 use Rattle.lin_bench.specs.declared.taken.Cleared.{Cleared}
 use Rattle.lin_bench.specs.declared.taken.EventKind.{EventKind}
 use Rattle.lin_bench.specs.declared.taken.EventKind.TheVariants.{Messages, Fates, Ends, Begins}
-use Rattle.lin_bench.specs.declared.taken.Place.{Place}
+use Rattle.lin_bench.specs.declared.taken.LogPlace.{LogPlace}
 use Rattle.lin_bench.specs.declared.taken.Search.{Search}
-use Rattle.lin_bench.specs.declared.taken.Taken.{Taken}
+use Rattle.lin_bench.specs.declared.taken.TakenEvents.{TakenEvents}
 use Rattle.lin_bench.proofs.Events.{count-kinds, events-of-log}
 use Rattle.lin_bench.proofs.LossSearches.{clear-at-first, each-at-most, fewer, grown-count, none-more}
 use Rattle.lin_bench.proofs.Makes.{append-nothing}
 
 -- what is taken where nothing was searched for since these entries
-forgotten-taken : (es : List LogEntry) (t : Taken) → t.searches.items ≡ [] → taken_by es t ≡ filter_map kind_of (flat_map events (take t.forgotten es))
+forgotten-taken : (es : List LogEntry) (t : TakenEvents) → t.searches.items ≡ [] → taken_by es t ≡ filter_map kind_of (flat_map events (take t.forgotten es))
 forgotten-taken es t none =
     ap (λ ss. filter_map kind_of (flat_map events (take t.forgotten es)) ++ flat_map kind_found ss) none
     ∙ append-nothing (filter_map kind_of (flat_map events (take t.forgotten es)))
 
 -- as many entries as are forgotten hold no loss that is left
-abbrev pub AreFirst : Taken → Type 0
-AreFirst t = (which : Option ℕ) → cleared t.cleared which ≤ t.forgotten
+abbrev pub AreFirst : TakenEvents → Type 0
+AreFirst t = (which : Option ℕ) → cleared_count t.cleared which ≤ t.forgotten
 
-pub first-cleared : (t : Taken) → t.cleared.all ≡ t.forgotten → t.cleared.hosts ≡ replicate 256 t.forgotten → AreFirst t
+pub first-cleared : (t : TakenEvents) → t.cleared.all ≡ t.forgotten → t.cleared.hosts ≡ replicate 256 t.forgotten → AreFirst t
 first-cleared t all hosts None = omega (arith, all)
 first-cleared t all hosts (Some host) = rw hosts (each-at-most 256 t.forgotten host)
 
-known-nothing : (es : List LogEntry) (t : Taken) → t.searches.items ≡ [] → AreFirst t → t.forgotten ≤ length es → IsKnown es t
+known-nothing : (es : List LogEntry) (t : TakenEvents) → t.searches.items ≡ [] → AreFirst t → t.forgotten ≤ length es → IsSearchState es t
 known-nothing es t none first few =
     let end : (kind : EventKind) → last_end kind t ≡ record { entry = t.forgotten; events = 0 } =
     λ kind. ap (λ ss. end_of t.forgotten (last_search kind ss)) none in
@@ -46,20 +46,20 @@ known-nothing es t none first few =
       forgotten = few;
       within = λ kind. rw (end kind) few;
       taken = λ kind.
-          ap (before es kind) (end kind) ∙ add-zero (count_by (is_of kind) (flat_map events (take t.forgotten es)))
+          ap (before es kind) (end kind) ∙ add-zero (count_by (is_of_kind kind) (flat_map events (take t.forgotten es)))
           ∙ count-kinds kind (flat_map events (take t.forgotten es)) ∙ ap (count_by (same_kind kind)) (sym (forgotten-taken es t none));
       reached = λ kind. rw (end kind) (let more = fewer kind es t.forgotten (t.forgotten + 1) (omega arith) in omega (arith, more));
-      clear = λ which. clear-at-first which es t (cleared t.cleared which) few (first which);
+      clear = λ which. clear-at-first which es t (cleared_count t.cleared which) few (first which);
     }
 
 -- nothing is taken of a new log
-pub known-first : (es : List LogEntry) (t : Taken) → t.searches.items ≡ [] → AreFirst t → t.forgotten ≡ 0 → IsKnown es t × (taken_by es t ≡ [])
+pub known-first : (es : List LogEntry) (t : TakenEvents) → t.searches.items ≡ [] → AreFirst t → t.forgotten ≡ 0 → IsSearchState es t × (taken_by es t ≡ [])
 known-first es t none first zero =
     (known-nothing es t none first (omega (arith, zero)), forgotten-taken es t none ∙ ap (λ n. filter_map kind_of (flat_map events (take n es))) zero)
 
 -- all events are taken
-pub known-forgotten : (core : CoreData) (t : Taken) → t.searches.items ≡ [] → AreFirst t → t.forgotten ≡ length core.log
-    → IsKnown core.log t × (taken_by core.log t ≡ all_taken (past_of core))
+pub known-forgotten : (core : CoreData) (t : TakenEvents) → t.searches.items ≡ [] → AreFirst t → t.forgotten ≡ length core.log
+    → IsSearchState core.log t × (taken_by core.log t ≡ all_taken (past_of core))
 known-forgotten core t none first all = (
   known-nothing core.log t none first (omega (arith, all)),
   forgotten-taken core.log t none ∙ ap (λ l. filter_map kind_of (flat_map events l)) (take_all t.forgotten core.log (omega (arith, all)))
@@ -67,20 +67,20 @@ known-forgotten core t none first all = (
 )
 
 -- ---- more entries
-before-more : (es more : List LogEntry) (kind : EventKind) (p : Place) → p.entry ≤ length es → before (es ++ more) kind p ≡ before es kind p
-before-more es more kind p h = ap (λ l. count_by (is_of kind) (flat_map events l) + p.events) (take-append-le p.entry es more h)
+before-more : (es more : List LogEntry) (kind : EventKind) (p : LogPlace) → p.entry ≤ length es → before (es ++ more) kind p ≡ before es kind p
+before-more es more kind p h = ap (λ l. count_by (is_of_kind kind) (flat_map events l) + p.events) (take-append-le p.entry es more h)
 
-taken-append : (es more : List LogEntry) (t : Taken) → t.forgotten ≤ length es → taken_by (es ++ more) t ≡ taken_by es t
+taken-append : (es more : List LogEntry) (t : TakenEvents) → t.forgotten ≤ length es → taken_by (es ++ more) t ≡ taken_by es t
 taken-append es more t h =
     ap (λ l. filter_map kind_of (flat_map events l) ++ flat_map kind_found t.searches.items) (take-append-le t.forgotten es more h)
 
-reached-append : (es more : List LogEntry) (kind : EventKind) (p : Place) → p.entry ≤ length es → IsReached es kind p → IsReached (es ++ more) kind p
+reached-append : (es more : List LogEntry) (kind : EventKind) (p : LogPlace) → p.entry ≤ length es → IsReached es kind p → IsReached (es ++ more) kind p
 reached-append es more kind p h r =
     let same = before-more es more kind p h in
     let grown = grown-count kind es more (p.entry + 1) in
     omega (arith, same, grown, r)
 
-clear-append : (es more : List LogEntry) (t : Taken) (which : Option ℕ) (n : ℕ) → t.forgotten ≤ length es → AreClear es t which n
+clear-append : (es more : List LogEntry) (t : TakenEvents) (which : Option ℕ) (n : ℕ) → t.forgotten ≤ length es → AreClear es t which n
     → AreClear (es ++ more) t which n
 clear-append es more t which n h c = (
   omega (arith, c.0, length-append es more),
@@ -88,7 +88,7 @@ clear-append es more t which n h c = (
       ∙ ap (λ l. loss_after which (taken_by es t) [] (flat_map events l)) (take-append-le n es more c.0) ∙ c.1,
 )
 
-known-append : (es more : List LogEntry) (t : Taken) → IsKnown es t → IsKnown (es ++ more) t
+known-append : (es more : List LogEntry) (t : TakenEvents) → IsSearchState es t → IsSearchState (es ++ more) t
 known-append es more t k =
     record {
       forgotten = let h = k.forgotten in omega (arith, h, length-append es more);
@@ -97,13 +97,13 @@ known-append es more t k =
           before-more es more kind (last_end kind t) (k.within kind) ∙ k.taken kind
           ∙ ap (count_by (same_kind kind)) (sym (taken-append es more t k.forgotten));
       reached = λ kind. reached-append es more kind (last_end kind t) (k.within kind) (k.reached kind);
-      clear = λ which. clear-append es more t which (cleared t.cleared which) k.forgotten (k.clear which);
+      clear = λ which. clear-append es more t which (cleared_count t.cleared which) k.forgotten (k.clear which);
     }
 
-pub known-grown : (a b : CoreData) (t : Taken) → IsGrown a b → IsKnown a.log t → IsKnown b.log t
-known-grown a b t grown k = subst (λ l. IsKnown l t) (sym grown.log) (known-append a.log grown.more t k)
+pub known-grown : (a b : CoreData) (t : TakenEvents) → IsGrown a b → IsSearchState a.log t → IsSearchState b.log t
+known-grown a b t grown k = subst (λ l. IsSearchState l t) (sym grown.log) (known-append a.log grown.more t k)
 
-pub taken-grown : (a b : CoreData) (t : Taken) → IsGrown a b → IsKnown a.log t → taken_by b.log t ≡ taken_by a.log t
+pub taken-grown : (a b : CoreData) (t : TakenEvents) → IsGrown a b → IsSearchState a.log t → taken_by b.log t ≡ taken_by a.log t
 taken-grown a b t grown k = ap (λ l. taken_by l t) grown.log ∙ taken-append a.log grown.more t k.forgotten
 
 -- ---- one more search
@@ -126,7 +126,7 @@ same-kind Begins Ends h = cc
 same-kind Begins Begins h = refl
 
 -- one more search stands behind the others
-pub record IsOneMore (t : Taken) (s : Search) (u : Taken) : Type 0 where
+pub record IsOneMore (t : TakenEvents) (s : Search) (u : TakenEvents) : Type 0 where
   pub forgotten : u.forgotten ≡ t.forgotten
   pub searches : u.searches.items ≡ t.searches.items ++ s ∷ []
   pub cleared : u.cleared ≡ t.cleared
@@ -136,14 +136,14 @@ last-first : (q : EventKind) (n : ℕ) (ss : List Search) (s : Search) (b : Bool
 last-first q n ss s true is = rw is refl
 last-first q n ss s false is = rw is refl
 
-last-more : (q : EventKind) (t : Taken) (s : Search) (u : Taken) → IsOneMore t s u → last_end q u ≡ cond (same_kind q s.kind) s.end (last_end q t)
+last-more : (q : EventKind) (t : TakenEvents) (s : Search) (u : TakenEvents) → IsOneMore t s u → last_end q u ≡ cond (same_kind q s.kind) s.end (last_end q t)
 last-more q t s u more =
     ap (λ n. end_of n (last_search q u.searches.items)) more.forgotten
     ∙ ap (λ ss. end_of t.forgotten (last_search q ss)) more.searches
     ∙ ap (λ l. end_of t.forgotten (find (λ x. same_kind q x.kind) l)) (reverse-append t.searches.items (s ∷ []))
     ∙ last-first q t.forgotten t.searches.items s (same_kind q s.kind) refl
 
-taken-more : (es : List LogEntry) (t : Taken) (s : Search) (u : Taken) → IsOneMore t s u → taken_by es u ≡ taken_by es t ++ kind_found s
+taken-more : (es : List LogEntry) (t : TakenEvents) (s : Search) (u : TakenEvents) → IsOneMore t s u → taken_by es u ≡ taken_by es t ++ kind_found s
 taken-more es t s u more =
     let old = filter_map kind_of (flat_map events (take t.forgotten es)) in
     let found = flat_map kind_found t.searches.items in
@@ -165,8 +165,8 @@ same-count q s false found = rw found (cond-same (same_kind q s.kind) 0)
 same-count q s true found = rw found (zero-add (cond (same_kind q s.kind) 1 0))
 
 -- where the last search ended, for the kind of a search that ended so many events behind and for any other
-place-more : (es : List LogEntry) (t : Taken) (s : Search) (n : ℕ) (q : EventKind) (b : Bool) → same_kind q s.kind ≡ b
-    → IsKnown es t → IsBehind es s.kind (last_end s.kind t) n s.end
+place-more : (es : List LogEntry) (t : TakenEvents) (s : Search) (n : ℕ) (q : EventKind) (b : Bool) → same_kind q s.kind ≡ b
+    → IsSearchState es t → IsBehind es s.kind (last_end s.kind t) n s.end
     → ((cond b s.end (last_end q t)).entry ≤ length es)
     × ((before es q (cond b s.end (last_end q t)) ≡ count_by (same_kind q) (taken_by es t) + cond b n 0)
     × IsReached es q (cond b s.end (last_end q t)))
@@ -177,10 +177,10 @@ place-more es t s n q true is k f =
 place-more es t s n q false is k f = (k.within q, (k.taken q ∙ sym (add-zero (count_by (same_kind q) (taken_by es t))), k.reached q))
 
 -- what holds no loss that is left holds none when more is taken
-clear-more : (es : List LogEntry) (t : Taken) (s : Search) (u : Taken) (which : Option ℕ) → IsOneMore t s u → IsKnown es t
-    → AreClear es u which (cleared u.cleared which)
+clear-more : (es : List LogEntry) (t : TakenEvents) (s : Search) (u : TakenEvents) (which : Option ℕ) → IsOneMore t s u → IsSearchState es t
+    → AreClear es u which (cleared_count u.cleared which)
 clear-more es t s u which more k =
-    let n = cleared t.cleared which in
+    let n = cleared_count t.cleared which in
     rw more.cleared (
       (k.clear which).0,
       ap (λ ts. loss_after which ts [] (flat_map events (take n es))) (taken-more es t s u more)
@@ -188,8 +188,8 @@ clear-more es t s u which more k =
     )
 
 -- the places are known after a search from the last one's end
-pub known-search : (es : List LogEntry) (t : Taken) (s : Search) (u : Taken) → IsOneMore t s u → IsKnown es t
-    → IsBehind es s.kind (last_end s.kind t) (found-count s) s.end → IsKnown es u
+pub known-search : (es : List LogEntry) (t : TakenEvents) (s : Search) (u : TakenEvents) → IsOneMore t s u → IsSearchState es t
+    → IsBehind es s.kind (last_end s.kind t) (found-count s) s.end → IsSearchState es u
 known-search es t s u more k f =
     record {
       forgotten = rw more.forgotten k.forgotten;
@@ -205,7 +205,7 @@ known-search es t s u more k f =
     }
 
 -- ... or from the event that it found, which isn't taken
-pub before-found : (es : List LogEntry) (kind : EventKind) (from : Place) (event : Option Event) (end : Place) → Finds es kind from event end
+pub before-found : (es : List LogEntry) (kind : EventKind) (from : LogPlace) (event : Option Event) (end : LogPlace) → Finds es kind from event end
     → IsBehind es kind from 0 (place_before event end)
 before-found es kind from None end f = f.behind
 before-found es kind from (Some e) end f =
@@ -214,7 +214,7 @@ before-found es kind from (Some e) end f =
     let reached = f.behind.reached in
     record { within = f.behind.within; place = omega (arith, place, some); reached = omega (arith, reached, some) }
 
-pub behind-found : (es : List LogEntry) (s : Search) (from : Place) (event : Option Event) → Finds es s.kind from event s.end → s.found ≡ is_some event
+pub behind-found : (es : List LogEntry) (s : Search) (from : LogPlace) (event : Option Event) → Finds es s.kind from event s.end → s.found ≡ is_some event
     → IsBehind es s.kind from (found-count s) s.end
 behind-found es s from None f found = rw found f.behind
 behind-found es s from (Some e) f found = rw found f.behind
@@ -225,29 +225,29 @@ same-host None (Some k) h = cc
 same-host (Some j) None h = cc
 same-host (Some j) (Some k) h = ap Some (grind (arith, nat_tests))
 
-clear-kept : (es : List LogEntry) (t : Taken) (which q : Option ℕ) (n m : ℕ) (b : Bool) → same_host q which ≡ b → AreClear es t which n → AreClear es t q m
+clear-kept : (es : List LogEntry) (t : TakenEvents) (which q : Option ℕ) (n m : ℕ) (b : Bool) → same_host q which ≡ b → AreClear es t which n → AreClear es t q m
     → AreClear es t q (cond b n m)
 clear-kept es t which q n m true is new old = subst (λ w. AreClear es t w n) (sym (same-host which q is)) new
 clear-kept es t which q n m false is new old = old
 
 -- and after a search for losses
-pub known-cleared : (es : List LogEntry) (t : Taken) (which : Option ℕ) (n : ℕ) (c : Cleared) → IsKnown es t → AreClear es t which n
-    → KeepsCleared which n t.cleared c → IsKnown es (record t { cleared = c })
+pub known-cleared : (es : List LogEntry) (t : TakenEvents) (which : Option ℕ) (n : ℕ) (c : Cleared) → IsSearchState es t → AreClear es t which n
+    → KeepsCleared which n t.cleared c → IsSearchState es (record t { cleared = c })
 known-cleared es t which n c k new keeps =
     record {
       forgotten = k.forgotten;
       within = k.within;
       taken = k.taken;
       reached = k.reached;
-      clear = λ q. rw (keeps q) (clear-kept es t which q n (cleared t.cleared q) (same_host q which) refl new (k.clear q));
+      clear = λ q. rw (keeps q) (clear-kept es t which q n (cleared_count t.cleared q) (same_host q which) refl new (k.clear q));
     }
 
 -- what a search finds is the oldest event that wasn't taken
-pub next-found : (core : CoreData) (t : Taken) (kind : EventKind) (event : Option Event) (end : Place) → IsKnown core.log t
+pub next-found : (core : CoreData) (t : TakenEvents) (kind : EventKind) (event : Option Event) (end : LogPlace) → IsSearchState core.log t
     → Finds core.log kind (last_end kind t) event end → event ≡ next_event (past_of core) (taken_by core.log t) kind
 next-found core t kind event end k f =
-    f.event_is ∙ ap (slice_get (filter (is_of kind) (flat_map events core.log))) (k.taken kind)
-    ∙ ap (λ l. slice_get (filter (is_of kind) l) (count_by (same_kind kind) (taken_by core.log t))) (sym (events-of-log core.log))
+    f.event_is ∙ ap (slice_get (filter (is_of_kind kind) (flat_map events core.log))) (k.taken kind)
+    ∙ ap (λ l. slice_get (filter (is_of_kind kind) l) (count_by (same_kind kind) (taken_by core.log t))) (sym (events-of-log core.log))
 
 with-found : (kind : EventKind) (ts : List EventKind) (s : Search) (event : Option Event) → s.kind ≡ kind → s.found ≡ is_some event
     → ts ++ kind_found s ≡ with_taken event kind ts
@@ -255,7 +255,7 @@ with-found kind ts s None same found = rw found (append-nothing ts)
 with-found kind ts s (Some e) same found = rw (found, same) refl
 
 -- and that is taken
-pub taken-found : (core : CoreData) (t : Taken) (s : Search) (u : Taken) (event : Option Event) → IsOneMore t s u → IsKnown core.log t
+pub taken-found : (core : CoreData) (t : TakenEvents) (s : Search) (u : TakenEvents) (event : Option Event) → IsOneMore t s u → IsSearchState core.log t
     → Finds core.log s.kind (last_end s.kind t) event s.end → s.found ≡ is_some event
     → taken_by core.log u ≡ with_taken (next_event (past_of core) (taken_by core.log t) s.kind) s.kind (taken_by core.log t)
 taken-found core t s u event more k f found =
@@ -263,6 +263,6 @@ taken-found core t s u event more k f found =
     ∙ ap (λ e. with_taken e s.kind (taken_by core.log t)) (next-found core t s.kind event s.end k f)
 
 -- but nothing by a search that found nothing
-pub taken-none : (es : List LogEntry) (t : Taken) (s : Search) (u : Taken) → IsOneMore t s u → s.found ≡ false → taken_by es u ≡ taken_by es t
+pub taken-none : (es : List LogEntry) (t : TakenEvents) (s : Search) (u : TakenEvents) → IsOneMore t s u → s.found ≡ false → taken_by es u ≡ taken_by es t
 taken-none es t s u more none =
     taken-more es t s u more ∙ with-found s.kind (taken_by es t) s None refl none

@@ -5,7 +5,7 @@ use Rattle.std.specs.Prelude.{slice_index_or}
 use Rattle.std.proofs.lemmas.List.{drop-map, take-map, take_rest}
 use Rattle.lin_parts.specs.declared.parts.Parts.{Parts}
 use Rattle.lin_values.specs.Coded.{CodedData}
-use Rattle.lin_bench.specs.Fields.{signal_field, words}
+use Rattle.lin_bench.specs.Fields.{signal_field, field_texts}
 use Rattle.lin_bench.specs.Words.{is_expect, is_signal, is_signal_after, last_signal, why_at, why_value}
 use Rattle.lin_bench.proofs.WordedLines.{field-at}
 
@@ -21,15 +21,15 @@ signal-before c fs (suc i) h is =
 
 -- ---- as code lends the fields
 
-pub signal-lent : (c : Parts) (fs : List (Bor (List ℕ))) (d : Bor (List ℕ)) (at : ℕ) → at < length fs → is_signal_after c (words (take at fs)) (get_or fs at d).now ≡ is_signal c (words fs) at
+pub signal-lent : (c : Parts) (fs : List (Bor (List ℕ))) (d : Bor (List ℕ)) (at : ℕ) → at < length fs → is_signal_after c (field_texts (take at fs)) (get_or fs at d).now ≡ is_signal c (field_texts fs) at
 signal-lent c fs d at lt =
     ap (λ b. is_signal_after c b (get_or fs at d).now) (sym (take-map (λ f. f.now) at fs))
-    ∙ ap (is_signal_after c (take at (words fs))) (sym (field-at fs d at lt))
+    ∙ ap (is_signal_after c (take at (field_texts fs))) (sym (field-at fs d at lt))
 
-pub why-lent : (c : Parts) (k : CodedData) (fs : List (Bor (List ℕ))) (d : Bor (List ℕ)) (at : ℕ) (ranged : Bool) → at < length fs → ranged ≡ is_expect (words (take at fs)) → why_value k (signal_field c (get_or fs at d).now) ranged (words (take (length fs - (at + 1)) (drop (at + 1) fs))) ≡ why_at c k (words fs) at
+pub why-lent : (c : Parts) (k : CodedData) (fs : List (Bor (List ℕ))) (d : Bor (List ℕ)) (at : ℕ) (ranged : Bool) → at < length fs → ranged ≡ is_expect (field_texts (take at fs)) → why_value k (signal_field c (get_or fs at d).now) ranged (field_texts (take (length fs - (at + 1)) (drop (at + 1) fs))) ≡ why_at c k (field_texts fs) at
 why-lent c k fs d at ranged lt e =
-    let value : List (List ℕ) = words (take (length fs - (at + 1)) (drop (at + 1) fs)) in
+    let value : List (List ℕ) = field_texts (take (length fs - (at + 1)) (drop (at + 1) fs)) in
     ap (λ f. why_value k (signal_field c f) ranged value) (sym (field-at fs d at lt))
-    ∙ ap (λ r. why_value k (signal_field c (slice_index_or (words fs) at [])) r value) (e ∙ ap is_expect (sym (take-map (λ f. f.now) at fs)))
-    ∙ ap (why_value k (signal_field c (slice_index_or (words fs) at [])) (is_expect (take at (words fs))))
-    (ap words (take_rest fs (at + 1)) ∙ sym (drop-map (λ f. f.now) (at + 1) fs))
+    ∙ ap (λ r. why_value k (signal_field c (slice_index_or (field_texts fs) at [])) r value) (e ∙ ap is_expect (sym (take-map (λ f. f.now) at fs)))
+    ∙ ap (why_value k (signal_field c (slice_index_or (field_texts fs) at [])) (is_expect (take at (field_texts fs))))
+    (ap field_texts (take_rest fs (at + 1)) ∙ sym (drop-map (λ f. f.now) (at + 1) fs))

@@ -18,8 +18,8 @@ use Rattle.lin_core.specs.declared.reply.Refusal.{Refusal}
 use Rattle.lin_core.specs.declared.reply.Reply.TheVariants.{Done, Refused}
 use Rattle.lin_core.specs.declared.step.Step.{Step}
 use Rattle.lin_core.specs.declared.step.Step.TheVariants.{Open, Answer, Leave, Finish}
-use Rattle.lin_bench.specs.Making.{IsGrown, IsMade, NoRoom, RuledData, SlotsFail, StepsFail, course_on, ends_at, extent_on, first_on}
-use Rattle.lin_bench.specs.Slots.{Course, after, decision, due_in, due_now, extent_steps, hurt_steps, is_opened, leave_nodes, most, one_more, slot_rest, slot_steps, slots_in, slots_steps}
+use Rattle.lin_bench.specs.Making.{IsGrown, AreExecuted, NoRoom, RuledData, SlotsFail, StepsFail, course_on, ends_at, extent_on, first_on}
+use Rattle.lin_bench.specs.Slots.{Course, course_after, decision, due_in, due_now, extent_steps, hurt_steps, is_opened, leave_nodes, most, goes_on_until, slot_rest, slot_steps, ended_slot_count, slots_steps}
 use Rattle.lin_bench.specs.declared.expected.Expected.{Expected}
 use Rattle.lin_bench.specs.declared.taken.EventKind.{EventKind}
 use Rattle.lin_bench.specs.declared.line.Disturbance.{Disturbance}
@@ -36,7 +36,7 @@ map-split f xs i h =
     ∙ ap (λ l. map f (take i xs) ++ map f l) (drop-cons xs i 0 h)
 
 -- one of them fails
-pub one-fails : (fault : MakeFault) (a now new : RuledData) (how : Disturbance) (due : List ℕ) (i : ℕ) → i < length due → IsMade a (map (decision how) (take i due)) now
+pub one-fails : (fault : MakeFault) (a now new : RuledData) (how : Disturbance) (due : List ℕ) (i : ℕ) → i < length due → AreExecuted a (map (decision how) (take i due)) now
     → StepsFail fault now (decision how (get_or due i 0) ∷ []) × IsGrown now.core new.core → StepsFail fault a (map (decision how) due) × IsGrown a.core new.core
 one-fails fault a now new how due i small made (fails, grown) =
     let one : List (PortId × Step) = decision how (get_or due i 0) ∷ [] in
@@ -47,7 +47,7 @@ one-fails fault a now new how due i small made (fails, grown) =
     )
 
 -- ---- how many slots end by steps
-pub slots_in-append : (ss ts : List (PortId × Step)) → slots_in (ss ++ ts) ≡ slots_in ss + slots_in ts
+pub slots_in-append : (ss ts : List (PortId × Step)) → ended_slot_count (ss ++ ts) ≡ ended_slot_count ss + ended_slot_count ts
 slots_in-append ss ts =
     ap length (filter-append (λ (s : PortId × Step). is_finish s.1) ss ts)
     ∙ length-append (filter (λ (s : PortId × Step). is_finish s.1) ss) (filter (λ (s : PortId × Step). is_finish s.1) ts)
@@ -56,37 +56,37 @@ choice-ends-none : (b : Bool) (n : ℕ) → is_finish (if b then Leave n else An
 choice-ends-none true n = refl
 choice-ends-none false n = refl
 
-decisions-end-none : (how : Disturbance) (due : List ℕ) → slots_in (map (decision how) due) ≡ 0
+decisions-end-none : (how : Disturbance) (due : List ℕ) → ended_slot_count (map (decision how) due) ≡ 0
 decisions-end-none how [] = refl
 decisions-end-none how (n ∷ ns) =
     let rest = filter (λ (s : PortId × Step). is_finish s.1) (map (decision how) ns) in
     ap (λ b. length (cond b (decision how n ∷ rest) rest)) (choice-ends-none (is_in (leave_nodes how) n) n) ∙ decisions-end-none how ns
 
-one-ends : (how : Disturbance) → slots_in (hurt_steps how ++ (Bus, Finish) ∷ []) ≡ 1
+one-ends : (how : Disturbance) → ended_slot_count (hurt_steps how ++ (Bus, Finish) ∷ []) ≡ 1
 one-ends slot.Undisturbed = refl
 one-ends (slot.Hurt bytes) = refl
 one-ends (slot.Leave nodes) = refl
 
-rest-ends-one : (how : Disturbance) (due : List ℕ) → slots_in (slot_rest how (Some due)) ≡ 1
+rest-ends-one : (how : Disturbance) (due : List ℕ) → ended_slot_count (slot_rest how (Some due)) ≡ 1
 rest-ends-one how due =
     let e = slots_in-append (map (decision how) due) (hurt_steps how ++ (Bus, Finish) ∷ []) in
     omega (arith, e, decisions-end-none how due, one-ends how)
 
-opened-ends-one : (how : Disturbance) (due : Option (List ℕ)) → is_opened due ≡ true → slots_in ((Bus, Open) ∷ slot_rest how due) ≡ 1
+opened-ends-one : (how : Disturbance) (due : Option (List ℕ)) → is_opened due ≡ true → ended_slot_count ((Bus, Open) ∷ slot_rest how due) ≡ 1
 opened-ends-one how None h = cc
 opened-ends-one how (Some due) h = rest-ends-one how due
 
-refused-ends-none : (how : Disturbance) (due : Option (List ℕ)) → is_opened due ≡ false → slots_in ((Bus, Open) ∷ slot_rest how due) ≡ 0
+refused-ends-none : (how : Disturbance) (due : Option (List ℕ)) → is_opened due ≡ false → ended_slot_count ((Bus, Open) ∷ slot_rest how due) ≡ 0
 refused-ends-none how None h = refl
 refused-ends-none how (Some due) h = cc
 
 pub one-slot : (c : Parts) (o cap : ℕ) (how : Disturbance) (past : List LogEntry) → is_opened (due_now c o cap past) ≡ true
-    → slots_in (slot_steps c o cap how past) ≡ 1
+    → ended_slot_count (slot_steps c o cap how past) ≡ 1
 unfolding slot_steps
 one-slot c o cap how past h = opened-ends-one how (due_now c o cap past) h
 
 pub no-slot : (c : Parts) (o cap : ℕ) (how : Disturbance) (past : List LogEntry) → is_opened (due_now c o cap past) ≡ false
-    → slots_in (slot_steps c o cap how past) ≡ 0
+    → ended_slot_count (slot_steps c o cap how past) ≡ 0
 unfolding slot_steps
 no-slot c o cap how past h = refused-ends-none how (due_now c o cap past) h
 
@@ -136,22 +136,22 @@ turn-refused c o cap how goes n at h g = rw (h, g) refl
 turn-opened : (c : Parts) (o cap : ℕ) (how : Disturbance) (goes : Course → Bool) (n : ℕ) (at : Course)
     → goes at ≡ true → is_opened (due_now c o cap at.past) ≡ true
     → slots_steps c o cap how goes (suc n) at
-    ≡ slot_steps c o cap how at.past ++ slots_steps c o cap how goes n (after c o cap at (slot_steps c o cap how at.past))
+    ≡ slot_steps c o cap how at.past ++ slots_steps c o cap how goes n (course_after c o cap at (slot_steps c o cap how at.past))
 unfolding slots_steps
 turn-opened c o cap how goes n at h g = rw (h, g) refl
 
 -- the steps of at most n more slots of a line that began on a core
 abbrev pub turns : RuledData → Disturbance → Extent → (Course → Bool) → ℕ → Course → List (PortId × Step)
 turns a how extent ends n at =
-    slots_steps a.core.cluster a.core.opening a.core.capacity how (one_more a.core.cluster extent ends (time a.core.cluster (past_of a.core))) n at
+    slots_steps a.core.cluster a.core.opening a.core.capacity how (goes_on_until a.core.cluster extent ends (time a.core.cluster (past_of a.core))) n at
 
 -- slots of a line that began on a core were made, at most n more follow, and so many are left
 pub record AreBegun (a : RuledData) (how : Disturbance) (extent : Extent) (ends : Course → Bool) (left : ℕ) (now : RuledData) (n : ℕ) (rest : ℕ) : Type 0 where
   pub steps : List (PortId × Step)
-  pub made : IsMade a steps now
+  pub made : AreExecuted a steps now
   pub whole : extent_on a how extent ends ≡ steps ++ turns a how extent ends n (course_on now)
   pub first : first_on a how extent ends left ≡ steps ++ turns a how extent ends rest (course_on now)
-  pub count : slots_in steps + rest ≡ left
+  pub count : ended_slot_count steps + rest ≡ left
 
 begin-all : (a : RuledData) (how : Disturbance) (extent : Extent) (ends : Course → Bool) (left : ℕ) → AreBegun a how extent ends left a (most extent) left
 unfolding extent_steps
@@ -161,43 +161,43 @@ pub begin : (a : RuledData) (how : Disturbance) (extent : Extent) (ends : Course
 begin a how extent ends left n e = subst (λ k. AreBegun a how extent ends left a k left) (sym e) (begin-all a how extent ends left)
 
 -- whether one more is to be made, by the time at the line's beginning
-same-goes : (a now : RuledData) (ss : List (PortId × Step)) (extent : Extent) (ends : Course → Bool) (t : ℕ) (b : Bool) → IsMade a ss now
-    → t ≡ time a.core.cluster (past_of a.core) → one_more now.core.cluster extent ends t (course_on now) ≡ b
-    → one_more a.core.cluster extent ends (time a.core.cluster (past_of a.core)) (course_on now) ≡ b
+same-goes : (a now : RuledData) (ss : List (PortId × Step)) (extent : Extent) (ends : Course → Bool) (t : ℕ) (b : Bool) → AreExecuted a ss now
+    → t ≡ time a.core.cluster (past_of a.core) → goes_on_until now.core.cluster extent ends t (course_on now) ≡ b
+    → goes_on_until a.core.cluster extent ends (time a.core.cluster (past_of a.core)) (course_on now) ≡ b
 same-goes a now ss extent ends t b p e h =
-    ap (λ c. one_more c extent ends (time a.core.cluster (past_of a.core)) (course_on now)) (sym p.alike.0)
-    ∙ ap (λ k. one_more now.core.cluster extent ends k (course_on now)) (sym e) ∙ h
+    ap (λ c. goes_on_until c extent ends (time a.core.cluster (past_of a.core)) (course_on now)) (sym p.alike.0)
+    ∙ ap (λ k. goes_on_until now.core.cluster extent ends k (course_on now)) (sym e) ∙ h
 
 -- and with what is taken at the line's beginning
 pub same-ends : (a now : RuledData) (ss : List (PortId × Step)) (js ks : List EventKind) (m n : ℕ) (what : Option (Bool × Expected)) (extent : Extent) (t : ℕ) (b : Bool)
-    → IsMade a ss now → js ≡ ks → m ≡ n → b ≡ one_more now.core.cluster extent (ends_at now.core.cluster now.core.opening js m what) t (course_on now)
-    → one_more now.core.cluster extent (ends_at a.core.cluster a.core.opening ks n what) t (course_on now) ≡ b
+    → AreExecuted a ss now → js ≡ ks → m ≡ n → b ≡ goes_on_until now.core.cluster extent (ends_at now.core.cluster now.core.opening js m what) t (course_on now)
+    → goes_on_until now.core.cluster extent (ends_at a.core.cluster a.core.opening ks n what) t (course_on now) ≡ b
 same-ends a now ss js ks m n what extent t b p same entries h =
-    ap (λ c. one_more now.core.cluster extent (ends_at c a.core.opening ks n what) t (course_on now)) (sym p.alike.0)
-    ∙ ap (λ o. one_more now.core.cluster extent (ends_at now.core.cluster o ks n what) t (course_on now)) (sym p.alike.1)
-    ∙ ap (λ l. one_more now.core.cluster extent (ends_at now.core.cluster now.core.opening l n what) t (course_on now)) (sym same)
-    ∙ ap (λ k. one_more now.core.cluster extent (ends_at now.core.cluster now.core.opening js k what) t (course_on now)) (sym entries) ∙ sym h
+    ap (λ c. goes_on_until now.core.cluster extent (ends_at c a.core.opening ks n what) t (course_on now)) (sym p.alike.0)
+    ∙ ap (λ o. goes_on_until now.core.cluster extent (ends_at now.core.cluster o ks n what) t (course_on now)) (sym p.alike.1)
+    ∙ ap (λ l. goes_on_until now.core.cluster extent (ends_at now.core.cluster now.core.opening l n what) t (course_on now)) (sym same)
+    ∙ ap (λ k. goes_on_until now.core.cluster extent (ends_at now.core.cluster now.core.opening js k what) t (course_on now)) (sym entries) ∙ sym h
 
 -- what a slot of a core says by the core that the line began on
-same-slot : (a now : RuledData) (how : Disturbance) (ss : List (PortId × Step)) → IsMade a ss now
+same-slot : (a now : RuledData) (how : Disturbance) (ss : List (PortId × Step)) → AreExecuted a ss now
     → slot_steps now.core.cluster now.core.opening now.core.capacity how (past_of now.core) ≡ slot_steps a.core.cluster a.core.opening a.core.capacity how (past_of now.core)
 same-slot a now how ss p = rw (p.alike.0, p.alike.1, p.alike.2) refl
 
-same-due : (a now : RuledData) (ss : List (PortId × Step)) → IsMade a ss now
+same-due : (a now : RuledData) (ss : List (PortId × Step)) → AreExecuted a ss now
     → due_now now.core.cluster now.core.opening now.core.capacity (past_of now.core) ≡ due_now a.core.cluster a.core.opening a.core.capacity (past_of now.core)
 same-due a now ss p = rw (p.alike.0, p.alike.1, p.alike.2) refl
 
 -- no more is to be made
 pub stopped : (a now : RuledData) (how : Disturbance) (extent : Extent) (ends : Course → Bool) (left n rest : ℕ) → AreBegun a how extent ends left now n rest
-    → one_more a.core.cluster extent ends (time a.core.cluster (past_of a.core)) (course_on now) ≡ false
-    → IsMade a (extent_on a how extent ends) now × (slots_in (extent_on a how extent ends) + rest ≡ left)
+    → goes_on_until a.core.cluster extent ends (time a.core.cluster (past_of a.core)) (course_on now) ≡ false
+    → AreExecuted a (extent_on a how extent ends) now × (ended_slot_count (extent_on a how extent ends) + rest ≡ left)
 stopped a now how extent ends left n rest b h =
     let all : extent_on a how extent ends ≡ b.steps = b.whole ∙ ap (λ l. b.steps ++ l) (turn-stops _ _ _ how _ n (course_on now) h) ∙ append-nothing b.steps in
     (rw all b.made, rw all b.count)
 
 -- all were made
 pub ended : (a now : RuledData) (how : Disturbance) (extent : Extent) (ends : Course → Bool) (left rest : ℕ) → AreBegun a how extent ends left now 0 rest
-    → IsMade a (extent_on a how extent ends) now × (slots_in (extent_on a how extent ends) + rest ≡ left)
+    → AreExecuted a (extent_on a how extent ends) now × (ended_slot_count (extent_on a how extent ends) + rest ≡ left)
 unfolding slots_steps
 ended a now how extent ends left rest b =
     let all : extent_on a how extent ends ≡ b.steps = b.whole ∙ append-nothing b.steps in
@@ -205,7 +205,7 @@ ended a now how extent ends left rest b =
 
 -- the next one can't be opened
 refused-whole : (a now : RuledData) (how : Disturbance) (extent : Extent) (ends : Course → Bool) (left n rest : ℕ) (b : AreBegun a how extent ends left now (suc n) rest)
-    → one_more a.core.cluster extent ends (time a.core.cluster (past_of a.core)) (course_on now) ≡ true
+    → goes_on_until a.core.cluster extent ends (time a.core.cluster (past_of a.core)) (course_on now) ≡ true
     → is_opened (due_now now.core.cluster now.core.opening now.core.capacity (past_of now.core)) ≡ false
     → extent_on a how extent ends ≡ b.steps ++ slot_steps now.core.cluster now.core.opening now.core.capacity how (past_of now.core)
 refused-whole a now how extent ends left n rest b goes shut =
@@ -213,43 +213,43 @@ refused-whole a now how extent ends left n rest b goes shut =
     b.whole ∙ ap (λ l. b.steps ++ l) (turn-refused _ _ _ how _ n (course_on now) goes closed ∙ append-nothing _ ∙ sym (same-slot a now how b.steps b.made))
 
 pub refused : (a now new : RuledData) (how : Disturbance) (extent : Extent) (ends : Course → Bool) (left n rest : ℕ) → AreBegun a how extent ends left now (suc n) rest
-    → one_more a.core.cluster extent ends (time a.core.cluster (past_of a.core)) (course_on now) ≡ true
-    → IsMade now (slot_steps now.core.cluster now.core.opening now.core.capacity how (past_of now.core)) new
+    → goes_on_until a.core.cluster extent ends (time a.core.cluster (past_of a.core)) (course_on now) ≡ true
+    → AreExecuted now (slot_steps now.core.cluster now.core.opening now.core.capacity how (past_of now.core)) new
     → is_opened (due_now now.core.cluster now.core.opening now.core.capacity (past_of now.core)) ≡ false
-    → IsMade a (extent_on a how extent ends) new × (slots_in (extent_on a how extent ends) + rest ≡ left)
+    → AreExecuted a (extent_on a how extent ends) new × (ended_slot_count (extent_on a how extent ends) + rest ≡ left)
 refused a now new how extent ends left n rest b goes made shut =
     let one = slot_steps now.core.cluster now.core.opening now.core.capacity how (past_of now.core) in
     let all = refused-whole a now how extent ends left n rest b goes shut in
-    let none : slots_in one ≡ 0 = no-slot _ _ _ how (past_of now.core) shut in
-    let count : slots_in (b.steps ++ one) + rest ≡ left = let e = slots_in-append b.steps one in omega (arith, e, none, b.count) in
+    let none : ended_slot_count one ≡ 0 = no-slot _ _ _ how (past_of now.core) shut in
+    let count : ended_slot_count (b.steps ++ one) + rest ≡ left = let e = slots_in-append b.steps one in omega (arith, e, none, b.count) in
     (rw all (made-more a now new b.steps one b.made made), rw all count)
 
 -- the next one was opened
 turned : (a now new : RuledData) (how : Disturbance) (extent : Extent) (ends : Course → Bool) (n : ℕ) (xs steps : List (PortId × Step))
-    → xs ≡ steps ++ turns a how extent ends (suc n) (course_on now) → IsMade a steps now
-    → one_more a.core.cluster extent ends (time a.core.cluster (past_of a.core)) (course_on now) ≡ true
-    → IsMade now (slot_steps now.core.cluster now.core.opening now.core.capacity how (past_of now.core)) new
+    → xs ≡ steps ++ turns a how extent ends (suc n) (course_on now) → AreExecuted a steps now
+    → goes_on_until a.core.cluster extent ends (time a.core.cluster (past_of a.core)) (course_on now) ≡ true
+    → AreExecuted now (slot_steps now.core.cluster now.core.opening now.core.capacity how (past_of now.core)) new
     → is_opened (due_now now.core.cluster now.core.opening now.core.capacity (past_of now.core)) ≡ true
     → xs ≡ (steps ++ slot_steps now.core.cluster now.core.opening now.core.capacity how (past_of now.core)) ++ turns a how extent ends n (course_on new)
 turned a now new how extent ends n xs steps whole so_far goes made is_open =
     let one = slot_steps now.core.cluster now.core.opening now.core.capacity how (past_of now.core) in
     let same = same-slot a now how steps so_far in
     let is = ap is_opened (sym (same-due a now steps so_far)) ∙ is_open in
-    let later : course_on new ≡ after a.core.cluster a.core.opening a.core.capacity (course_on now) (slot_steps a.core.cluster a.core.opening a.core.capacity how (past_of now.core)) =
+    let later : course_on new ≡ course_after a.core.cluster a.core.opening a.core.capacity (course_on now) (slot_steps a.core.cluster a.core.opening a.core.capacity how (past_of now.core)) =
     rw (so_far.alike.0, so_far.alike.1, so_far.alike.2) at made.course in
     whole ∙ ap (λ l. steps ++ l) (turn-opened _ _ _ how _ n (course_on now) goes is)
-    ∙ ap (λ l. steps ++ (l ++ turns a how extent ends n (after a.core.cluster a.core.opening a.core.capacity (course_on now) (slot_steps a.core.cluster a.core.opening a.core.capacity how (past_of now.core))))) (sym same)
+    ∙ ap (λ l. steps ++ (l ++ turns a how extent ends n (course_after a.core.cluster a.core.opening a.core.capacity (course_on now) (slot_steps a.core.cluster a.core.opening a.core.capacity how (past_of now.core))))) (sym same)
     ∙ ap (λ l. steps ++ (one ++ turns a how extent ends n l)) (sym later)
     ∙ sym (append_assoc steps one (turns a how extent ends n (course_on new)))
 
 pub opened : (a now new : RuledData) (how : Disturbance) (extent : Extent) (ends : Course → Bool) (left n rest : ℕ) → AreBegun a how extent ends left now (suc n) (suc rest)
-    → one_more a.core.cluster extent ends (time a.core.cluster (past_of a.core)) (course_on now) ≡ true
-    → IsMade now (slot_steps now.core.cluster now.core.opening now.core.capacity how (past_of now.core)) new
+    → goes_on_until a.core.cluster extent ends (time a.core.cluster (past_of a.core)) (course_on now) ≡ true
+    → AreExecuted now (slot_steps now.core.cluster now.core.opening now.core.capacity how (past_of now.core)) new
     → is_opened (due_now now.core.cluster now.core.opening now.core.capacity (past_of now.core)) ≡ true
     → AreBegun a how extent ends left new n rest
 opened a now new how extent ends left n rest b goes made is_open =
     let one = slot_steps now.core.cluster now.core.opening now.core.capacity how (past_of now.core) in
-    let one_ends : slots_in one ≡ 1 = one-slot _ _ _ how (past_of now.core) is_open in
+    let one_ends : ended_slot_count one ≡ 1 = one-slot _ _ _ how (past_of now.core) is_open in
     record {
       steps = b.steps ++ one;
       made = made-more a now new b.steps one b.made made;
@@ -260,41 +260,41 @@ opened a now new how extent ends left n rest b goes made is_open =
 
 -- the steps of a slot that is opened, among those of a line
 slot-among : (a now : RuledData) (how : Disturbance) (extent : Extent) (ends : Course → Bool) (n : ℕ) (xs steps : List (PortId × Step))
-    → xs ≡ steps ++ turns a how extent ends (suc n) (course_on now) → IsMade a steps now
-    → one_more a.core.cluster extent ends (time a.core.cluster (past_of a.core)) (course_on now) ≡ true
+    → xs ≡ steps ++ turns a how extent ends (suc n) (course_on now) → AreExecuted a steps now
+    → goes_on_until a.core.cluster extent ends (time a.core.cluster (past_of a.core)) (course_on now) ≡ true
     → is_opened (due_now now.core.cluster now.core.opening now.core.capacity (past_of now.core)) ≡ true
     → (more : List (PortId × Step)) × (xs ≡ steps ++ (slot_steps now.core.cluster now.core.opening now.core.capacity how (past_of now.core) ++ more))
 slot-among a now how extent ends n xs steps whole so_far goes is_open =
     let one = slot_steps a.core.cluster a.core.opening a.core.capacity how (past_of now.core) in
     let is = ap is_opened (sym (same-due a now steps so_far)) ∙ is_open in
-    let more = turns a how extent ends n (after a.core.cluster a.core.opening a.core.capacity (course_on now) one) in (
+    let more = turns a how extent ends n (course_after a.core.cluster a.core.opening a.core.capacity (course_on now) one) in (
       more,
       whole ∙ ap (λ l. steps ++ l) (turn-opened _ _ _ how _ n (course_on now) goes is ∙ ap (λ l. l ++ more) (sym (same-slot a now how steps so_far))),
     )
 
 -- it could be opened, and none was left
 pub over : (a now : RuledData) (how : Disturbance) (extent : Extent) (ends : Course → Bool) (left n : ℕ) → AreBegun a how extent ends left now (suc n) 0
-    → one_more a.core.cluster extent ends (time a.core.cluster (past_of a.core)) (course_on now) ≡ true
+    → goes_on_until a.core.cluster extent ends (time a.core.cluster (past_of a.core)) (course_on now) ≡ true
     → is_opened (due_now now.core.cluster now.core.opening now.core.capacity (past_of now.core)) ≡ true
-    → IsMade a (first_on a how extent ends left) now × (left < slots_in (extent_on a how extent ends))
+    → AreExecuted a (first_on a how extent ends left) now × (left < ended_slot_count (extent_on a how extent ends))
 unfolding slots_steps
 over a now how extent ends left n b goes is_open =
     let one = slot_steps now.core.cluster now.core.opening now.core.capacity how (past_of now.core) in
     let more = slot-among a now how extent ends n _ b.steps b.whole b.made goes is_open in
-    let one_ends : slots_in one ≡ 1 = one-slot _ _ _ how (past_of now.core) is_open in
-    let all = ap slots_in more.1 ∙ slots_in-append b.steps (one ++ more.0) in
+    let one_ends : ended_slot_count one ≡ 1 = one-slot _ _ _ how (past_of now.core) is_open in
+    let all = ap ended_slot_count more.1 ∙ slots_in-append b.steps (one ++ more.0) in
     let two = slots_in-append one more.0 in
     let some : first_on a how extent ends left ≡ b.steps = b.first ∙ append-nothing b.steps in
     (rw some b.made, omega (arith, all, two, one_ends, b.count))
 
 -- it couldn't be made
-slot-fails : (fault : MakeFault) (a now : RuledData) (xs steps one more : List (PortId × Step)) → xs ≡ steps ++ (one ++ more) → IsMade a steps now
+slot-fails : (fault : MakeFault) (a now : RuledData) (xs steps one more : List (PortId × Step)) → xs ≡ steps ++ (one ++ more) → AreExecuted a steps now
     → StepsFail fault now one → StepsFail fault a xs
 slot-fails fault a now xs steps one more e made fails =
     subst (StepsFail fault a) (sym e) (fails-after fault a now steps (one ++ more) made (fails-before fault now one more fails))
 
 no-room : (a now : RuledData) (how : Disturbance) (extent : Extent) (ends : Course → Bool) (left n rest : ℕ) (t : Bool) → AreBegun a how extent ends left now (suc n) rest
-    → one_more a.core.cluster extent ends (time a.core.cluster (past_of a.core)) (course_on now) ≡ true
+    → goes_on_until a.core.cluster extent ends (time a.core.cluster (past_of a.core)) (course_on now) ≡ true
     → is_opened (due_now now.core.cluster now.core.opening now.core.capacity (past_of now.core)) ≡ t → (t ≡ true → 0 < rest)
     → NoRoom now (slot_steps now.core.cluster now.core.opening now.core.capacity how (past_of now.core)) → SlotsFail LogFull a how extent ends left
 no-room a now how extent ends left n zero true b goes is some full = absurd (let none = some refl in omega (arith, none))
@@ -306,15 +306,15 @@ no-room a now how extent ends left n (suc rest) true b goes is some full =
 no-room a now how extent ends left n rest false b goes is some full =
     let one = slot_steps now.core.cluster now.core.opening now.core.capacity how (past_of now.core) in
     let all = refused-whole a now how extent ends left n rest b goes is in
-    let none : slots_in one ≡ 0 = no-slot _ _ _ how (past_of now.core) is in (
+    let none : ended_slot_count one ≡ 0 = no-slot _ _ _ how (past_of now.core) is in (
       λ h. slot-fails LogFull a now _ b.steps one [] (all ∙ ap (λ l. b.steps ++ l) (sym (append-nothing one))) b.made full,
-      λ h. absurd (let k = ap slots_in all ∙ slots_in-append b.steps one in omega (arith, k, none, b.count, h)),
+      λ h. absurd (let k = ap ended_slot_count all ∙ slots_in-append b.steps one in omega (arith, k, none, b.count, h)),
     )
 
 -- ---- the same, as the code has it
 pub next-stops : (a now : RuledData) (how : Disturbance) (extent : Extent) (ends : Course → Bool) (left n rest t : ℕ) → AreBegun a how extent ends left now n rest
-    → t ≡ time a.core.cluster (past_of a.core) → one_more now.core.cluster extent ends t (course_on now) ≡ false
-    → IsMade a (extent_on a how extent ends) now × (slots_in (extent_on a how extent ends) + rest ≡ left)
+    → t ≡ time a.core.cluster (past_of a.core) → goes_on_until now.core.cluster extent ends t (course_on now) ≡ false
+    → AreExecuted a (extent_on a how extent ends) now × (ended_slot_count (extent_on a how extent ends) + rest ≡ left)
 next-stops a now how extent ends left n rest t b e h = stopped a now how extent ends left n rest b (same-goes a now b.steps extent ends t false b.made e h)
 
 one-left : (a now : RuledData) (how : Disturbance) (extent : Extent) (ends : Course → Bool) (left m n rest : ℕ) → AreBegun a how extent ends left now m rest → m ≡ n + 1
@@ -322,10 +322,10 @@ one-left : (a now : RuledData) (how : Disturbance) (extent : Extent) (ends : Cou
 one-left a now how extent ends left m n rest b e = subst (λ k. AreBegun a how extent ends left now k rest) (e ∙ add-one n) b
 
 pub next-refused : (a now new : RuledData) (how : Disturbance) (extent : Extent) (ends : Course → Bool) (left m n rest t : ℕ) → AreBegun a how extent ends left now m rest
-    → m ≡ n + 1 → t ≡ time a.core.cluster (past_of a.core) → one_more now.core.cluster extent ends t (course_on now) ≡ true
-    → IsMade now (slot_steps now.core.cluster now.core.opening now.core.capacity how (past_of now.core)) new
+    → m ≡ n + 1 → t ≡ time a.core.cluster (past_of a.core) → goes_on_until now.core.cluster extent ends t (course_on now) ≡ true
+    → AreExecuted now (slot_steps now.core.cluster now.core.opening now.core.capacity how (past_of now.core)) new
     → is_opened (due_now now.core.cluster now.core.opening now.core.capacity (past_of now.core)) ≡ false
-    → IsMade a (extent_on a how extent ends) new × (slots_in (extent_on a how extent ends) + rest ≡ left)
+    → AreExecuted a (extent_on a how extent ends) new × (ended_slot_count (extent_on a how extent ends) + rest ≡ left)
 next-refused a now new how extent ends left m n rest t b em e h made shut =
     refused a now new how extent ends left n rest (one-left a now how extent ends left m n rest b em) (same-goes a now b.steps extent ends t true b.made e h) made shut
 
@@ -334,8 +334,8 @@ one-more : (a now : RuledData) (how : Disturbance) (extent : Extent) (ends : Cou
 one-more a now how extent ends left n many rest b e = subst (λ k. AreBegun a how extent ends left now n k) (e ∙ add-one rest) b
 
 pub next-opened : (a now new : RuledData) (how : Disturbance) (extent : Extent) (ends : Course → Bool) (left m n many rest t : ℕ) → AreBegun a how extent ends left now m many
-    → m ≡ n + 1 → many ≡ rest + 1 → t ≡ time a.core.cluster (past_of a.core) → one_more now.core.cluster extent ends t (course_on now) ≡ true
-    → IsMade now (slot_steps now.core.cluster now.core.opening now.core.capacity how (past_of now.core)) new
+    → m ≡ n + 1 → many ≡ rest + 1 → t ≡ time a.core.cluster (past_of a.core) → goes_on_until now.core.cluster extent ends t (course_on now) ≡ true
+    → AreExecuted now (slot_steps now.core.cluster now.core.opening now.core.capacity how (past_of now.core)) new
     → is_opened (due_now now.core.cluster now.core.opening now.core.capacity (past_of now.core)) ≡ true
     → AreBegun a how extent ends left new n rest
 next-opened a now new how extent ends left m n many rest t b em er e h made is_open =
@@ -344,16 +344,16 @@ next-opened a now new how extent ends left m n many rest t b em er e h made is_o
     (same-goes a now b.steps extent ends t true b.made e h) made is_open
 
 pub next-over : (a now : RuledData) (how : Disturbance) (extent : Extent) (ends : Course → Bool) (left m n none t : ℕ) → AreBegun a how extent ends left now m none
-    → m ≡ n + 1 → none ≡ 0 → t ≡ time a.core.cluster (past_of a.core) → one_more now.core.cluster extent ends t (course_on now) ≡ true
+    → m ≡ n + 1 → none ≡ 0 → t ≡ time a.core.cluster (past_of a.core) → goes_on_until now.core.cluster extent ends t (course_on now) ≡ true
     → is_opened (due_now now.core.cluster now.core.opening now.core.capacity (past_of now.core)) ≡ true
-    → IsMade a (first_on a how extent ends left) now × (left < slots_in (extent_on a how extent ends))
+    → AreExecuted a (first_on a how extent ends left) now × (left < ended_slot_count (extent_on a how extent ends))
 next-over a now how extent ends left m n none t b em er e h is_open =
     over a now how extent ends left n
     (subst (λ r. AreBegun a how extent ends left now (suc n) r) er (one-left a now how extent ends left m n none b em))
     (same-goes a now b.steps extent ends t true b.made e h) is_open
 
 pub next-fails : (fault : MakeFault) (a now new : RuledData) (how : Disturbance) (extent : Extent) (ends : Course → Bool) (left m n rest t : ℕ) → AreBegun a how extent ends left now m rest
-    → m ≡ n + 1 → t ≡ time a.core.cluster (past_of a.core) → one_more now.core.cluster extent ends t (course_on now) ≡ true
+    → m ≡ n + 1 → t ≡ time a.core.cluster (past_of a.core) → goes_on_until now.core.cluster extent ends t (course_on now) ≡ true
     → (is_opened (due_now now.core.cluster now.core.opening now.core.capacity (past_of now.core)) ≡ true → 0 < rest)
     → StepsFail fault now (slot_steps now.core.cluster now.core.opening now.core.capacity how (past_of now.core)) × IsGrown now.core new.core
     → SlotsFail fault a how extent ends left × IsGrown a.core new.core
@@ -365,5 +365,5 @@ next-fails OutOfMemory a now new how extent ends left m n rest t b em e h some (
     (tt, grown-more a.core now.core new.core (grown-made a now b.steps b.made) grown)
 
 pub all-made : (a now : RuledData) (how : Disturbance) (extent : Extent) (ends : Course → Bool) (left n rest : ℕ) → AreBegun a how extent ends left now n rest → n ≡ 0
-    → IsMade a (extent_on a how extent ends) now × (slots_in (extent_on a how extent ends) + rest ≡ left)
+    → AreExecuted a (extent_on a how extent ends) now × (ended_slot_count (extent_on a how extent ends) + rest ≡ left)
 all-made a now how extent ends left n rest b e = ended a now how extent ends left rest (subst (λ k. AreBegun a how extent ends left now k rest) e b)

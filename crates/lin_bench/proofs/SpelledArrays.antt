@@ -13,9 +13,9 @@ use Rattle.lin_frame.specs.declared.value.Value.TheVariants.{Bytes}
 use Rattle.lin_values.specs.Coded.{signal_at, CodedData}
 use Rattle.lin_values.specs.Meaning.{meaning}
 use Rattle.lin_values.specs.Meant.{Meant, Named, Number, Physical, Digits, Letters}
-use Rattle.lin_values.specs.Raws.{array_spelled, bytes_of_digits, coded_raws, has_text, is_coded, is_value, raws_of, spelled_bytes}
+use Rattle.lin_values.specs.Raws.{array_spelled, bytes_of_digits, coded_raws, value_has_text, is_coded, is_value, raws_of, spelled_bytes}
 use Rattle.lin_values.specs.Read.{number_and_unit}
-use Rattle.lin_values.specs.Spelled.{array_of, byte_of, in_quotes, pairs}
+use Rattle.lin_values.specs.Spelled.{character_array, byte_of, in_quotes, pairs}
 use Rattle.lin_values.proofs.CodedAgain.{spelled, IsSpelled}
 use Rattle.lin_values.proofs.WaysBack.{array-fails, names}
 
@@ -64,7 +64,7 @@ digits-spell text other =
     let no : (slice_index text 0 == 34) ≡ false = grind (arith, nat_tests) in
     ap (λ b. cond b (take (length text - 2) (drop 1 text)) (bytes_of_digits text)) no
 
-array-filled : (bits : ℕ) (text ls : List ℕ) → spelled_bytes text ≡ ls → length ls ≤ bits / 8 → array_spelled bits text ≡ array_of bits ls
+array-filled : (bits : ℕ) (text ls : List ℕ) → spelled_bytes text ≡ ls → length ls ≤ bits / 8 → array_spelled bits text ≡ character_array bits ls
 array-filled bits text ls e few =
     ap (λ xs. Bytes (take (bits / 8) (xs ++ replicate (bits / 8) 0))) e
     ∙ ap Bytes (filled ls (bits / 8) (bits / 8) few (omega arith))
@@ -91,8 +91,8 @@ second-passes : (a b : Bool) → a && b ≡ true → b ≡ true
 second-passes true b e = e
 second-passes false b e = absurd (cc)
 
-by-coding : (k : CodedData) (s : ℕ) (text : List ℕ) (v : Value) (m : Meant) → names text (number_and_unit text) m ≡ false → has_text k s text v m ≡ true
-    → is_coded m && has_text k s text v m ≡ true
+by-coding : (k : CodedData) (s : ℕ) (text : List ℕ) (v : Value) (m : Meant) → names text (number_and_unit text) m ≡ false → value_has_text k s text v m ≡ true
+    → is_coded m && value_has_text k s text v m ≡ true
 by-coding k s text v (Named t) fails holds = absurd (let one : bytes_eq text t ≡ true = first-passes (bytes_eq text t) true holds in cc)
 by-coding k s text v (Number n) fails holds = absurd (let one : names text (number_and_unit text) (Number n) ≡ true = first-passes (names text (number_and_unit text) (Number n)) true holds in cc)
 by-coding k s text v (Physical z u) fails holds = absurd (let one : names text (number_and_unit text) (Physical z u) ≡ true = first-passes (names text (number_and_unit text) (Physical z u)) true holds in cc)
@@ -100,15 +100,15 @@ by-coding k s text v (Digits t) fails holds = holds
 by-coding k s text v (Letters t) fails holds = holds
 
 by-codings : (k : CodedData) (s : ℕ) (text : List ℕ) (v : Value) (o : Option Meant) → option_map_or (names text (number_and_unit text)) o false ≡ false
-    → option_map_or (has_text k s text v) o false ≡ true → option_map_or (λ m. is_coded m && has_text k s text v m) o false ≡ true
+    → option_map_or (value_has_text k s text v) o false ≡ true → option_map_or (λ m. is_coded m && value_has_text k s text v m) o false ≡ true
 by-codings k s text v None fails holds = absurd (cc)
 by-codings k s text v (Some m) fails holds = by-coding k s text v m fails holds
 
 array-coded : (k : CodedData) (s : ℕ) (text bs : List ℕ) → raws_of k s text (Bytes bs) ≡ true → coded_raws k s text (Bytes bs) ≡ true
 array-coded k s text bs e =
     let is : Bool = is_value k s (Bytes bs) in
-    let has : Bool = option_map_or (has_text k s text (Bytes bs)) (meaning k s (Bytes bs)) false in
-    both-pass is (option_map_or (λ m. is_coded m && has_text k s text (Bytes bs) m) (meaning k s (Bytes bs)) false) (first-passes is has e)
+    let has : Bool = option_map_or (value_has_text k s text (Bytes bs)) (meaning k s (Bytes bs)) false in
+    both-pass is (option_map_or (λ m. is_coded m && value_has_text k s text (Bytes bs) m) (meaning k s (Bytes bs)) false) (first-passes is has e)
     (by-codings k s text (Bytes bs) (meaning k s (Bytes bs)) (array-fails (names text (number_and_unit text)) (λ t. refl, λ t. refl) k s bs) (second-passes is has e))
 
 pub one-array : (k : CodedData) (s : ℕ) (text bs : List ℕ) → raws_of k s text (Bytes bs) ≡ true → Bytes bs ≡ array_spelled (signal_at k s).bits text
@@ -117,6 +117,6 @@ one-array k s text bs e =
     let coded : coded_raws k s text (Bytes bs) ≡ true = array-coded k s text bs e in
     let own : Bool = (signal_at k s).is_array in
     let rest : Bool = length bs == bits / 8 && (nat_le (length bs) 8 && list_all (λ b. nat_lt b 256) bs) in
-    let array : own ≡ true = first-passes own rest (first-passes (own && rest) (option_map_or (has_text k s text (Bytes bs)) (meaning k s (Bytes bs)) false) e) in
+    let array : own ≡ true = first-passes own rest (first-passes (own && rest) (option_map_or (value_has_text k s text (Bytes bs)) (meaning k s (Bytes bs)) false) e) in
     let same : Some (array_spelled bits text) ≡ Some (Bytes bs) = spelled k s text (Some (array_spelled bits text)) (subst (λ a. IsSpelled bits a text (Some (array_spelled bits text))) (sym array) (is-spelled bits text)) (Bytes bs) coded in
     cc

@@ -8,42 +8,42 @@ use Rattle.lin_parts.specs.declared.parts.Parts.{Parts}
 use Rattle.lin_core.specs.Runs.{entry_of, history}
 use Rattle.lin_core.specs.declared.port.PortId.{PortId}
 use Rattle.lin_core.specs.declared.step.Step.{Step}
-use Rattle.lin_log.specs.Language.{named, plain}
-use Rattle.lin_log.specs.Said.{is_comment, is_digit, is_gap, is_port, is_text, line_says, of_fields as step_of_fields, port_step, steps_from, text_says}
+use Rattle.lin_log.specs.Language.{named_language, plain}
+use Rattle.lin_log.specs.Said.{is_comment, is_digit, is_gap, is_port, is_not_empty, line_says, of_fields as step_of_fields, port_step, steps_from, text_says}
 use Rattle.lin_log.specs.Said as log
 use Rattle.lin_log.specs.Script.{script, without_reason}
 use Rattle.lin_log.specs.declared.reason.Reason.{Reason}
 use Rattle.lin_log.proofs.Stays.{texts-stay}
 use Rattle.lin_bench.proofs.Makes.{after-history}
-use Rattle.lin_bench.specs.Fields.{fields}
-use Rattle.lin_bench.specs.Lines.{line_form, of_fields, read_line}
+use Rattle.lin_bench.specs.Fields.{line_fields}
+use Rattle.lin_bench.specs.Lines.{line_form, line_of_fields, read_line}
 use Rattle.lin_bench.specs.Scripts.{read, read_lines, without_mark}
 use Rattle.lin_values.specs.Coded.{CodedData}
 use Rattle.lin_bench.specs.Plain.{HasNoMarks, NamedTexts, PlainScripts}
 use Rattle.lin_bench.specs.Words.{or_unmarked, read_worded_line, worded}
 use Rattle.lin_bench.proofs.Wordless.{wordless}
-use Rattle.lin_bench.specs.Made.{BenchState, course_of, made, said, stepped}
-use Rattle.lin_bench.specs.Played.{come_to, first, in_turn, judged_from, next, with_judgements}
+use Rattle.lin_bench.specs.Made.{BenchState, course_of, made, said, bench_after_steps}
+use Rattle.lin_bench.specs.Played.{come_to, initial_bench, in_turn, judged_from, next, with_judgements}
 use Rattle.lin_bench.specs.declared.got.Verdict.TheVariants.{Nothing}
 use Rattle.lin_bench.proofs.RuleLaws.{unchanged}
 use Rattle.lin_bench.specs.Rules.{no_rules}
-use Rattle.lin_bench.specs.Slots.{Course, after, past_after}
+use Rattle.lin_bench.specs.Slots.{Course, course_after, past_after}
 use Rattle.lin_bench.specs.declared.rules.Rules.{Rules}
-use Rattle.lin_bench.specs.declared.line.Line.{Line}
+use Rattle.lin_bench.specs.declared.line.ScriptLine.{ScriptLine}
 use Rattle.lin_bench.specs.declared.reason.Reason.{Reason as BenchReason}
-use Rattle.lin_bench.specs.declared.line.Line.TheVariants as line
+use Rattle.lin_bench.specs.declared.line.ScriptLine.TheVariants as line
 
 abbrev not_comment : List ℕ → Bool
 not_comment f = not (is_comment true f)
 
 -- ---- lines
-comment-first : (ps : List (List ℕ)) → take_while not_comment (filter is_text (onto_first 35 ps)) ≡ []
+comment-first : (ps : List (List ℕ)) → take_while not_comment (filter is_not_empty (onto_first 35 ps)) ≡ []
 comment-first [] = refl
 comment-first (p ∷ ps) =
-    let t : is_text (35 ∷ p) ≡ true = grind (arith, common_steps) in
-    rw t (take_while-cons not_comment (35 ∷ p) (filter is_text ps))
+    let t : is_not_empty (35 ∷ p) ≡ true = grind (arith, common_steps) in
+    rw t (take_while-cons not_comment (35 ∷ p) (filter is_not_empty ps))
 
-comment-fields : (l : List ℕ) → (slice_index l 0 == 35) ≡ true → fields l ≡ []
+comment-fields : (l : List ℕ) → (slice_index l 0 == 35) ≡ true → line_fields l ≡ []
 comment-fields [] h = refl
 comment-fields (x ∷ xs) h =
     let e : x ≡ 35 = grind (arith, common_steps) in
@@ -55,33 +55,33 @@ ported (Ok s) o e = (s, refl, cc)
 ported (Err why) o e = absurd (cc)
 
 -- a line of a bench script for a step
-abbrev said_line : Option (PortId × Step) → Result (Option Line) BenchReason
+abbrev said_line : Option (PortId × Step) → Result (Option ScriptLine) BenchReason
 said_line o = Ok (option_map (λ s. line.Step s.0 s.1) o)
 
-line-of : (c : Parts) (word : List ℕ) (fs : List (List ℕ)) (s : PortId × Step) → is_port word ≡ true → port_step (named c) word fs ≡ Ok s
-    → of_fields c (word ∷ fs) ≡ said_line (Some s)
+line-of : (c : Parts) (word : List ℕ) (fs : List (List ℕ)) (s : PortId × Step) → is_port word ≡ true → port_step (named_language c) word fs ≡ Ok s
+    → line_of_fields c (word ∷ fs) ≡ said_line (Some s)
 unfolding line_form
 line-of c word fs s i h = rw (i, h) refl
 
 fields-read : (c : Parts) (word : List ℕ) (fs : List (List ℕ)) (o : Option (PortId × Step)) (t : Bool) → is_port word ≡ t
-    → step_of_fields (named c) (word ∷ fs) ≡ Ok o → of_fields c (word ∷ fs) ≡ said_line o
+    → step_of_fields (named_language c) (word ∷ fs) ≡ Ok o → line_of_fields c (word ∷ fs) ≡ said_line o
 fields-read c word fs o true i e =
-    let k : log.◌>>=◌ (port_step (named c) word fs) (λ s. Ok (Some s)) ≡ Ok o = rw i at e in
-    let p = ported (port_step (named c) word fs) o k in
+    let k : log.◌>>=◌ (port_step (named_language c) word fs) (λ s. Ok (Some s)) ≡ Ok o = rw i at e in
+    let p = ported (port_step (named_language c) word fs) o k in
     line-of c word fs p.0 i p.1 ∙ ap said_line (sym p.2)
 fields-read c word fs o false i e = let n : Err _ ≡ Ok o = rw i at e in absurd (cc)
 
-all-read : (c : Parts) (fs : List (List ℕ)) (o : Option (PortId × Step)) → step_of_fields (named c) fs ≡ Ok o → of_fields c fs ≡ said_line o
+all-read : (c : Parts) (fs : List (List ℕ)) (o : Option (PortId × Step)) → step_of_fields (named_language c) fs ≡ Ok o → line_of_fields c fs ≡ said_line o
 all-read c [] o e = let same : None ≡ o = cc in ap said_line same
 all-read c (word ∷ fs) o e = fields-read c word fs o (is_port word) refl e
 
-nothing-read : (c : Parts) (l : List ℕ) (t : Bool) → (slice_index l 0 == 62) ≡ t → (t ≡ false → fields l ≡ []) → read_line c l ≡ said_line None
+nothing-read : (c : Parts) (l : List ℕ) (t : Bool) → (slice_index l 0 == 62) ≡ t → (t ≡ false → line_fields l ≡ []) → read_line c l ≡ said_line None
 unfolding read_line
 nothing-read c l true k e = rw k refl
 nothing-read c l false k e = let none = e refl in rw (k, none) refl
 
 line-by : (c : Parts) (l : List ℕ) (o : Option (PortId × Step)) (a b : Bool) → (slice_index l 0 == 35) ≡ a → (slice_index l 0 == 62) ≡ b
-    → line_says (named c) l ≡ Ok o → read_line c l ≡ said_line o
+    → line_says (named_language c) l ≡ Ok o → read_line c l ≡ said_line o
 unfolding line_says read_line
 line-by c l o true b h k e =
     let s : Ok None ≡ Ok o = rw h at e in
@@ -91,45 +91,45 @@ line-by c l o false true h k e =
     let s : Ok None ≡ Ok o = rw (h, k) at e in
     let same : None ≡ o = cc in
     nothing-read c l true k (λ f. absurd (cc)) ∙ ap said_line same
-line-by c l o false false h k e = rw k (all-read c (fields l) o (rw (h, k) at e))
+line-by c l o false false h k e = rw k (all-read c (line_fields l) o (rw (h, k) at e))
 
 reply-read : (c : Parts) (l : List ℕ) → (slice_index l 0 == 62) ≡ true → read_line c l ≡ Ok None
 unfolding read_line
 reply-read c l h = rw h refl
 
-pub line-read : (c : Parts) (l : List ℕ) (o : Option (PortId × Step)) → line_says (named c) l ≡ Ok o
+pub line-read : (c : Parts) (l : List ℕ) (o : Option (PortId × Step)) → line_says (named_language c) l ≡ Ok o
     → read_line c l ≡ said_line o
 line-read c l o e = line-by c l o (slice_index l 0 == 35) (slice_index l 0 == 62) refl refl e
 
 -- a line of a step says the same where what signals mean is known
 none-worded : (c : Parts) (l : List ℕ) (o : Option (PortId × Step)) (a : Bool) → HasNoMarks c → (slice_index l 0 == 62) ≡ false → (slice_index l 0 == 35) ≡ a
-    → line_says (named c) l ≡ Ok o → worded (fields l) ≡ None
+    → line_says (named_language c) l ≡ Ok o → worded (line_fields l) ≡ None
 unfolding line_says
 none-worded c l o true none k h e = ap worded (comment-fields l h) ∙ wordless c [] None none refl
-none-worded c l o false none k h e = wordless c (fields l) o none (rw (h, k) at e)
+none-worded c l o false none k h e = wordless c (line_fields l) o none (rw (h, k) at e)
 
 good-stays : (c : Parts) (k : CodedData) (fs : List (List ℕ)) (o : Option (PortId × Step)) → or_unmarked c k fs (said_line o) ≡ said_line o
 good-stays c k fs o = refl
 
 coded-by : (c : Parts) (k : CodedData) (l : List ℕ) (o : Option (PortId × Step)) (b : Bool) → HasNoMarks c → (slice_index l 0 == 62) ≡ b
-    → line_says (named c) l ≡ Ok o → read_worded_line c (Some k) l ≡ read_line c l
+    → line_says (named_language c) l ≡ Ok o → read_worded_line c (Some k) l ≡ read_line c l
 unfolding read_worded_line
 coded-by c k l o true none h e = rw h (sym (reply-read c l h))
 coded-by c k l o false none h e =
-    let n : worded (fields l) ≡ None = none-worded c l o (slice_index l 0 == 35) none h refl e in
-    rw (h, n) (ap (or_unmarked c k (fields l)) (line-read c l o e) ∙ good-stays c k (fields l) o ∙ sym (line-read c l o e))
+    let n : worded (line_fields l) ≡ None = none-worded c l o (slice_index l 0 == 35) none h refl e in
+    rw (h, n) (ap (or_unmarked c k (line_fields l)) (line-read c l o e) ∙ good-stays c k (line_fields l) o ∙ sym (line-read c l o e))
 
-pub worded-line-read : (c : Parts) (k : CodedData) (l : List ℕ) (o : Option (PortId × Step)) → HasNoMarks c → line_says (named c) l ≡ Ok o
+pub worded-line-read : (c : Parts) (k : CodedData) (l : List ℕ) (o : Option (PortId × Step)) → HasNoMarks c → line_says (named_language c) l ≡ Ok o
     → read_worded_line c (Some k) l ≡ said_line o
 worded-line-read c k l o none e = coded-by c k l o (slice_index l 0 == 62) none refl e ∙ line-read c l o e
 
 -- ... or isn't
-pub plain-line-read : (c : Parts) (l : List ℕ) (o : Option (PortId × Step)) → line_says (named c) l ≡ Ok o → read_worded_line c None l ≡ said_line o
+pub plain-line-read : (c : Parts) (l : List ℕ) (o : Option (PortId × Step)) → line_says (named_language c) l ≡ Ok o → read_worded_line c None l ≡ said_line o
 unfolding read_worded_line
 plain-line-read c l o e = line-read c l o e
 
 -- ---- lines in order, each with its number
-abbrev pub lines_of : List (ℕ × (PortId × Step)) → List (ℕ × Line)
+abbrev pub lines_of : List (ℕ × (PortId × Step)) → List (ℕ × ScriptLine)
 lines_of [] = []
 lines_of (t ∷ ts) = (t.0, line.Step t.1.0 t.1.1) ∷ lines_of ts
 
@@ -142,7 +142,7 @@ abbrev IsQuiet : Parts → Option CodedData → Type 0
 IsQuiet c None = Unit {0}
 IsQuiet c (Some k) = HasNoMarks c
 
-quiet-read : (c : Parts) (k : Option CodedData) (l : List ℕ) (o : Option (PortId × Step)) → IsQuiet c k → line_says (named c) l ≡ Ok o → read_worded_line c k l ≡ said_line o
+quiet-read : (c : Parts) (k : Option CodedData) (l : List ℕ) (o : Option (PortId × Step)) → IsQuiet c k → line_says (named_language c) l ≡ Ok o → read_worded_line c k l ≡ said_line o
 quiet-read c None l o none e = plain-line-read c l o e
 quiet-read c (Some k) l o none e = worded-line-read c k l o none e
 
@@ -152,7 +152,7 @@ record SayLines (c : Parts) (n : ℕ) (ls : List (List ℕ)) (steps : List (Port
   steps_are : steps ≡ steps_of numbered
 
 more-steps : (c : Parts) (n : ℕ) (l : List ℕ) (ls : List (List ℕ)) (o : Option (PortId × Step)) (r : log.Steps) (steps : List (PortId × Step))
-    → ((ys : List (PortId × Step)) → r ≡ Ok ys → SayLines c (n + 1) ls ys) → line_says (named c) (strip_carriage_return l) ≡ Ok o
+    → ((ys : List (PortId × Step)) → r ≡ Ok ys → SayLines c (n + 1) ls ys) → line_says (named_language c) (strip_carriage_return l) ≡ Ok o
     → log.with_said n (Ok o) r ≡ Ok steps → SayLines c n (l ∷ ls) steps
 more-steps c n l ls None r steps more h e =
     let q = more steps e in
@@ -172,24 +172,24 @@ more-steps c n l ls (Some s) (Ok ys) steps more h e =
     }
 
 lines-by : (c : Parts) (n : ℕ) (l : List ℕ) (ls : List (List ℕ)) (steps : List (PortId × Step)) (r : Result (Option (PortId × Step)) Reason)
-    → ((ys : List (PortId × Step)) → steps_from (named c) (n + 1) ls ≡ Ok ys → SayLines c (n + 1) ls ys)
-    → line_says (named c) (strip_carriage_return l) ≡ r → steps_from (named c) n (l ∷ ls) ≡ Ok steps → SayLines c n (l ∷ ls) steps
+    → ((ys : List (PortId × Step)) → steps_from (named_language c) (n + 1) ls ≡ Ok ys → SayLines c (n + 1) ls ys)
+    → line_says (named_language c) (strip_carriage_return l) ≡ r → steps_from (named_language c) n (l ∷ ls) ≡ Ok steps → SayLines c n (l ∷ ls) steps
 lines-by c n l ls steps (Err why) more h e = let no : Err _ ≡ Ok steps = rw h at e in absurd (cc)
-lines-by c n l ls steps (Ok o) more h e = more-steps c n l ls o (steps_from (named c) (n + 1) ls) steps more h (rw h at e)
+lines-by c n l ls steps (Ok o) more h e = more-steps c n l ls o (steps_from (named_language c) (n + 1) ls) steps more h (rw h at e)
 
-lines-say : (c : Parts) (n : ℕ) (ls : List (List ℕ)) (steps : List (PortId × Step)) → steps_from (named c) n ls ≡ Ok steps → SayLines c n ls steps
+lines-say : (c : Parts) (n : ℕ) (ls : List (List ℕ)) (steps : List (PortId × Step)) → steps_from (named_language c) n ls ≡ Ok steps → SayLines c n ls steps
 lines-say c n [] steps e = record { numbered = []; reading = λ k quiet. refl; steps_are = cc }
 lines-say c n (l ∷ ls) steps e =
-    lines-by c n l ls steps (line_says (named c) (strip_carriage_return l)) (λ ys k. lines-say c (n + 1) ls ys k) refl e
+    lines-by c n l ls steps (line_says (named_language c) (strip_carriage_return l)) (λ ys k. lines-say c (n + 1) ls ys k) refl e
 
 -- ---- what they come to
 one-step : (c : Parts) (o room : ℕ) (b : BenchState) (s : PortId × Step) → b.rules ≡ no_rules
-    → stepped c o room b 0 (s ∷ []) ≡ record b { past = entry_of c o room b.past s ∷ b.past }
+    → bench_after_steps c o room b 0 (s ∷ []) ≡ record b { past = entry_of c o room b.past s ∷ b.past }
 one-step c o room b s h =
     let left : b.left - 0 ≡ b.left = omega arith in
     let past = entry_of c o room b.past s ∷ b.past in
-    let is : after c o room (course_of b) (s ∷ []) ≡ record { past = past; rules = no_rules } =
-    ap (λ (r : Rules). after c o room (record { past = b.past; rules = r }) (s ∷ [])) h ∙ unchanged c o room b.past (s ∷ []) in
+    let is : course_after c o room (course_of b) (s ∷ []) ≡ record { past = past; rules = no_rules } =
+    ap (λ (r : Rules). course_after c o room (record { past = b.past; rules = r }) (s ∷ [])) h ∙ unchanged c o room b.past (s ∷ []) in
     ap (λ (k : Course). record b { past = k.past; rules = k.rules; left = b.left - 0 }) is
     ∙ ap (λ (k : ℕ). record b { past = past; rules = no_rules; left = k }) left
     ∙ ap (λ (r : Rules). record b { past = past; rules = r }) (sym h)
@@ -223,17 +223,17 @@ unjudged c o room b (t ∷ ts) =
 
 -- ---- no text that says steps begins with the mark EF BB BF
 first-word : (x : ℕ) (ps : List (List ℕ)) → (x == 35) ≡ false
-    → (w : List ℕ) × (rest : List (List ℕ)) × (take_while not_comment (filter is_text (onto_first x ps)) ≡ (x ∷ w) ∷ rest)
+    → (w : List ℕ) × (rest : List (List ℕ)) × (take_while not_comment (filter is_not_empty (onto_first x ps)) ≡ (x ∷ w) ∷ rest)
 first-word x [] h =
     ([], [], take_while-cons not_comment (x ∷ []) [] ∙ rw h refl)
 first-word x (p ∷ ps) h =
-    let t : is_text (x ∷ p) ≡ true = grind (arith, common_steps) in
-    (p, take_while not_comment (filter is_text ps), rw t (take_while-cons not_comment (x ∷ p) (filter is_text ps) ∙ rw h refl))
+    let t : is_not_empty (x ∷ p) ≡ true = grind (arith, common_steps) in
+    (p, take_while not_comment (filter is_not_empty ps), rw t (take_while-cons not_comment (x ∷ p) (filter is_not_empty ps) ∙ rw h refl))
 
-mark-fields : (xs : List ℕ) → (w : List ℕ) × (rest : List (List ℕ)) × (fields (239 ∷ xs) ≡ (239 ∷ w) ∷ rest)
+mark-fields : (xs : List ℕ) → (w : List ℕ) × (rest : List (List ℕ)) × (line_fields (239 ∷ xs) ≡ (239 ∷ w) ∷ rest)
 mark-fields xs = first-word 239 (slice_split (is_gap true) xs) refl
 
-mark-line : (c : Parts) (xs : List ℕ) (o : Option (PortId × Step)) → line_says (named c) (239 ∷ xs) ≡ Ok o → ⊥
+mark-line : (c : Parts) (xs : List ℕ) (o : Option (PortId × Step)) → line_says (named_language c) (239 ∷ xs) ≡ Ok o → ⊥
 unfolding line_says
 mark-line c xs o e =
     let f = mark-fields xs in
@@ -249,21 +249,21 @@ stripped x (y ∷ ys) true h k =
 stripped x p false h k = (p, rw h refl)
 
 marked-by : (c : Parts) (p q : List ℕ) (ps : List (List ℕ)) (steps : List (PortId × Step)) (r : Result (Option (PortId × Step)) Reason)
-    → strip_carriage_return (239 ∷ p) ≡ 239 ∷ q → line_says (named c) (239 ∷ q) ≡ r → steps_from (named c) 1 ((239 ∷ p) ∷ ps) ≡ Ok steps → ⊥
+    → strip_carriage_return (239 ∷ p) ≡ 239 ∷ q → line_says (named_language c) (239 ∷ q) ≡ r → steps_from (named_language c) 1 ((239 ∷ p) ∷ ps) ≡ Ok steps → ⊥
 marked-by c p q ps steps (Err why) s h e = let no : Err _ ≡ Ok steps = rw (s, h) at e in absurd (cc)
 marked-by c p q ps steps (Ok o) s h e = mark-line c q o h
 
-marked : (c : Parts) (p : List ℕ) (ps : List (List ℕ)) (steps : List (PortId × Step)) → steps_from (named c) 1 ((239 ∷ p) ∷ ps) ≡ Ok steps → ⊥
+marked : (c : Parts) (p : List ℕ) (ps : List (List ℕ)) (steps : List (PortId × Step)) → steps_from (named_language c) 1 ((239 ∷ p) ∷ ps) ≡ Ok steps → ⊥
 marked c p ps steps e =
     let s = stripped 239 p (slice_index (239 ∷ p) (length (239 ∷ p) - 1) == 13) refl refl in
-    marked-by c p s.0 ps steps (line_says (named c) (239 ∷ s.0)) s.1 refl e
+    marked-by c p s.0 ps steps (line_says (named_language c) (239 ∷ s.0)) s.1 refl e
 
-onto-marked : (c : Parts) (ps : List (List ℕ)) (steps : List (PortId × Step)) → steps_from (named c) 1 (onto_first 239 ps) ≡ Ok steps → ⊥
+onto-marked : (c : Parts) (ps : List (List ℕ)) (steps : List (PortId × Step)) → steps_from (named_language c) 1 (onto_first 239 ps) ≡ Ok steps → ⊥
 onto-marked c [] steps e = marked c [] [] steps e
 onto-marked c (p ∷ ps) steps e = marked c p ps steps e
 
 mark-onto : (c : Parts) (x : ℕ) (ps : List (List ℕ)) (steps : List (PortId × Step)) (t : Bool) → (x == 239) ≡ t
-    → steps_from (named c) 1 (onto_first x ps) ≡ Ok steps → (x == 239) ≡ false
+    → steps_from (named_language c) 1 (onto_first x ps) ≡ Ok steps → (x == 239) ≡ false
 mark-onto c x ps steps true h e =
     let same : x ≡ 239 = grind (arith, common_steps) in
     absurd (onto-marked c ps steps (rw same at e))
@@ -273,11 +273,11 @@ end-first : (x : ℕ) → (x == 10) ≡ true → (x == 239) ≡ false
 end-first x h = grind (arith, common_steps)
 
 mark-by : (c : Parts) (x : ℕ) (xs : List ℕ) (steps : List (PortId × Step)) (t : Bool) → (x == 10) ≡ t
-    → steps_from (named c) 1 (slice_split (λ b. b == 10) (x ∷ xs)) ≡ Ok steps → (x == 239) ≡ false
+    → steps_from (named_language c) 1 (slice_split (λ b. b == 10) (x ∷ xs)) ≡ Ok steps → (x == 239) ≡ false
 mark-by c x xs steps true h e = end-first x h
 mark-by c x xs steps false h e = mark-onto c x (slice_split (λ b. b == 10) xs) steps (x == 239) refl (rw h at e)
 
-no-mark : (c : Parts) (text : List ℕ) (steps : List (PortId × Step)) → steps_from (named c) 1 (slice_split (λ b. b == 10) text) ≡ Ok steps → without_mark text ≡ text
+no-mark : (c : Parts) (text : List ℕ) (steps : List (PortId × Step)) → steps_from (named_language c) 1 (slice_split (λ b. b == 10) text) ≡ Ok steps → without_mark text ≡ text
 no-mark c [] steps e = refl
 no-mark c (x ∷ xs) steps e = rw (mark-by c x xs steps (x == 10) refl e) refl
 
@@ -291,9 +291,9 @@ named-texts c opening capacity text steps e =
       reading = rw (no-mark c text steps e) (q.reading None tt);
       coded = λ none k. rw (no-mark c text steps e) (q.reading (Some k) none);
       steps_alone =
-          ap (λ js. with_judgements js (come_to c opening capacity (lines_of q.numbered))) (unjudged c opening capacity first q.numbered)
-          ∙ ap (with_judgements []) (turns c opening capacity first q.numbered refl)
-          ∙ ap (λ past. Ok (record { bench = record first { past = past }; judgements = [] }))
+          ap (λ js. with_judgements js (come_to c opening capacity (lines_of q.numbered))) (unjudged c opening capacity initial_bench q.numbered)
+          ∙ ap (with_judgements []) (turns c opening capacity initial_bench q.numbered refl)
+          ∙ ap (λ past. Ok (record { bench = record initial_bench { past = past }; judgements = [] }))
           (after-history c opening capacity [] (steps_of q.numbered) ∙ ap (λ ss. history c opening capacity (reverse ss)) (sym q.steps_are));
     }
 
@@ -304,4 +304,4 @@ reasonless (Err bad) steps e = absurd (cc)
 pub plain-scripts : PlainScripts
 unfolding script
 plain-scripts c opening capacity text steps e =
-    named-texts c opening capacity text steps (texts-stay (named c) text steps (reasonless (text_says plain text) steps e))
+    named-texts c opening capacity text steps (texts-stay (named_language c) text steps (reasonless (text_says plain text) steps e))

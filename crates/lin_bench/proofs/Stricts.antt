@@ -6,7 +6,7 @@ use Rattle.std.proofs.lemmas.List.{drop-take, drop_all, drop_more, get_or-take, 
 use Rattle.std.proofs.lemmas.Grind.{common_steps}
 use Rattle.lin_core.specs.declared.log.LogEntry.{LogEntry}
 use Rattle.lin_core.specs.declared.reply.Refusal.{Refusal}
-use Rattle.lin_bench.specs.Strict.{counted, first_refusal, is_never_due, not_due, refusal_in, strictly, tells_due}
+use Rattle.lin_bench.specs.Strict.{counted_entries, first_refusal, is_never_due, not_due, refusal_in, strictly, tells_due}
 use Rattle.lin_bench.specs.declared.expected.Expected.TheVariants as expected
 use Rattle.lin_bench.specs.declared.got.Got.TheVariants as got
 use Rattle.lin_bench.specs.declared.got.Judged.{Judged}
@@ -39,7 +39,7 @@ strict-none nodes is_told es node h e = rw (h, e) refl
 
 -- one was, of those that count or not
 pub strict-some : (nodes : List ℕ) (is_told : Bool) (es : List LogEntry) (refusal : Refusal) (why : Option Refusal) → first_refusal es ≡ Some refusal
-    → why ≡ first_refusal (counted is_told es) → option_map (λ (w : Refusal). Unmet expected.Done (got.Refused w)) why ≡ strictly nodes is_told es
+    → why ≡ first_refusal (counted_entries is_told es) → option_map (λ (w : Refusal). Unmet expected.Done (got.Refused w)) why ≡ strictly nodes is_told es
 strict-some nodes is_told es refusal why h e = rw (h, e) refl
 
 pub next-entry : (log : List LogEntry) (i to : ℕ) (e : LogEntry) → e ≡ slice_index_or log i e → i < to → to ≤ length log → drop i (take to log) ≡ e ∷ drop (i + 1) (take to log)

@@ -14,10 +14,10 @@ use Rattle.lin_core.specs.declared.port.PortId.{PortId}
 use Rattle.lin_core.specs.declared.step.Step.{Step}
 use Rattle.lin_core.specs.declared.step.Step.TheVariants.{Finish}
 use Rattle.lin_bench.specs.Adding.{HasFinished, damaged_in, good_in}
-use Rattle.lin_bench.specs.Carried.{IsKept, shape, shape_in}
-use Rattle.lin_bench.specs.Errors.{ended, error_told, errors_told, is_damaged_seen}
+use Rattle.lin_bench.specs.Carried.{KeepsOpenSlot, shape, shape_in}
+use Rattle.lin_bench.specs.Errors.{ended_slot, error_told, errors_told, is_damaged_seen}
 use Rattle.lin_bench.specs.declared.carried.OpenSlot.{OpenSlot}
-use Rattle.lin_bench.specs.declared.errors.Ended.{Ended}
+use Rattle.lin_bench.specs.declared.errors.EndedSlot.{EndedSlot}
 use Rattle.lin_bench.proofs.HeardLinks.{finish-done, finished-slot, good-told}
 use Rattle.lin_bench.proofs.Makes.{ends-so, length-last, newest-past}
 use Rattle.lin_bench.proofs.NotedAnswers.{finish_of}
@@ -35,7 +35,7 @@ damaged-told c o cap past by s e m = rw (finish-done c o cap past by s e m) (rw 
 
 -- what is told of the slot that was finished
 pub errors-told : (core : CoreData) (by : PortId) (past : List LogEntry) (s : Slot) → HasFinished core by past s
-    → filter_map (error_told core.cluster (past_of core) (ended core.cluster s)) core.cluster.errors
+    → filter_map (error_told core.cluster (past_of core) (ended_slot core.cluster s)) core.cluster.errors
     ≡ errors_told core.cluster (finish_of core past by) past true
 errors-told core by past s fin =
     rw (finished-slot core.cluster core.opening core.capacity past by s fin.slot fin.may, fin.newest) refl
@@ -56,14 +56,14 @@ some-is : {A : Type 0} (x y : A) → Some x ≡ Some y → x ≡ y
 some-is x y e = cc
 
 kept-shape : (core : CoreData) (by : PortId) (past : List LogEntry) (s : Slot) (kept : Option OpenSlot) → HasFinished core by past s
-    → IsKept kept (reverse (take (length core.log - 1) core.log)) → option_map shape_in kept ≡ Some (shape s)
+    → KeepsOpenSlot kept (reverse (take (length core.log - 1) core.log)) → option_map shape_in kept ≡ Some (shape s)
 kept-shape core by past s kept fin is =
     is ∙ ap (λ l. option_map shape (open_slot l)) (before-newest core (finish_of core past by) past fin.newest) ∙ ap (option_map shape) fin.slot
 
-pub ended-told : (core : CoreData) (by : PortId) (past : List LogEntry) (s : Slot) (slot : OpenSlot) (newest : LogEntry) (o : Ended) → HasFinished core by past s
-    → IsKept (Some slot) (reverse (take (length core.log - 1) core.log)) → newest ≡ get_or core.log (length core.log - 1) newest
-    → (shape_in slot ≡ shape s → good_in (events newest) ≡ good s → damaged_in (events newest) ≡ is_damaged_seen (seen_of s) → o ≡ ended core.cluster s)
-    → Some o ≡ Some (ended core.cluster s)
+pub ended-told : (core : CoreData) (by : PortId) (past : List LogEntry) (s : Slot) (slot : OpenSlot) (newest : LogEntry) (o : EndedSlot) → HasFinished core by past s
+    → KeepsOpenSlot (Some slot) (reverse (take (length core.log - 1) core.log)) → newest ≡ get_or core.log (length core.log - 1) newest
+    → (shape_in slot ≡ shape s → good_in (events newest) ≡ good s → damaged_in (events newest) ≡ is_damaged_seen (seen_of s) → o ≡ ended_slot core.cluster s)
+    → Some o ≡ Some (ended_slot core.cluster s)
 ended-told core by past s slot newest o fin kept new is =
     let e = newest-past core (finish_of core past by) newest past fin.newest new in
     let same : shape_in slot ≡ shape s = some-is (shape_in slot) (shape s) (kept-shape core by past s (Some slot) fin kept) in
@@ -72,13 +72,13 @@ ended-told core by past s slot newest o fin kept new is =
     (rw e (damaged-told core.cluster core.opening core.capacity past by s fin.slot fin.may)))
 
 pub none-ended : (core : CoreData) (by : PortId) (past : List LogEntry) (s : Slot) → HasFinished core by past s
-    → IsKept None (reverse (take (length core.log - 1) core.log)) → None ≡ Some (ended core.cluster s)
+    → KeepsOpenSlot None (reverse (take (length core.log - 1) core.log)) → None ≡ Some (ended_slot core.cluster s)
 none-ended core by past s fin kept = let no = kept-shape core by past s None fin kept in absurd (cc)
 
 -- ---- what is added
-pub writes-told : (core : CoreData) (by : PortId) (past : List LogEntry) (s : Slot) (o : Ended) (before after : List (PortId × Step)) → HasFinished core by past s
-    → Some o ≡ Some (ended core.cluster s) → after ≡ before ++ filter_map (error_told core.cluster (past_of core) o) core.cluster.errors
+pub writes-told : (core : CoreData) (by : PortId) (past : List LogEntry) (s : Slot) (o : EndedSlot) (before after : List (PortId × Step)) → HasFinished core by past s
+    → Some o ≡ Some (ended_slot core.cluster s) → after ≡ before ++ filter_map (error_told core.cluster (past_of core) o) core.cluster.errors
     → after ≡ before ++ errors_told core.cluster (finish_of core past by) past true
 writes-told core by past s o before after fin same is =
-    is ∙ ap (λ x. before ++ filter_map (error_told core.cluster (past_of core) x) core.cluster.errors) (some-is o (ended core.cluster s) same)
+    is ∙ ap (λ x. before ++ filter_map (error_told core.cluster (past_of core) x) core.cluster.errors) (some-is o (ended_slot core.cluster s) same)
     ∙ ap (λ l. before ++ l) (errors-told core by past s fin)

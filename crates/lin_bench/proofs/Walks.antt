@@ -11,9 +11,9 @@ use Rattle.lin_core.specs.History.{Slot, did, done, events, finished_slot, is_fi
 use Rattle.lin_core.specs.declared.event.Event.{Event}
 use Rattle.lin_core.specs.declared.log.LogEntry.{LogEntry}
 use Rattle.lin_core.specs.declared.step.Step.{Step}
-use Rattle.lin_bench.specs.Arrivals.{delay_told, since, whole}
+use Rattle.lin_bench.specs.Arrivals.{delay_told, time_since, whole}
 use Rattle.lin_bench.specs.declared.arrivals.Walk.{Walk}
-use Rattle.lin_bench.specs.Verdicts.{all_events, is_of, last_time, times_taken}
+use Rattle.lin_bench.specs.Verdicts.{all_events, is_of_kind, last_time, times_taken}
 use Rattle.lin_bench.specs.declared.taken.EventKind.{EventKind}
 use Rattle.lin_bench.proofs.Events.{events-of-log}
 use Rattle.lin_bench.proofs.Makes.{append-nothing}
@@ -25,7 +25,7 @@ one-event (x ∷ es) e s = one-event es e (slot_after_event x s)
 
 -- how long the answers of an entry took
 abbrev pub times-of : Parts → (Event → Bool) → EventKind → List LogEntry → LogEntry → List ℕ
-times-of c request answer past e = map (λ event. time c (e ∷ past) - last_time c request past) (filter (is_of answer) (events e))
+times-of c request answer past e = map (λ event. time c (e ∷ past) - last_time c request past) (filter (is_of_kind answer) (events e))
 
 -- how long answers took of entries after a history, the oldest first
 abbrev pub times-after : Parts → (Event → Bool) → EventKind → List LogEntry → List LogEntry → List ℕ
@@ -51,20 +51,20 @@ split-at c request answer es i =
 
 -- there are as many as answers
 as-many : (c : Parts) (request : Event → Bool) (answer : EventKind) (past : List LogEntry)
-    → length (times_taken c request answer past) ≡ count_by (is_of answer) (all_events past)
+    → length (times_taken c request answer past) ≡ count_by (is_of_kind answer) (all_events past)
 as-many c request answer [] = refl
 as-many c request answer (e ∷ past) =
-    let kept = filter (is_of answer) (events e) in
-    let here : length (times-of c request answer past e) ≡ count_by (is_of answer) (events e) =
-    length-map kept (λ event. time c (e ∷ past) - last_time c request past) ∙ length-filter (is_of answer) (events e) in
+    let kept = filter (is_of_kind answer) (events e) in
+    let here : length (times-of c request answer past e) ≡ count_by (is_of_kind answer) (events e) =
+    length-map kept (λ event. time c (e ∷ past) - last_time c request past) ∙ length-filter (is_of_kind answer) (events e) in
     length-append (times_taken c request answer past) (times-of c request answer past e)
     ∙ ap (λ n. n + length (times-of c request answer past e)) (as-many c request answer past)
-    ∙ ap (λ n. count_by (is_of answer) (all_events past) + n) here
-    ∙ sym (sum_by-append (λ x. cond (is_of answer x) 1 0) (all_events past) (events e))
+    ∙ ap (λ n. count_by (is_of_kind answer) (all_events past) + n) here
+    ∙ sym (sum_by-append (λ x. cond (is_of_kind answer x) 1 0) (all_events past) (events e))
 
 as-many-in : (c : Parts) (request : Event → Bool) (answer : EventKind) (es : List LogEntry)
-    → length (times_taken c request answer (reverse es)) ≡ count_by (is_of answer) (flat_map events es)
-as-many-in c request answer es = as-many c request answer (reverse es) ∙ ap (count_by (is_of answer)) (events-of-log es)
+    → length (times_taken c request answer (reverse es)) ≡ count_by (is_of_kind answer) (flat_map events es)
+as-many-in c request answer es = as-many c request answer (reverse es) ∙ ap (count_by (is_of_kind answer)) (events-of-log es)
 
 after-others : (xs ys : List ℕ) (k : ℕ) → slice_index (xs ++ ys) (length xs + k) ≡ slice_index ys k
 after-others [] ys k = ap (slice_index ys) (zero-add k)
@@ -84,26 +84,26 @@ all-alike (e ∷ es) v rest (suc k) x h = all-alike es v rest k x h
 
 -- how long the answer took that an entry tells of, after so many others
 pub found-time : (c : Parts) (request : Event → Bool) (answer : EventKind) (es : List LogEntry) (i : ℕ) (e : LogEntry) (told : List Event) (k : ℕ) (x : Event) → i < length es
-    → e ≡ get_or es i e → told ≡ events e → slice_get (filter (is_of answer) told) k ≡ Some x
-    → slice_index (times_taken c request answer (reverse es)) (count_by (is_of answer) (flat_map events (take i es)) + k)
+    → e ≡ get_or es i e → told ≡ events e → slice_get (filter (is_of_kind answer) told) k ≡ Some x
+    → slice_index (times_taken c request answer (reverse es)) (count_by (is_of_kind answer) (flat_map events (take i es)) + k)
     ≡ time c (e ∷ reverse (take i es)) - last_time c request (reverse (take i es))
 found-time c request answer es i e told k x h is same found =
     let past = reverse (take i es) in
     let rest = drop (suc i) es in
     let v = time c (e ∷ past) - last_time c request past in
     let here : drop i es ≡ e ∷ rest = drop-cons es i e h ∙ ap (λ x. x ∷ rest) (sym is) in
-    ap (λ l. slice_index l (count_by (is_of answer) (flat_map events (take i es)) + k)) (split-at c request answer es i)
+    ap (λ l. slice_index l (count_by (is_of_kind answer) (flat_map events (take i es)) + k)) (split-at c request answer es i)
     ∙ ap (λ n. slice_index (times_taken c request answer past ++ times-after c request answer past (drop i es)) (n + k)) (sym (as-many-in c request answer (take i es)))
     ∙ after-others (times_taken c request answer past) (times-after c request answer past (drop i es)) k
     ∙ ap (λ l. slice_index (times-after c request answer past l) k) here
-    ∙ all-alike (filter (is_of answer) (events e)) v (times-after c request answer (e ∷ past) rest) k x (rw same at found)
+    ∙ all-alike (filter (is_of_kind answer) (events e)) v (times-after c request answer (e ∷ past) rest) k x (rw same at found)
 
 -- where no answer is left there is no time
 pub no-time : (c : Parts) (request : Event → Bool) (answer : EventKind) (es : List LogEntry) (i k : ℕ) → length es ≤ i
-    → slice_index (times_taken c request answer (reverse es)) (count_by (is_of answer) (flat_map events (take i es)) + k) ≡ 0
+    → slice_index (times_taken c request answer (reverse es)) (count_by (is_of_kind answer) (flat_map events (take i es)) + k) ≡ 0
 no-time c request answer es i k h =
-    ap (λ l. slice_index (times_taken c request answer (reverse es)) (count_by (is_of answer) (flat_map events l) + k)) (take_all i es h)
-    ∙ beyond (times_taken c request answer (reverse es)) (count_by (is_of answer) (flat_map events es) + k) (omega (arith, as-many-in c request answer es))
+    ap (λ l. slice_index (times_taken c request answer (reverse es)) (count_by (is_of_kind answer) (flat_map events l) + k)) (take_all i es h)
+    ∙ beyond (times_taken c request answer (reverse es)) (count_by (is_of_kind answer) (flat_map events es) + k) (omega (arith, as-many-in c request answer es))
 
 pub or-else : (a b : Option (ℕ × ℕ)) (d : ℕ × ℕ) → unwrap_or a (unwrap_or b d) ≡ unwrap_or (option_or a b) d
 or-else (Some x) b d = refl
@@ -138,7 +138,7 @@ not-done past (Some step) h = rw h refl
 
 -- a finish adds its slot to it
 pub since-finish : (c : Parts) (request : Event → Bool) (past : List LogEntry) (e : LogEntry) → did is_finish e ≡ true → list_any request (events e) ≡ false
-    → delay_told c None (open_slot past) + since c request past ≡ since c request (e ∷ past)
+    → delay_told c None (open_slot past) + time_since c request past ≡ time_since c request (e ∷ past)
 since-finish c request past e fin none =
     let grows = slot-time c past e ∙ ap (λ o. time c past + delay_told c None o) (by-done past (done e) fin) in
     let last = last-time c request past in
@@ -162,7 +162,7 @@ over-by t l s false true h = omega arith
 over-by t l s f false h = absurd (cc)
 
 pub over : (c : Parts) (request : Event → Bool) (w : Walk) (past : List LogEntry) → (w.asked && not w.finishes) ≡ true → whole c request w past ≡ w.time
-over c request w past h = over-by w.time (delay_told c w.told (open_slot past)) (since c request past) w.finishes w.asked h
+over c request w past h = over-by w.time (delay_told c w.told (open_slot past)) (time_since c request past) w.finishes w.asked h
 
 first-by : (t : ℕ) (f a : Bool) → t + (cond f 0 0 + cond a 0 0) ≡ t
 first-by t true true = omega arith

@@ -7,7 +7,7 @@ use Rattle.std.proofs.lemmas.Int.{ints, to_z-of_z}
 use Rattle.lin_values.specs.Coded.{CodedData}
 use Rattle.lin_frame.specs.declared.value.Value.{Value}
 use Rattle.lin_bench.specs.Fields.{◌>>=◌}
-use Rattle.lin_bench.specs.Words.{around, between, decimal_field, decimal_fields, some_values}
+use Rattle.lin_bench.specs.Words.{around, values_between, decimal_field, decimal_fields, some_values}
 use Rattle.lin_bench.specs.declared.reason.Reason.{Reason}
 
 -- ---- values, if there are some
@@ -48,14 +48,14 @@ abbrev cast : ℤ → ℤ
 cast z = to_z w128 (of_z w128 z)
 
 around-by : (k : CodedData) (s : ℕ) (field text f : List ℕ) (fs : List (List ℕ)) (z : ℤ) (t : ℤ × List ℕ) → decimal_field f ≡ Ok z → decimal_fields fs ≡ Ok t
-    → around k s field text f fs ≡ between k s field text (z -ℤ t.0) (z +ℤ t.0) t.1
+    → around k s field text f fs ≡ values_between k s field text (z -ℤ t.0) (z +ℤ t.0) t.1
 around-by k s field text f fs z t e g =
-    ap (λ (r : Result ℤ Reason). r >>= (λ y. decimal_fields fs >>= (λ u. between k s field text (y -ℤ u.0) (y +ℤ u.0) u.1))) e
-    ∙ ap (λ (r : Result (ℤ × List ℕ) Reason). r >>= (λ u. between k s field text (z -ℤ u.0) (z +ℤ u.0) u.1)) g
+    ap (λ (r : Result ℤ Reason). r >>= (λ y. decimal_fields fs >>= (λ u. values_between k s field text (y -ℤ u.0) (y +ℤ u.0) u.1))) e
+    ∙ ap (λ (r : Result (ℤ × List ℕ) Reason). r >>= (λ u. values_between k s field text (z -ℤ u.0) (z +ℤ u.0) u.1)) g
 
 pub around-is : (k : CodedData) (s : ℕ) (field text f : List ℕ) (fs : List (List ℕ)) (z t : ℤ) (unit : List ℕ) → IsSmall z → IsSmall t
     → decimal_field f ≡ Ok z → decimal_fields fs ≡ Ok (t, unit)
-    → between k s field text (cast (cast z -ℤ cast t)) (cast (cast z +ℤ cast t)) unit ≡ around k s field text f fs
+    → values_between k s field text (cast (cast z -ℤ cast t)) (cast (cast z +ℤ cast t)) unit ≡ around k s field text f fs
 around-is k s field text f fs z t unit h g e d =
     let zs : unsigned_abs z < 10 ^ 34 = omega arith in
     let ts : unsigned_abs t < 10 ^ 34 = omega arith in
@@ -63,6 +63,6 @@ around-is k s field text f fs z t unit h g e d =
     ap (λ x. cast (x -ℤ cast t)) (kept z zs) ∙ ap (λ x. cast (z -ℤ x)) (kept t ts) ∙ kept (z -ℤ t) (small-difference z t h g) in
     let high : cast (cast z +ℤ cast t) ≡ z +ℤ t =
     ap (λ x. cast (x +ℤ cast t)) (kept z zs) ∙ ap (λ x. cast (z +ℤ x)) (kept t ts) ∙ kept (z +ℤ t) (small-sum z t h g) in
-    ap (λ x. between k s field text x (cast (cast z +ℤ cast t)) unit) low
-    ∙ ap (λ x. between k s field text (z -ℤ t) x unit) high
+    ap (λ x. values_between k s field text x (cast (cast z +ℤ cast t)) unit) low
+    ∙ ap (λ x. values_between k s field text (z -ℤ t) x unit) high
     ∙ sym (around-by k s field text f fs z (t, unit) e d)

@@ -48,12 +48,12 @@ is_given_up c past ms l =
     is_some (begun_on c past l.node l.dir)
     && nat_le (1000 * ms) (time c past - last_good c past l)
 
-abbrev pub timeout_of : Link → PortId × Step
-timeout_of l = (Bus, Timeout l.node l.dir)
+abbrev pub timeout_step : Link → PortId × Step
+timeout_step l = (Bus, Timeout l.node l.dir)
 
 abbrev pub timeouts : Parts → List LogEntry → Option ℕ → List (PortId × Step)
 timeouts c past None = []
-timeouts c past (Some ms) = map timeout_of (filter (is_given_up c past ms) (links_in_turn c))
+timeouts c past (Some ms) = map timeout_step (filter (is_given_up c past ms) (links_in_turn c))
 
 -- ---- answers (what goes to all isn't answered)
 abbrev pub went_to_all : Slot → Bool
@@ -79,13 +79,13 @@ times_until r time = (time - r.began) / (1000 * r.every.period_ms)
 abbrev pub has_time : ℕ → ℕ → Repeated → Bool
 has_time from to r = nat_lt (times_until r from) (times_until r to)
 
-abbrev pub step_of : Repeated → PortId × Step
-step_of r = (r.every.by, r.every.step)
+abbrev pub step_to_repeat : Repeated → PortId × Step
+step_to_repeat r = (r.every.by, r.every.step)
 
 -- what has a time that isn't after a finish, and is after the one before it
-abbrev pub repeated : Parts → LogEntry → List LogEntry → Rules → List (PortId × Step)
-repeated c e past rules =
-    map step_of (filter (has_time (time c past) (time c (e ∷ past))) rules.everies)
+abbrev pub repeated_steps : Parts → LogEntry → List LogEntry → Rules → List (PortId × Step)
+repeated_steps c e past rules =
+    map step_to_repeat (filter (has_time (time c past) (time c (e ∷ past))) rules.everies)
 
 -- ---- the steps after a finish, in their order: what takes too long, the errors that are told, the
 -- answers whose time has come, and what is repeated
@@ -94,11 +94,11 @@ added_after c e past rules =
     timeouts c (e ∷ past) rules.limit_ms
     ++ (errors_told c e past rules.errors
     ++ (map send_of (sent_at (time c (e ∷ past)) (noted_by c e past rules))
-    ++ repeated c e past rules))
+    ++ repeated_steps c e past rules))
 
 -- and after any other entry none
-abbrev pub added : Parts → LogEntry → List LogEntry → Rules → List (PortId × Step)
-added c e past rules =
+abbrev pub added_steps : Parts → LogEntry → List LogEntry → Rules → List (PortId × Step)
+added_steps c e past rules =
     if is_some (finished_slot e past) then added_after c e past rules else []
 
 -- the answers that are still to come after an entry; those that are sent are noted no longer,

@@ -3,7 +3,7 @@ use Rattle.std.specs.Prelude.{◌≡◌, Bool, true, false, ℕ, ◌<◌, ◌-�
 use Rattle.std.specs.Prelude.{if◌then◌else◌, slice_index, Some, None, Result, Ok, Err}
 use Rattle.lin_parts.specs.Cluster.{nodes}
 use Rattle.lin_parts.specs.declared.parts.Parts.{Parts}
-use Rattle.lin_core.specs.Core.{CoreData, IsAlike, answered, past_of}
+use Rattle.lin_core.specs.Core.{CoreData, IsAlike, entry_with_reply, past_of}
 use Rattle.lin_core.specs.History.{Slot, good_bytes, open_slot}
 use Rattle.lin_core.specs.Replies.{link_at, may}
 use Rattle.lin_core.specs.Runs.{entry_of}
@@ -53,15 +53,15 @@ damaged_in es = false
 
 -- of each node's link one way it is kept when its last good frame ended, which that of a slot may be
 -- that ended now
-abbrev pub IsHeard : Parts → ℕ → Slot → Direction → List ℕ → List ℕ → Type 0
-IsHeard c now s dir old new =
+abbrev pub AreHeardTimes : Parts → ℕ → Slot → Direction → List ℕ → List ℕ → Type 0
+AreHeardTimes c now s dir old new =
     (n : ℕ) → n < nodes c
     → slice_index new n
     ≡ (if is_good_on c (link_at n dir) s then now else slice_index old n)
 
 -- a finish was made on a core where this slot was open
 pub record IsAfterFinish (old : CoreData) (by : PortId) (s : Slot) (new : CoreData) : Type 0 where
-  pub log : new.log ≡ old.log ++ answered old by Finish ∷ []
+  pub log : new.log ≡ old.log ++ entry_with_reply old by Finish ∷ []
   pub alike : IsAlike old new
   pub slot : open_slot (past_of old) ≡ Some s
 
@@ -73,14 +73,14 @@ pub record HasFinished (core : CoreData) (by : PortId) (past : List LogEntry) (s
   pub may : may by Finish ≡ true
 
 -- what making a step answers to which no rule adds
-abbrev pub IsFull : MakeFault → CoreData → Type 0
-IsFull LogFull core = length core.log ≡ 2 ^ 32 - 1
-IsFull OutOfMemory core = Unit {0}
+abbrev pub IsStepFault : MakeFault → CoreData → Type 0
+IsStepFault LogFull core = length core.log ≡ 2 ^ 32 - 1
+IsStepFault OutOfMemory core = Unit {0}
 
 abbrev pub MakesOne : {X : Type 0} → CoreData → PortId → Step → Result X MakeFault → CoreData
     → Type 0
-MakesOne old by step (Ok x) new = (new.log ≡ old.log ++ answered old by step ∷ []) × IsAlike old new
-MakesOne old by step (Err fault) new = IsFull fault old × (new.log ≡ old.log) × IsAlike old new
+MakesOne old by step (Ok x) new = (new.log ≡ old.log ++ entry_with_reply old by step ∷ []) × IsAlike old new
+MakesOne old by step (Err fault) new = IsStepFault fault old × (new.log ≡ old.log) × IsAlike old new
 
 -- what making the steps that rules add answers: no rule adds to them
 abbrev pub AddedFail : MakeFault → CoreData → List (PortId × Step) → Type 0
@@ -100,12 +100,12 @@ MakesAdded old steps (Ok x) new = AreAdded old steps new
 MakesAdded old steps (Err fault) new = AddedFail fault old steps × IsGrown old new
 
 -- what is added after a finish was made, and the answers that are noted are those that are left
-abbrev pub Adds : {X : Type 0} → RuledData → LogEntry → List LogEntry → Result X MakeFault
+abbrev pub AddsAfterFinish : {X : Type 0} → RuledData → LogEntry → List LogEntry → Result X MakeFault
     → RuledData
     → Type 0
-Adds old e past (Ok x) new =
+AddsAfterFinish old e past (Ok x) new =
     AreAdded old.core (added_after old.core.cluster e past old.rules) new.core
     × (new.rules ≡ rules_after old.core.cluster e past old.rules)
-Adds old e past (Err fault) new =
+AddsAfterFinish old e past (Err fault) new =
     AddedFail fault old.core (added_after old.core.cluster e past old.rules)
     × IsGrown old.core new.core

@@ -1,11 +1,11 @@
 -- What contracts see of a bench, and what making a line on it answers.
 use Rattle.std.specs.Prelude.{◌≡◌, Bool, false, true, None, option_map, ℕ, ◌-◌, ◌<◌, ◌^◌, List, [], length, Option, Result, Ok, Err}
 use Rattle.lin_core.specs.Core.{CoreData, IsAlike, past_of}
-use Rattle.lin_bench.specs.Made.{BenchState, judged, made, made_within}
+use Rattle.lin_bench.specs.Made.{BenchState, bench_with_verdict, made, made_within}
 use Rattle.lin_bench.specs.Making.{IsGrown, RuledData, ends_at, extent_on, first_on}
 use Rattle.lin_bench.specs.Rules.{no_rules}
-use Rattle.lin_bench.specs.Searches.{IsKnown, taken_by}
-use Rattle.lin_bench.specs.Slots.{Course, slot_limit, slots_in}
+use Rattle.lin_bench.specs.Searches.{IsSearchState, taken_by}
+use Rattle.lin_bench.specs.Slots.{Course, slot_limit, ended_slot_count}
 use Rattle.lin_bench.specs.Verdicts.{all_taken}
 use Rattle.lin_bench.specs.declared.bench.Bench.TheInside.{Inside}
 use Rattle.lin_bench.specs.declared.expected.Expected.{Expected}
@@ -16,7 +16,7 @@ use Rattle.lin_bench.specs.declared.bench.Early.{Early}
 use Rattle.lin_bench.specs.declared.bench.Early.TheVariants.{Never, Until, While}
 use Rattle.lin_bench.specs.declared.line.Disturbance.{Disturbance}
 use Rattle.lin_bench.specs.declared.line.Extent.{Extent}
-use Rattle.lin_bench.specs.declared.line.Line.{Line}
+use Rattle.lin_bench.specs.declared.line.ScriptLine.{ScriptLine}
 use Rattle.lin_bench.specs.declared.rules.Rules.{Rules}
 use Rattle.lin_bench.specs.declared.taken.EventKind.{EventKind}
 
@@ -35,14 +35,14 @@ bench_data a = record {
 }
 
 abbrev pub AreKnown : Inside → Type 0
-AreKnown a = IsKnown a.ruled.core.log a.taken
+AreKnown a = IsSearchState a.ruled.core.log a.taken
 
 -- a bench on which no line was made
-abbrev pub fresh : CoreData → BenchData
-fresh core = record { core = core; rules = no_rules; taken = []; left = slot_limit }
+abbrev pub new_bench : CoreData → BenchData
+new_bench core = record { core = core; rules = no_rules; taken = []; left = slot_limit }
 
-abbrev pub renewed : BenchData → BenchData
-renewed b = record b { left = slot_limit }
+abbrev pub with_all_slots : BenchData → BenchData
+with_all_slots b = record b { left = slot_limit }
 
 -- a bench of which all events so far are taken
 abbrev pub forgotten : BenchData → BenchData
@@ -56,7 +56,7 @@ abbrev pub ruled_of : BenchData → RuledData
 ruled_of b = record { core = b.core; rules = b.rules }
 
 -- a line on a bench
-abbrev pub made_on : BenchData → Line → BenchState × Verdict
+abbrev pub made_on : BenchData → ScriptLine → BenchState × Verdict
 made_on b line = made b.core.cluster b.core.opening b.core.capacity (state_of b) line
 
 -- how slots end early by what is expected after them
@@ -70,7 +70,7 @@ abbrev pub made_slots : BenchData → Disturbance → Extent → (Course → Boo
     → BenchState × Verdict
 made_slots b how extent ends what =
     made_within b.core.cluster b.core.opening b.core.capacity (state_of b)
-    (slots_in (extent_on (ruled_of b) how extent ends)) (extent_on (ruled_of b) how extent ends)
+    (ended_slot_count (extent_on (ruled_of b) how extent ends)) (extent_on (ruled_of b) how extent ends)
     (first_on (ruled_of b) how extent ends b.left) what
 
 -- likewise, where they may end early by that
@@ -82,22 +82,22 @@ made_early b how extent early what =
     what
 
 -- the log would have more entries than it takes
-abbrev pub Fails : MakeFault → BenchState → Type 0
-Fails LogFull b = 2 ^ 32 - 1 < length b.past
-Fails OutOfMemory b = Unit {0}
+abbrev pub MakeFails : MakeFault → BenchState → Type 0
+MakeFails LogFull b = 2 ^ 32 - 1 < length b.past
+MakeFails OutOfMemory b = Unit {0}
 
 -- the bench and the verdict are these; or there is no room or no memory for them
-abbrev pub Makes : BenchState × Verdict → BenchData → Result Verdict MakeFault → BenchData → Type 0
-Makes all old (Ok verdict) new = ((state_of new, verdict) ≡ all) × IsAlike old.core new.core
-Makes all old (Err fault) new = Fails fault all.0 × IsGrown old.core new.core
+abbrev pub MakesBench : BenchState × Verdict → BenchData → Result Verdict MakeFault → BenchData → Type 0
+MakesBench all old (Ok verdict) new = ((state_of new, verdict) ≡ all) × IsAlike old.core new.core
+MakesBench all old (Err fault) new = MakeFails fault all.0 × IsGrown old.core new.core
 
-abbrev pub MakesLine : BenchData → Line → Result Verdict MakeFault → BenchData → Type 0
-MakesLine old line result new = Makes (made_on old line) old result new
+abbrev pub MakesLine : BenchData → ScriptLine → Result Verdict MakeFault → BenchData → Type 0
+MakesLine old line result new = MakesBench (made_on old line) old result new
 
 -- what judging answers
-abbrev pub Judges : BenchData → Option Expected → Result Verdict MakeFault → BenchData → Type 0
-Judges old what (Ok verdict) new =
-    ((state_of new, verdict) ≡ judged old.core.cluster old.core.opening (state_of old) what)
+abbrev pub GivesVerdict : BenchData → Option Expected → Result Verdict MakeFault → BenchData → Type 0
+GivesVerdict old what (Ok verdict) new =
+    ((state_of new, verdict) ≡ bench_with_verdict old.core.cluster old.core.opening (state_of old) what)
     × (new.core ≡ old.core)
-Judges old what (Err LogFull) new = ⊥
-Judges old what (Err OutOfMemory) new = new.core ≡ old.core
+GivesVerdict old what (Err LogFull) new = ⊥
+GivesVerdict old what (Err OutOfMemory) new = new.core ≡ old.core

@@ -32,12 +32,12 @@ shape_in s = record {
 }
 
 -- the slot is kept that is open after this history
-abbrev pub IsKept : Option OpenSlot → List LogEntry → Type 0
-IsKept kept past = option_map shape_in kept ≡ option_map shape (open_slot past)
+abbrev pub KeepsOpenSlot : Option OpenSlot → List LogEntry → Type 0
+KeepsOpenSlot kept past = option_map shape_in kept ≡ option_map shape (open_slot past)
 
-abbrev pub is_open : Step → Bool
-is_open Open = true
-is_open step = false
+abbrev pub is_open_step : Step → Bool
+is_open_step Open = true
+is_open_step step = false
 
 -- the slot that ended last was open after so many entries
 abbrev pub EndsAt : List LogEntry → Option ℕ → Type 0

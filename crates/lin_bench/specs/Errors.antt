@@ -19,7 +19,7 @@ use Rattle.lin_core.specs.declared.port.PortId.{PortId}
 use Rattle.lin_core.specs.declared.port.PortId.TheVariants.{Host}
 use Rattle.lin_core.specs.declared.step.Step.{Step}
 use Rattle.lin_core.specs.declared.step.Step.TheVariants.{Write}
-use Rattle.lin_bench.specs.declared.errors.Ended.{Ended}
+use Rattle.lin_bench.specs.declared.errors.EndedSlot.{EndedSlot}
 
 abbrev pub is_damaged_seen : Seen → Bool
 is_damaged_seen Damaged = true
@@ -27,8 +27,8 @@ is_damaged_seen how = false
 
 -- what decides of a slot: an error in its response, but not in an answer to an event-triggered
 -- header; that it was seen good; and whom it concerns
-abbrev pub ended : Parts → Slot → Ended
-ended c s = record {
+abbrev pub ended_slot : Parts → Slot → EndedSlot
+ended_slot c s = record {
   has_error =
       is_damaged_seen (seen_of s) && not (is_event (line_of c s.table s.entry).entry);
   is_good = is_some (good s);
@@ -39,42 +39,42 @@ ended c s = record {
 
 -- whether a response concerns the node, which transmits or receives it: that of a request slot each
 -- responder with an address, that of a response slot the node that answered
-abbrev pub concerns : Parts → Ended → ErrorSignal → Bool
+abbrev pub concerns : Parts → EndedSlot → ErrorSignal → Bool
 concerns c o r =
     if header_is 0x3C o.header then is_some (nad c r.node)
     else if header_is 0x7D o.header then is_in o.nodes r.node
     else option_map_or (is_in r.frames) o.frame false
 
-abbrev pub is_number : ℕ → Value → Bool
-is_number n (Scalar v) = v == n
-is_number n (Bytes b) = false
+abbrev pub equals_scalar : ℕ → Value → Bool
+equals_scalar n (Scalar v) = v == n
+equals_scalar n (Bytes b) = false
 
 -- the frame with the signal was sent, and told others an error
-abbrev pub is_told : Parts → List LogEntry → Ended → ErrorSignal → Bool
-is_told c now o r =
+abbrev pub reports_error : Parts → List LogEntry → EndedSlot → ErrorSignal → Bool
+reports_error c now o r =
     o.is_good && option_map_or (has_signal c r.signal) o.frame false
-    && not (is_number 0 (heard_value c now r.signal))
+    && not (equals_scalar 0 (heard_value c now r.signal))
 
 -- a number, where the signal isn't that already
 abbrev pub set_to : ℕ → Value → Option ℕ
-set_to n v = if is_number n v then None else Some n
+set_to n v = if equals_scalar n v then None else Some n
 
 -- what the signal is set to after a slot: 1 by an error, and 0 when that was told
-abbrev pub set_after : Parts → List LogEntry → Ended → ErrorSignal → Option ℕ
+abbrev pub set_after : Parts → List LogEntry → EndedSlot → ErrorSignal → Option ℕ
 set_after c now o r =
     if o.has_error && concerns c o r then set_to 1 (value c now r.signal)
-    else if is_told c now o r then set_to 0 (value c now r.signal)
+    else if reports_error c now o r then set_to 0 (value c now r.signal)
     else None
 
-abbrev pub write_of : ErrorSignal → ℕ → PortId × Step
-write_of r n = (Host r.node, Write r.node r.signal (Scalar n))
+abbrev pub error_write : ErrorSignal → ℕ → PortId × Step
+error_write r n = (Host r.node, Write r.node r.signal (Scalar n))
 
-abbrev pub error_told : Parts → List LogEntry → Ended → ErrorSignal → Option (PortId × Step)
-error_told c now o r = option_map (write_of r) (set_after c now o r)
+abbrev pub error_told : Parts → List LogEntry → EndedSlot → ErrorSignal → Option (PortId × Step)
+error_told c now o r = option_map (error_write r) (set_after c now o r)
 
 -- the steps after a finish, by rising responder
 abbrev pub errors_told : Parts → LogEntry → List LogEntry → Bool → List (PortId × Step)
 errors_told c e past false = []
 errors_told c e past true =
     option_map_or
-    (λ s. filter_map (error_told c (e ∷ past) (ended c s)) c.errors) (finished_slot e past) []
+    (λ s. filter_map (error_told c (e ∷ past) (ended_slot c s)) c.errors) (finished_slot e past) []

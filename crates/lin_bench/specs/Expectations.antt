@@ -4,12 +4,12 @@ use Rattle.std.specs.Prelude.{Result, Ok, Err, codes, length, nat_lt, option_map
 use Rattle.std.specs.Str.{bytes_eq}
 use Rattle.lin_parts.specs.Cluster.{frame_of, table_of}
 use Rattle.lin_parts.specs.declared.parts.Parts.{Parts}
-use Rattle.lin_core.specs.Tables.{cause_word, causes, look_word, looks, named, numbered}
+use Rattle.lin_core.specs.Tables.{cause_word, causes, look_word, looks, first_with_word, first_with_number}
 use Rattle.lin_core.specs.Tables.{refusal_number, refusal_word, refusals}
 use Rattle.lin_core.specs.declared.reply.Refusal.{Refusal}
 use Rattle.lin_log.specs.Said.{is_number}
 use Rattle.lin_bench.specs.Fields.{◌>>=◌, count_field, frame_field, host_field}
-use Rattle.lin_bench.specs.Fields.{number_field, or_bad, pair_fields, present_node, present_table}
+use Rattle.lin_bench.specs.Fields.{number_up_to, or_bad, pair_fields, present_node, present_table}
 use Rattle.lin_bench.specs.Fields.{range_ends, range_field, rows_and_time, signal_fields}
 use Rattle.lin_bench.specs.Fields.{value_field}
 use Rattle.lin_bench.specs.RuleLines.{pattern_fields}
@@ -29,28 +29,28 @@ use Rattle.lin_bench.specs.declared.expected.Expected.TheVariants as expected
 -- a refusal's number or name
 unfoldable pub refusal_field : List ℕ → Result Refusal Reason
 refusal_field f =
-    if is_number f then number_field 18 f >>= (λ n. or_bad (numbered refusal_number refusals n) TooSmall)
-    else or_bad (named refusal_word refusals f) (NoRefusal f)
+    if is_number f then number_up_to 18 f >>= (λ n. or_bad (first_with_number refusal_number refusals n) TooSmall)
+    else or_bad (first_with_word refusal_word refusals f) (NoRefusal f)
 
 -- the forms of the expectations: all fields after `expect`, which are shown where there is no form
 -- of them, and those after the first word. A wrong number of fields is no form
-abbrev pub signal_value : Parts → ℕ → ℕ → List ℕ → Option (List ℕ × List ℕ) → Result Expected Reason
-signal_value c node signal v None =
+abbrev pub signal_expectation : Parts → ℕ → ℕ → List ℕ → Option (List ℕ × List ℕ) → Result Expected Reason
+signal_expectation c node signal v None =
     value_field c v >>= (λ value. Ok (expected.Signal node signal value))
-signal_value c node signal v (Some ends) =
+signal_expectation c node signal v (Some ends) =
     range_field c v ends.0 ends.1
     >>= (λ range. Ok (expected.SignalWithin node signal range.0 range.1))
 
 abbrev pub signal_form : Parts → List (List ℕ) → List (List ℕ) → Result Expected Reason
 signal_form c all (n ∷ s ∷ v ∷ []) = do
   at ← signal_fields c n s
-  signal_value c at.0 at.1 v (range_ends v)
+  signal_expectation c at.0 at.1 v (range_ends v)
 signal_form c all fs = Err (UnknownExpectation all)
 
 abbrev pub waiting_form : Parts → List (List ℕ) → List (List ℕ) → Result Expected Reason
 waiting_form c all (n ∷ k ∷ []) = do
   host ← present_node c n
-  count ← number_field 1024 k
+  count ← number_up_to 1024 k
   Ok (expected.Waiting host count)
 waiting_form c all fs = Err (UnknownExpectation all)
 
@@ -102,14 +102,14 @@ abbrev pub sent_form : Parts → List (List ℕ) → List (List ℕ) → Result 
 sent_form c all (n ∷ []) = host_field c n >>= (λ host. Ok (expected.Sent host))
 sent_form c all fs = Err (UnknownExpectation all)
 
-abbrev pub loss_of : Parts → List (List ℕ) → List ℕ → List ℕ → Result Expected Reason
-loss_of c all n why = do
+abbrev pub loss_expectation : Parts → List (List ℕ) → List ℕ → List ℕ → Result Expected Reason
+loss_expectation c all n why = do
   host ← host_field c n
-  how ← or_bad (named cause_word causes why) (UnknownExpectation all)
+  how ← or_bad (first_with_word cause_word causes why) (UnknownExpectation all)
   Ok (expected.Lost host how)
 
 abbrev pub lost_form : Parts → List (List ℕ) → List (List ℕ) → Result Expected Reason
-lost_form c all (n ∷ why ∷ []) = loss_of c all n why
+lost_form c all (n ∷ why ∷ []) = loss_expectation c all n why
 lost_form c all fs = Err (UnknownExpectation all)
 
 -- how many data bytes a frame has: a frame of a message has eight (ISO 17987-2)
@@ -136,14 +136,14 @@ frame_form c all (f ∷ g ∷ fs) = do
 
 abbrev pub seen_form : List (List ℕ) → List (List ℕ) → Result Expected Reason
 seen_form all (word ∷ []) =
-    or_bad (named look_word looks word) (UnknownExpectation all)
+    or_bad (first_with_word look_word looks word) (UnknownExpectation all)
     >>= (λ how. Ok (expected.Seen how))
 seen_form all fs = Err (UnknownExpectation all)
 
 -- an entry that a table has, by its number (LIN 2.2A, section 9.2.5)
 abbrev pub entry_field : Parts → List ℕ → ℕ → List ℕ → Result ℕ Reason
 entry_field c t table e =
-    number_field 1023 e
+    number_up_to 1023 e
     >>= (λ entry. if nat_lt entry (length (table_of c table)) then Ok entry
     else Err (NoEntry t (length (table_of c table))))
 

@@ -10,7 +10,7 @@ use Rattle.lin_frame.specs.declared.value.Value.TheVariants.{Scalar}
 use Rattle.lin_parts.specs.declared.parts.Parts.{Parts}
 use Rattle.lin_parts.specs.Cluster.{frame_name, nad, nodes, signal_of}
 use Rattle.lin_core.specs.History.{is_in}
-use Rattle.lin_log.specs.Language.{Called, named, number_named}
+use Rattle.lin_log.specs.Language.{Called, named_language, number_named}
 use Rattle.lin_log.specs.Said.{is_number}
 use Rattle.lin_log.specs.Said as log
 use Rattle.lin_log.specs.declared.reason.Reason.{Reason as StepReason}
@@ -37,22 +37,22 @@ abbrev pub of_step : {A : Type 0} → Result A StepReason → Result A Reason
 of_step (Ok x) = Ok x
 of_step (Err why) = Err (Step why)
 
-abbrev pub fields : List ℕ → List (List ℕ)
-fields line = log.fields true line
+abbrev pub line_fields : List ℕ → List (List ℕ)
+line_fields line = log.fields true line
 
 -- those of a comment too: a tab is a space, and `#` begins no comment
-abbrev pub untabbed : ℕ → ℕ
-untabbed b = if b == 9 then 32 else b
+abbrev pub tab_as_space : ℕ → ℕ
+tab_as_space b = if b == 9 then 32 else b
 
 abbrev pub all_fields : List ℕ → List (List ℕ)
-all_fields line = log.fields false (map untabbed line)
+all_fields line = log.fields false (map tab_as_space line)
 
 -- the bytes of fields that are lent
-abbrev pub words : List (Bor (List ℕ)) → List (List ℕ)
-words fs = map (λ f. f.now) fs
+abbrev pub field_texts : List (Bor (List ℕ)) → List (List ℕ)
+field_texts fs = map (λ f. f.now) fs
 
-abbrev pub number_field : ℕ → List ℕ → Result ℕ Reason
-number_field most f = of_step (log.number_field most f)
+abbrev pub number_up_to : ℕ → List ℕ → Result ℕ Reason
+number_up_to most f = of_step (log.number_field most f)
 
 -- the unconditional frames of a cluster, and a frame by its name: theirs go before those of messages
 abbrev pub frames_called : Parts → Called
@@ -74,21 +74,21 @@ frame_numbered c n = if nat_lt n (length c.frames) then Some (Signals n) else No
 
 abbrev pub frame_field : Parts → List ℕ → Result Carried Reason
 frame_field c f =
-    if is_number f then number_field 65535 f >>= (λ n. or_bad (frame_numbered c n) (NoFrame f))
+    if is_number f then number_up_to 65535 f >>= (λ n. or_bad (frame_numbered c n) (NoFrame f))
     else or_bad (frame_called f (number_named (frames_called c) f)) (NoFrame f)
 
 -- 1 to 1,000,000
 abbrev pub count_field : List ℕ → Result ℕ Reason
-count_field f = number_field 1000000 f >>= (λ n. if n == 0 then Err TooSmall else Ok n)
+count_field f = number_up_to 1000000 f >>= (λ n. if n == 0 then Err TooSmall else Ok n)
 
 abbrev pub node_field : Parts → List ℕ → Result ℕ Reason
-node_field c f = of_step (log.node_field (named c) f)
+node_field c f = of_step (log.node_field (named_language c) f)
 
 abbrev pub signal_field : Parts → List ℕ → Result ℕ Reason
-signal_field c f = of_step (log.signal_field (named c) f)
+signal_field c f = of_step (log.signal_field (named_language c) f)
 
 abbrev pub table_field : Parts → List ℕ → Result ℕ Reason
-table_field c f = of_step (log.table_field (named c) f)
+table_field c f = of_step (log.table_field (named_language c) f)
 
 -- a node, a signal and a table that the cluster has
 abbrev pub present_node : Parts → List ℕ → Result ℕ Reason
@@ -144,7 +144,7 @@ signal_fields c n s = do
   its_signal c n s node signal
 
 abbrev pub bytes_fields : Parts → List (List ℕ) → Result (List ℕ) Reason
-bytes_fields c fs = of_step (log.bytes_fields (named c) fs)
+bytes_fields c fs = of_step (log.bytes_fields (named_language c) fs)
 
 -- rows, and the number after them where they end with this word, a number and `ms`
 abbrev pub time_from : List ℕ → List (List ℕ) → List (List ℕ) → List (List ℕ) × Option (List ℕ)
@@ -172,12 +172,12 @@ range_ends [] = None
 range_ends (x ∷ xs) = split_here x (after_dots (x ∷ xs)) (range_ends xs)
 
 abbrev pub value_field : Parts → List ℕ → Result Value Reason
-value_field c f = of_step (log.value_field (named c) f)
+value_field c f = of_step (log.value_field (named_language c) f)
 
 -- two scalars, of which the first isn't above the second
-abbrev pub range_of : List ℕ → Value → Value → Result (ℕ × ℕ) Reason
-range_of f (Scalar low) (Scalar high) = if nat_lt high low then Err (NoRange f) else Ok (low, high)
-range_of f low high = Err (NoRange f)
+abbrev pub ordered_range : List ℕ → Value → Value → Result (ℕ × ℕ) Reason
+ordered_range f (Scalar low) (Scalar high) = if nat_lt high low then Err (NoRange f) else Ok (low, high)
+ordered_range f low high = Err (NoRange f)
 
 -- whether an end of a range is missing
 abbrev pub lacks_end : List ℕ → List ℕ → Bool
@@ -187,7 +187,7 @@ abbrev pub range_between : Parts → List ℕ → List ℕ → List ℕ → Resu
 range_between c f low high = do
   from ← value_field c low
   to ← value_field c high
-  range_of f from to
+  ordered_range f from to
 
 -- the ends of a range that a field has
 unfoldable pub range_field : Parts → List ℕ → List ℕ → List ℕ → Result (ℕ × ℕ) Reason

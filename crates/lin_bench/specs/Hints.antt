@@ -10,46 +10,46 @@ use Rattle.lin_values.specs.Meaning.{meaning}
 use Rattle.lin_values.specs.Raws.{above, below, values_of}
 use Rattle.lin_values.specs.Read.{number_and_unit}
 use Rattle.lin_values.specs.Shown.{plain_shown}
-use Rattle.lin_values.specs.declared.items.Item.{Item}
-use Rattle.lin_values.specs.declared.items.Item.TheVariants as items
-use Rattle.lin_values.specs.declared.items.PlacedItem.{PlacedItem}
+use Rattle.lin_values.specs.declared.codings.Item.{Item}
+use Rattle.lin_values.specs.declared.codings.Item.TheVariants as items
+use Rattle.lin_values.specs.declared.codings.PlacedItem.{PlacedItem}
 use Rattle.lin_bench.specs.declared.reason.Hint.{Hint}
 use Rattle.lin_bench.specs.declared.reason.Hint.TheVariants as hint
 
 -- ---- the texts and the units of a signal, each once, in the order of its encoding's items
 
 -- the text of a logical value, and the unit of a range; empty if an item has none
-abbrev pub text_of : Item → List ℕ
-text_of (items.Logical v text) = text
-text_of (items.Physical from to scale offset unit) = []
-text_of items.Bcd = []
-text_of items.Ascii = []
+abbrev pub item_text : Item → List ℕ
+item_text (items.Logical v text) = text
+item_text (items.Physical from to scale offset unit) = []
+item_text items.Bcd = []
+item_text items.Ascii = []
 
-abbrev pub unit_of : Item → List ℕ
-unit_of (items.Logical v text) = []
-unit_of (items.Physical from to scale offset unit) = unit
-unit_of items.Bcd = []
-unit_of items.Ascii = []
+abbrev pub item_unit : Item → List ℕ
+item_unit (items.Logical v text) = []
+item_unit (items.Physical from to scale offset unit) = unit
+item_unit items.Bcd = []
+item_unit items.Ascii = []
 
-abbrev pub is_among : List (List ℕ) → List ℕ → Bool
-is_among ts text = list_any (λ t. bytes_eq t text) ts
+abbrev pub is_among_texts : List (List ℕ) → List ℕ → Bool
+is_among_texts ts text = list_any (λ t. bytes_eq t text) ts
 
 -- nine at most, because more aren't listed
 abbrev pub with_text : List (List ℕ) → List ℕ → List (List ℕ)
 with_text ts [] = ts
 with_text ts (c ∷ cs) =
-    if nat_lt 8 (length ts) || is_among ts (c ∷ cs) then ts else ts ++ (c ∷ cs) ∷ []
+    if nat_lt 8 (length ts) || is_among_texts ts (c ∷ cs) then ts else ts ++ (c ∷ cs) ∷ []
 
 -- a text that a raw value of the signal has: not one of a value that an earlier item has too, or that
 -- doesn't fit in its bits
-abbrev pub is_text : CodedData → ℕ → List ℕ → Bool
-is_text k s text = nat_lt 0 (length (values_of k s text))
+abbrev pub is_text_of_signal : CodedData → ℕ → List ℕ → Bool
+is_text_of_signal k s text = nat_lt 0 (length (values_of k s text))
 
 abbrev pub with_text_of : CodedData → ℕ → List (List ℕ) → PlacedItem → List (List ℕ)
-with_text_of k s ts p = if is_text k s (text_of p.item) then with_text ts (text_of p.item) else ts
+with_text_of k s ts p = if is_text_of_signal k s (item_text p.item) then with_text ts (item_text p.item) else ts
 
 abbrev pub with_unit_of : List (List ℕ) → PlacedItem → List (List ℕ)
-with_unit_of ts p = with_text ts (unit_of p.item)
+with_unit_of ts p = with_text ts (item_unit p.item)
 
 abbrev pub texts_in : CodedData → ℕ → List PlacedItem → List (List ℕ)
 texts_in k s ps = fold (with_text_of k s) [] ps
@@ -62,7 +62,7 @@ abbrev pub has_sign : List ℕ → Bool
 has_sign text = list_any (λ c. c == 35) text
 
 abbrev pub has_hash : PlacedItem → Bool
-has_hash p = has_sign (text_of p.item) || has_sign (unit_of p.item)
+has_hash p = has_sign (item_text p.item) || has_sign (item_unit p.item)
 
 abbrev pub any_hash : List PlacedItem → Bool
 any_hash ps = list_any has_hash ps
@@ -99,13 +99,13 @@ abbrev pub near_hint : Hint → List (List ℕ) → Hint
 near_hint other [] = other
 near_hint other (t ∷ ts) = hint.Nearest (t ∷ ts)
 
-abbrev pub has_unit : List PlacedItem → List ℕ → Bool
-has_unit ps unit = list_any (λ p. bytes_eq (unit_of p.item) unit) ps
+abbrev pub some_has_unit : List PlacedItem → List ℕ → Bool
+some_has_unit ps unit = list_any (λ p. bytes_eq (item_unit p.item) unit) ps
 
 -- whether a signal with units doesn't have this one
 abbrev pub is_strange : List PlacedItem → List ℕ → Bool
 is_strange ps [] = false
-is_strange ps (c ∷ cs) = nat_lt 0 (length (units_in ps)) && not (has_unit ps (c ∷ cs))
+is_strange ps (c ∷ cs) = nat_lt 0 (length (units_in ps)) && not (some_has_unit ps (c ∷ cs))
 
 -- for a number: the units if its unit is another one, else the decimals next to it
 abbrev pub number_hint : CodedData → ℕ → List PlacedItem → ℤ × List ℕ → Hint

@@ -29,21 +29,21 @@ pub data Word : Type 0 where
   Mark : (text : List ℕ) → Word
 
 -- what a word of the code says
-abbrev pub said : CodeWord → Word
-said (code.Node n) = Node n
-said (code.Signal s) = Signal s
-said (code.Table t) = Table t
-said (code.Frame f) = Frame f
-said (code.Number n) = Number n
-said (code.Range low high) = Range low high
-said (code.Bytes bytes) = Hex bytes.now
-said (code.Pattern p) = Matching p.now
-said (code.Value v) = Raw v.now
-said (code.Fixed text) = Fixed text.now
-said (code.Said text) = Said text.now
-said (code.Fields fields) = Fields fields.now
-said (code.Listed texts) = Listed texts.now
-said (code.Mark text) = Mark text.now
+abbrev pub as_word : CodeWord → Word
+as_word (code.Node n) = Node n
+as_word (code.Signal s) = Signal s
+as_word (code.Table t) = Table t
+as_word (code.Frame f) = Frame f
+as_word (code.Number n) = Number n
+as_word (code.Range low high) = Range low high
+as_word (code.Bytes bytes) = Hex bytes.now
+as_word (code.Pattern p) = Matching p.now
+as_word (code.Value v) = Raw v.now
+as_word (code.Fixed text) = Fixed text.now
+as_word (code.Said text) = Said text.now
+as_word (code.Fields fields) = Fields fields.now
+as_word (code.Listed texts) = Listed texts.now
+as_word (code.Mark text) = Mark text.now
 
 -- fields with one space between two
 abbrev pub fields_text : List (List ℕ) → List ℕ
@@ -95,17 +95,17 @@ word_text l frames (Fields fields) = seen_texts (codes " ") fields
 word_text l frames (Listed texts) = seen_texts (codes ", ") texts
 word_text l frames (Mark text) = text
 
-abbrev pub is_mark : Word → Bool
-is_mark (Mark text) = true
-is_mark w = false
+abbrev pub is_mark_word : Word → Bool
+is_mark_word (Mark text) = true
+is_mark_word w = false
 
-abbrev pub spaced : Language → Called → Word → List ℕ
-spaced l frames w =
-    if is_mark w then word_text l frames w else spaced_word (word_text l frames w)
+abbrev pub text_after_space : Language → Called → Word → List ℕ
+text_after_space l frames w =
+    if is_mark_word w then word_text l frames w else spaced_word (word_text l frames w)
 
 -- words, each after a space, and words with one space between two
 abbrev pub spaced_words : Language → Called → List Word → List ℕ
-spaced_words l frames ws = flat_map (spaced l frames) ws
+spaced_words l frames ws = flat_map (text_after_space l frames) ws
 
 abbrev pub words_text : Language → Called → List Word → List ℕ
 words_text l frames [] = []

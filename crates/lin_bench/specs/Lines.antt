@@ -6,10 +6,10 @@ use Rattle.std.specs.Str.{bytes_eq}
 use Rattle.std.specs.Str.Lines.{strip_carriage_return}
 use Rattle.lin_parts.specs.declared.parts.Parts.{Parts}
 use Rattle.lin_core.specs.declared.port.PortId.TheVariants.{Bus}
-use Rattle.lin_log.specs.Language.{named}
+use Rattle.lin_log.specs.Language.{named_language}
 use Rattle.lin_log.specs.Said.{is_port, port_step, step_form}
 use Rattle.lin_log.specs.declared.reason.Reason.TheVariants.{Takes}
-use Rattle.lin_bench.specs.Fields.{◌>>=◌, bytes_fields, count_field, fields, node_field, of_step}
+use Rattle.lin_bench.specs.Fields.{◌>>=◌, bytes_fields, count_field, line_fields, node_field, of_step}
 use Rattle.lin_bench.specs.Expectations.{expectation, until_form, while_form}
 use Rattle.lin_bench.specs.RuleLines.{errors_form, every_form, services_form, timeouts_form, when_form}
 use Rattle.lin_bench.specs.declared.reason.Reason.{Reason}
@@ -19,8 +19,8 @@ use Rattle.lin_bench.specs.declared.line.Disturbance.{Disturbance}
 use Rattle.lin_bench.specs.declared.line.Disturbance.TheVariants as slot
 use Rattle.lin_bench.specs.declared.line.Extent.{Extent}
 use Rattle.lin_bench.specs.declared.line.Extent.TheVariants as slots
-use Rattle.lin_bench.specs.declared.line.Line.{Line}
-use Rattle.lin_bench.specs.declared.line.Line.TheVariants as line
+use Rattle.lin_bench.specs.declared.line.ScriptLine.{ScriptLine}
+use Rattle.lin_bench.specs.declared.line.ScriptLine.TheVariants as line
 use Rattle.lin_bench.specs.declared.line.Slots.{Slots}
 
 -- slots in which each node that is due answers
@@ -28,7 +28,7 @@ abbrev pub all_answer : Extent → Slots
 all_answer extent = record { extent = extent; leave = [] }
 
 -- until no message waits, at most 10,000 slots where no number says how many
-abbrev pub idle_form : List (List ℕ) → Result Line Reason
+abbrev pub idle_form : List (List ℕ) → Result ScriptLine Reason
 idle_form [] = Ok (line.Slots (all_answer (slots.Idle 10000)))
 idle_form (f ∷ []) = count_field f >>= (λ n. Ok (line.Slots (all_answer (slots.Idle n))))
 idle_form fs = Err SlotsForm
@@ -37,7 +37,7 @@ idle_form fs = Err SlotsForm
 abbrev pub ends_early : List ℕ → Bool
 ends_early word = bytes_eq word (codes "until") || bytes_eq word (codes "while")
 
-abbrev pub early_form : Parts → Slots → List (List ℕ) → Result Line Reason
+abbrev pub early_form : Parts → Slots → List (List ℕ) → Result ScriptLine Reason
 early_form c s [] = Ok (line.Slots s)
 early_form c s (word ∷ fs) =
     if bytes_eq word (codes "until") then until_form c fs >>= (λ what. Ok (line.Until s what))
@@ -63,7 +63,7 @@ abbrev pub nodes_read : Parts → List (List ℕ) × List (List ℕ)
     → Result (List ℕ × List (List ℕ)) Reason
 nodes_read c (fs, gs) = node_fields c fs >>= (λ nodes. Ok (nodes, gs))
 
-abbrev pub left_form : Parts → Extent → List (List ℕ) × List (List ℕ) → Result Line Reason
+abbrev pub left_form : Parts → Extent → List (List ℕ) × List (List ℕ) → Result ScriptLine Reason
 left_form c extent ([], gs) = Err SlotsLeaveForm
 left_form c extent (f ∷ fs, gs) = do
   read ← nodes_read c (f ∷ fs, gs)
@@ -79,7 +79,7 @@ abbrev pub extent_of : Bool → List ℕ → Result Extent Reason
 extent_of is_time f =
     count_field f >>= (λ n. Ok (if is_time then slots.Milliseconds n else slots.Count n))
 
-abbrev pub after_count : Parts → Bool → List ℕ → List (List ℕ) → Result Line Reason
+abbrev pub after_count : Parts → Bool → List ℕ → List (List ℕ) → Result ScriptLine Reason
 after_count c is_time f [] =
     extent_of is_time f >>= (λ extent. Ok (line.Slots (all_answer extent)))
 after_count c is_time f (word ∷ fs) =
@@ -89,14 +89,14 @@ after_count c is_time f (word ∷ fs) =
     then extent_of is_time f >>= (λ extent. early_form c (all_answer extent) (word ∷ fs))
     else Err SlotsForm
 
-abbrev pub count_form : Parts → List ℕ → List (List ℕ) → Result Line Reason
+abbrev pub count_form : Parts → List ℕ → List (List ℕ) → Result ScriptLine Reason
 count_form c f [] = after_count c false f []
 count_form c f (word ∷ fs) =
     if bytes_eq word (codes "ms") then after_count c true f fs
     else after_count c false f (word ∷ fs)
 
 -- how many slots are made, by the fields after `slots`
-unfoldable pub slots_form : Parts → List (List ℕ) → Result Line Reason
+unfoldable pub slots_form : Parts → List (List ℕ) → Result ScriptLine Reason
 slots_form c [] = Err SlotsForm
 slots_form c (f ∷ fs) = if bytes_eq f (codes "idle") then idle_form fs else count_form c f fs
 
@@ -112,15 +112,15 @@ slot_form c (word ∷ fs) =
     else if bytes_eq word (codes "leave") then leave_form c fs
     else Err (SlotForm word)
 
-abbrev pub forget_form : List (List ℕ) → Result Line Reason
+abbrev pub forget_form : List (List ℕ) → Result ScriptLine Reason
 forget_form [] = Ok line.Forget
 forget_form fs = Err (Step (Takes (codes "forget") 0))
 
 -- what a line says, by its first field and those after it. Where no port stands before a step, the
 -- bus gives it
-unfoldable pub line_form : Parts → List ℕ → List (List ℕ) → Result Line Reason
+unfoldable pub line_form : Parts → List ℕ → List (List ℕ) → Result ScriptLine Reason
 line_form c word fs =
-    if is_port word then of_step (port_step (named c) word fs) >>= (λ s. Ok (line.Step s.0 s.1))
+    if is_port word then of_step (port_step (named_language c) word fs) >>= (λ s. Ok (line.Step s.0 s.1))
     else if bytes_eq word (codes "slots") then slots_form c fs
     else if bytes_eq word (codes "slot") then slot_form c fs >>= (λ how. Ok (line.Slot how))
     else if bytes_eq word (codes "expect") then expectation c fs >>= (λ what. Ok (line.Expect what))
@@ -133,12 +133,12 @@ line_form c word fs =
     then services_form c fs >>= (λ rule. Ok (line.Rule rule))
     else if bytes_eq word (codes "response_errors")
     then errors_form c fs >>= (λ rule. Ok (line.Rule rule))
-    else of_step (step_form (named c) word fs) >>= (λ step. Ok (line.Step Bus step))
+    else of_step (step_form (named_language c) word fs) >>= (λ step. Ok (line.Step Bus step))
 
-abbrev pub of_fields : Parts → List (List ℕ) → Result (Option Line) Reason
-of_fields c [] = Ok None
-of_fields c (word ∷ fs) = line_form c word fs >>= (λ l. Ok (Some l))
+abbrev pub line_of_fields : Parts → List (List ℕ) → Result (Option ScriptLine) Reason
+line_of_fields c [] = Ok None
+line_of_fields c (word ∷ fs) = line_form c word fs >>= (λ l. Ok (Some l))
 
 -- what a line says, nothing where it has no field or begins with `>`, as the replies of a log do
-unfoldable pub read_line : Parts → List ℕ → Result (Option Line) Reason
-read_line c l = if slice_index l 0 == 62 then Ok None else of_fields c (fields l)
+unfoldable pub read_line : Parts → List ℕ → Result (Option ScriptLine) Reason
+read_line c l = if slice_index l 0 == 62 then Ok None else line_of_fields c (line_fields l)

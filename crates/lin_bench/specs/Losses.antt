@@ -3,7 +3,7 @@ use Rattle.std.specs.Prelude.{◌≡◌, ◌+◌, ℕ, Bool, List, ◌++◌, cou
 use Rattle.lin_core.specs.History.{events}
 use Rattle.lin_core.specs.declared.event.Event.{Event}
 use Rattle.lin_core.specs.declared.log.LogEntry.{LogEntry}
-use Rattle.lin_bench.specs.Verdicts.{is_of, same_kind}
+use Rattle.lin_bench.specs.Verdicts.{is_of_kind, same_kind}
 use Rattle.lin_bench.specs.declared.taken.EventKind.{EventKind}
 use Rattle.lin_bench.specs.declared.taken.EventKind.TheVariants.{Fates}
 
@@ -14,4 +14,4 @@ AreOf es i told = flat_map events (take (i + 1) es) ≡ flat_map events (take i 
 -- what became of a host's message isn't taken, where these events stand before it
 abbrev pub is_left : List EventKind → ℕ → List Event → Bool
 is_left taken host before =
-    nat_le (count_by (same_kind (Fates host)) taken) (count_by (is_of (Fates host)) before)
+    nat_le (count_by (same_kind (Fates host)) taken) (count_by (is_of_kind (Fates host)) before)

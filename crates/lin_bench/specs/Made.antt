@@ -8,7 +8,7 @@ use Rattle.lin_core.specs.declared.log.LogEntry.{LogEntry}
 use Rattle.lin_core.specs.declared.port.PortId.{PortId}
 use Rattle.lin_core.specs.declared.step.Step.{Step}
 use Rattle.lin_bench.specs.Rules.{ruled}
-use Rattle.lin_bench.specs.Slots.{Course, after, extent_steps, most, slots_in}
+use Rattle.lin_bench.specs.Slots.{Course, course_after, extent_steps, most, ended_slot_count}
 use Rattle.lin_bench.specs.Verdicts.{all_taken, kind_taken, next_event, taking, verdict}
 use Rattle.lin_bench.specs.declared.expected.Expected.{Expected}
 use Rattle.lin_bench.specs.declared.expected.Expected.TheVariants.{Idle as IsIdle}
@@ -18,8 +18,8 @@ use Rattle.lin_bench.specs.declared.got.Verdict.TheVariants.{Nothing, Met, Unmet
 use Rattle.lin_bench.specs.declared.line.Disturbance.TheVariants.{Leave}
 use Rattle.lin_bench.specs.declared.line.Extent.{Extent}
 use Rattle.lin_bench.specs.declared.line.Extent.TheVariants.{Count, Idle}
-use Rattle.lin_bench.specs.declared.line.Line.{Line}
-use Rattle.lin_bench.specs.declared.line.Line.TheVariants as line
+use Rattle.lin_bench.specs.declared.line.ScriptLine.{ScriptLine}
+use Rattle.lin_bench.specs.declared.line.ScriptLine.TheVariants as line
 use Rattle.lin_bench.specs.declared.rules.Rule.{Rule}
 use Rattle.lin_bench.specs.declared.rules.Rules.{Rules}
 use Rattle.lin_bench.specs.declared.taken.EventKind.{EventKind}
@@ -47,17 +47,17 @@ abbrev pub fails : Parts → ℕ → List EventKind → ℕ → Expected → Cou
 fails c opening taken began what at =
     nat_lt began (length at.past) && not (comes c opening taken what at)
 
-abbrev pub never : Course → Bool
-never at = false
+abbrev pub never_ends : Course → Bool
+never_ends at = false
 
 -- the steps that a line says on a bench, without those that the rules add; where they are slots, at
 -- most as many as a limit of their extent allows
-unfoldable pub said : Parts → ℕ → ℕ → (Extent → ℕ) → BenchState → Line → List (PortId × Step)
+unfoldable pub said : Parts → ℕ → ℕ → (Extent → ℕ) → BenchState → ScriptLine → List (PortId × Step)
 said c opening capacity limit b (line.Step by step) = (by, step) ∷ []
 said c opening capacity limit b (line.Slot how) =
-    extent_steps c opening capacity how (Count 1) never (limit (Count 1)) (course_of b)
+    extent_steps c opening capacity how (Count 1) never_ends (limit (Count 1)) (course_of b)
 said c opening capacity limit b (line.Slots s) =
-    extent_steps c opening capacity (Leave s.leave) s.extent never (limit s.extent) (course_of b)
+    extent_steps c opening capacity (Leave s.leave) s.extent never_ends (limit s.extent) (course_of b)
 said c opening capacity limit b (line.Until s what) =
     extent_steps c opening capacity (Leave s.leave) s.extent (comes c opening b.taken what)
     (limit s.extent) (course_of b)
@@ -69,12 +69,12 @@ said c opening capacity limit b line.Forget = []
 said c opening capacity limit b (line.Rule rule) = []
 
 -- how many slots a line of slots made by these steps; no other line makes any
-abbrev pub slots_made : Line → List (PortId × Step) → ℕ
+abbrev pub slots_made : ScriptLine → List (PortId × Step) → ℕ
 slots_made (line.Step by step) steps = 0
-slots_made (line.Slot how) steps = slots_in steps
-slots_made (line.Slots s) steps = slots_in steps
-slots_made (line.Until s what) steps = slots_in steps
-slots_made (line.While s what) steps = slots_in steps
+slots_made (line.Slot how) steps = ended_slot_count steps
+slots_made (line.Slots s) steps = ended_slot_count steps
+slots_made (line.Until s what) steps = ended_slot_count steps
+slots_made (line.While s what) steps = ended_slot_count steps
 slots_made (line.Expect what) steps = 0
 slots_made line.Forget steps = 0
 slots_made (line.Rule rule) steps = 0
@@ -85,7 +85,7 @@ expected_after (Idle n) = Some IsIdle
 expected_after extent = None
 
 -- what a line expects, of the history after its steps
-abbrev pub expects : Line → Option Expected
+abbrev pub expects : ScriptLine → Option Expected
 expects (line.Slots s) = expected_after s.extent
 expects (line.Until s what) = Some what
 expects (line.While s what) = Some what
@@ -97,17 +97,17 @@ met_or what None = Met what
 met_or what (Some got) = Unmet what got
 
 -- a bench on which a line's steps were made, and its verdict on what the line expects
-abbrev pub judged : Parts → ℕ → BenchState → Option Expected → BenchState × Verdict
-judged c opening b None = (b, Nothing)
-judged c opening b (Some what) = (
+abbrev pub bench_with_verdict : Parts → ℕ → BenchState → Option Expected → BenchState × Verdict
+bench_with_verdict c opening b None = (b, Nothing)
+bench_with_verdict c opening b (Some what) = (
   record b { taken = taking b.past b.taken (kind_taken what) },
   met_or what (verdict c opening b.past b.rules.noted b.taken what),
 )
 
 -- a bench after these steps and those that the rules add, by which so many slots were made
-abbrev pub stepped : Parts → ℕ → ℕ → BenchState → ℕ → List (PortId × Step) → BenchState
-stepped c opening capacity b count steps =
-    let at = after c opening capacity (course_of b) steps
+abbrev pub bench_after_steps : Parts → ℕ → ℕ → BenchState → ℕ → List (PortId × Step) → BenchState
+bench_after_steps c opening capacity b count steps =
+    let at = course_after c opening capacity (course_of b) steps
     in record b { past = at.past; rules = at.rules; left = b.left - count }
 
 -- What steps that make so many slots come to, and what is expected after them; where these are more
@@ -115,8 +115,8 @@ stepped c opening capacity b count steps =
 abbrev pub made_within : Parts → ℕ → ℕ → BenchState → ℕ → List (PortId × Step)
     → List (PortId × Step) → Option Expected → BenchState × Verdict
 made_within c opening capacity b count steps first what =
-    if nat_lt b.left count then (stepped c opening capacity b b.left first, SlotLimit)
-    else judged c opening (stepped c opening capacity b count steps) what
+    if nat_lt b.left count then (bench_after_steps c opening capacity b b.left first, SlotLimit)
+    else bench_with_verdict c opening (bench_after_steps c opening capacity b count steps) what
 
 -- a bench of which all events so far are taken
 abbrev pub forgotten : BenchState → BenchState
@@ -127,7 +127,7 @@ abbrev pub with_rule : Parts → BenchState → Rule → BenchState
 with_rule c b rule = record b { rules = ruled (time c b.past) b.rules rule }
 
 -- a bench after a line, and the line's verdict
-unfoldable pub made : Parts → ℕ → ℕ → BenchState → Line → BenchState × Verdict
+unfoldable pub made : Parts → ℕ → ℕ → BenchState → ScriptLine → BenchState × Verdict
 made c opening capacity b line.Forget = (forgotten b, Nothing)
 made c opening capacity b (line.Rule rule) = (with_rule c b rule, Nothing)
 made c opening capacity b line =

@@ -6,10 +6,10 @@ use Rattle.lin_core.specs.Core.{CoreData, IsAlike, past_of}
 use Rattle.lin_core.specs.declared.log.LogEntry.{LogEntry}
 use Rattle.lin_core.specs.declared.port.PortId.{PortId}
 use Rattle.lin_core.specs.declared.step.Step.{Step}
-use Rattle.lin_bench.specs.Made.{comes, fails, never}
-use Rattle.lin_bench.specs.Slots.{Course, after, extent_steps, most, slots_in}
+use Rattle.lin_bench.specs.Made.{comes, fails, never_ends}
+use Rattle.lin_bench.specs.Slots.{Course, course_after, extent_steps, most, ended_slot_count}
 use Rattle.lin_bench.specs.declared.expected.Expected.{Expected}
-use Rattle.lin_bench.specs.declared.slots.Ending.{Ending}
+use Rattle.lin_bench.specs.declared.slot_runs.Ending.{Ending}
 use Rattle.lin_bench.specs.declared.taken.EventKind.{EventKind}
 use Rattle.lin_bench.specs.declared.rules.Rules.{Rules}
 use Rattle.lin_bench.specs.declared.line.Disturbance.{Disturbance}
@@ -27,10 +27,10 @@ course_on a = record { past = past_of a.core; rules = a.rules }
 
 -- what steps come to on a core
 abbrev pub after_on : RuledData → List (PortId × Step) → Course
-after_on a steps = after a.core.cluster a.core.opening a.core.capacity (course_on a) steps
+after_on a steps = course_after a.core.cluster a.core.opening a.core.capacity (course_on a) steps
 
 -- the steps were made, in order, with those that the rules add, and nothing else
-pub record IsMade (old : RuledData) (steps : List (PortId × Step)) (new : RuledData) : Type 0 where
+pub record AreExecuted (old : RuledData) (steps : List (PortId × Step)) (new : RuledData) : Type 0 where
   pub course : course_on new ≡ after_on old steps
   pub alike : IsAlike old.core new.core
 
@@ -52,13 +52,13 @@ StepsFail OutOfMemory a steps = Unit {0}
 abbrev pub MakesSteps : {X : Type 0} → RuledData → List (PortId × Step) → Result X MakeFault
     → RuledData
     → Type 0
-MakesSteps old steps (Ok x) new = IsMade old steps new
+MakesSteps old steps (Ok x) new = AreExecuted old steps new
 MakesSteps old steps (Err fault) new = StepsFail fault old steps × IsGrown old.core new.core
 
 -- how slots end early, with what is taken and so many entries at the line's beginning: where what is
 -- expected comes; or, where it is to hold, where it fails
 abbrev pub ends_at : Parts → ℕ → List EventKind → ℕ → Option (Bool × Expected) → Course → Bool
-ends_at c opening taken began None = never
+ends_at c opening taken began None = never_ends
 ends_at c opening taken began (Some (false, what)) = comes c opening taken what
 ends_at c opening taken began (Some (true, what)) = fails c opening taken began what
 
@@ -79,8 +79,8 @@ extent_on a how extent ends = first_on a how extent ends (most extent)
 -- why slots aren't made: there is no room for those of the line, or for those that are left
 abbrev pub SlotsFail : MakeFault → RuledData → Disturbance → Extent → (Course → Bool) → ℕ → Type 0
 SlotsFail LogFull a how extent ends left =
-    (slots_in (extent_on a how extent ends) ≤ left → NoRoom a (extent_on a how extent ends))
-    × (left < slots_in (extent_on a how extent ends) → NoRoom a (first_on a how extent ends left))
+    (ended_slot_count (extent_on a how extent ends) ≤ left → NoRoom a (extent_on a how extent ends))
+    × (left < ended_slot_count (extent_on a how extent ends) → NoRoom a (first_on a how extent ends left))
 SlotsFail OutOfMemory a how extent ends left = Unit {0}
 
 -- the slots of a line were made, and so many are left; or they are more than were left, and those
@@ -89,10 +89,10 @@ abbrev pub MakesSlots : RuledData → Disturbance → Extent → (Course → Boo
     → Result (Option ℕ) MakeFault → RuledData
     → Type 0
 MakesSlots old how extent ends left (Ok (Some rest)) new =
-    IsMade old (extent_on old how extent ends) new
-    × (slots_in (extent_on old how extent ends) + rest ≡ left)
+    AreExecuted old (extent_on old how extent ends) new
+    × (ended_slot_count (extent_on old how extent ends) + rest ≡ left)
 MakesSlots old how extent ends left (Ok None) new =
-    IsMade old (first_on old how extent ends left) new
-    × (left < slots_in (extent_on old how extent ends))
+    AreExecuted old (first_on old how extent ends left) new
+    × (left < ended_slot_count (extent_on old how extent ends))
 MakesSlots old how extent ends left (Err fault) new =
     SlotsFail fault old how extent ends left × IsGrown old.core new.core

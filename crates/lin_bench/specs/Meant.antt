@@ -13,8 +13,8 @@ abbrev pub values_within : CodedData → ℕ → ℤ → ℤ → List ℕ → Li
 values_within k s low high unit = filter (raws_within k s low high unit) (map Scalar (scalars k s))
 
 -- whether a value is among these
-abbrev pub is_among : List Value → Value → Bool
-is_among values v = list_any (same_value v) values
+abbrev pub is_among_values : List Value → Value → Bool
+is_among_values values v = list_any (same_value v) values
 
 -- the one that there is
 abbrev pub only_one : List Value → Option Value

@@ -1,8 +1,8 @@
 -- The parts of a line with words, as code has them.
-use Rattle.lin_bench.specs.Fields.{words}
+use Rattle.lin_bench.specs.Fields.{field_texts}
 use Rattle.lin_bench.specs.Words.{WordedLine}
 use Rattle.lin_bench.specs.declared.words.Worded.{Worded}
 
-abbrev pub parts_of : Worded → WordedLine
-parts_of w =
-    record { wish = w.wish; before = words w.before.now; signal = w.signal.now; words = words w.words.now }
+abbrev pub worded_line_of : Worded → WordedLine
+worded_line_of w =
+    record { wish = w.wish; before = field_texts w.before.now; signal = w.signal.now; words = field_texts w.words.now }

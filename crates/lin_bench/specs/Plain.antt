@@ -5,30 +5,30 @@ use Rattle.lin_parts.specs.declared.parts.Parts.{Parts}
 use Rattle.lin_core.specs.Runs.{history}
 use Rattle.lin_core.specs.declared.port.PortId.{PortId}
 use Rattle.lin_core.specs.declared.step.Step.{Step}
-use Rattle.lin_log.specs.Language.{named, number_named}
+use Rattle.lin_log.specs.Language.{named_language, number_named}
 use Rattle.lin_log.specs.Said.{text_says}
 use Rattle.lin_log.specs.Script.{script}
 use Rattle.lin_values.specs.Coded.{CodedData}
 use Rattle.lin_bench.specs.Scripts.{read}
-use Rattle.lin_bench.specs.Played.{first, played}
-use Rattle.lin_bench.specs.declared.line.Line.{Line}
+use Rattle.lin_bench.specs.Played.{initial_bench, play_result}
+use Rattle.lin_bench.specs.declared.line.ScriptLine.{ScriptLine}
 
 -- no signal is called `=` or `~`, as no identifier is (LIN 2.2A, section 9.2)
 pub record HasNoMarks (c : Parts) : Type 0 where
-  pub equals : number_named (named c).signals (codes "=") ≡ None
-  pub tilde : number_named (named c).signals (codes "~") ≡ None
+  pub equals : number_named (named_language c).signals (codes "=") ≡ None
+  pub tilde : number_named (named_language c).signals (codes "~") ≡ None
 
 -- a bench script that reads well, also where what signals mean is known, whose lines come to these
 -- steps and to nothing else: they make no slot of their own and expect nothing
 pub record SaysSteps (c : Parts) (opening : ℕ) (capacity : ℕ) (text : List ℕ)
     (steps : List (PortId × Step)) : Type 0 where
-  pub lines : List (ℕ × Line)
+  pub lines : List (ℕ × ScriptLine)
   pub reading : read c None text ≡ Ok lines
   pub coded : HasNoMarks c → (k : CodedData) → read c (Some k) text ≡ Ok lines
   pub steps_alone :
-      played false c opening capacity lines
+      play_result false c opening capacity lines
       ≡ Ok (record {
-        bench = record first { past = history c opening capacity (reverse steps) };
+        bench = record initial_bench { past = history c opening capacity (reverse steps) };
         judgements = [];
       })
 
@@ -40,4 +40,4 @@ PlainScripts = (c : Parts) (opening capacity : ℕ) (text : List ℕ) (steps : L
 -- and so does a text in the language of the cluster's names
 abbrev pub NamedTexts : Type 0
 NamedTexts = (c : Parts) (opening capacity : ℕ) (text : List ℕ) (steps : List (PortId × Step))
-    → text_says (named c) text ≡ Ok steps → SaysSteps c opening capacity text steps
+    → text_says (named_language c) text ≡ Ok steps → SaysSteps c opening capacity text steps

@@ -12,31 +12,31 @@ use Rattle.lin_bench.specs.declared.got.Judged.TheVariants as judged
 use Rattle.lin_bench.specs.declared.got.Judgement.{Judgement}
 use Rattle.lin_bench.specs.declared.got.Verdict.{Verdict}
 use Rattle.lin_bench.specs.declared.got.Verdict.TheVariants.{Met, Unmet, SlotLimit}
-use Rattle.lin_bench.specs.declared.line.Line.{Line}
+use Rattle.lin_bench.specs.declared.line.ScriptLine.{ScriptLine}
 
 -- ---- the bench
-abbrev pub first : BenchState
-first = record { past = []; rules = no_rules; taken = []; left = slot_limit }
+abbrev pub initial_bench : BenchState
+initial_bench = record { past = []; rules = no_rules; taken = []; left = slot_limit }
 
 -- what line n came to; its number alone where it makes more slots than are left
-abbrev pub told : ℕ → BenchState → Verdict → Result BenchState ℕ
-told n b SlotLimit = Err n
-told n b verdict = Ok b
+abbrev pub line_result : ℕ → BenchState → Verdict → Result BenchState ℕ
+line_result n b SlotLimit = Err n
+line_result n b verdict = Ok b
 
 -- one more line with its number
-abbrev pub next : Parts → ℕ → ℕ → BenchState → ℕ × Line → Result BenchState ℕ
-next c opening capacity b l = let all = made c opening capacity b l.1 in told l.0 all.0 all.1
+abbrev pub next : Parts → ℕ → ℕ → BenchState → ℕ × ScriptLine → Result BenchState ℕ
+next c opening capacity b l = let all = made c opening capacity b l.1 in line_result l.0 all.0 all.1
 
 -- lines in order, each after those before it
-abbrev pub in_turn : Parts → ℕ → ℕ → Result BenchState ℕ → List (ℕ × Line) → Result BenchState ℕ
+abbrev pub in_turn : Parts → ℕ → ℕ → Result BenchState ℕ → List (ℕ × ScriptLine) → Result BenchState ℕ
 in_turn c opening capacity (Err n) ls = Err n
 in_turn c opening capacity (Ok b) [] = Ok b
 in_turn c opening capacity (Ok b) (l ∷ ls) =
     in_turn c opening capacity (next c opening capacity b l) ls
 
 -- the bench to which these lines come, or the line that makes more slots than a run may have
-abbrev pub come_to : Parts → ℕ → ℕ → List (ℕ × Line) → Result BenchState ℕ
-come_to c opening capacity ls = in_turn c opening capacity (Ok first) ls
+abbrev pub come_to : Parts → ℕ → ℕ → List (ℕ × ScriptLine) → Result BenchState ℕ
+come_to c opening capacity ls = in_turn c opening capacity (Ok initial_bench) ls
 
 -- ---- the judgements
 -- what a line expects came to
@@ -54,7 +54,7 @@ on_line n entries (Some what) =
 -- the judgements on a line, before which a bench was this and which came to that: what it expects,
 -- and, where the play is strict, what that judges beside it, by whether the next line speaks of the
 -- line's last step
-abbrev pub of_line : Bool → BenchState → ℕ × Line → BenchState × Verdict → Bool → List Judgement
+abbrev pub of_line : Bool → BenchState → ℕ × ScriptLine → BenchState × Verdict → Bool → List Judgement
 of_line strict b l m is_told =
     on_line l.0 (length m.0.past) (own m.1)
     ++ (if strict
@@ -67,11 +67,11 @@ abbrev pub nothing_expected : Bool → Option Judged
 nothing_expected silent = if silent then Some judged.NothingExpected else None
 
 -- whether that is judged
-abbrev pub is_silent : Bool → List (ℕ × Line) → Bool
+abbrev pub is_silent : Bool → List (ℕ × ScriptLine) → Bool
 is_silent strict ls = strict && not (expects_something ls)
 
 -- the judgements on lines on a bench, and then, at line 1, that on nothing expected
-abbrev pub judged_from : Bool → Bool → Parts → ℕ → ℕ → BenchState → List (ℕ × Line)
+abbrev pub judged_from : Bool → Bool → Parts → ℕ → ℕ → BenchState → List (ℕ × ScriptLine)
     → List Judgement
 judged_from strict silent c opening capacity b [] =
     on_line 1 (length b.past) (nothing_expected silent)
@@ -79,9 +79,9 @@ judged_from strict silent c opening capacity b (l ∷ ls) =
     of_line strict b l (made c opening capacity b l.1) (speaks_of_last (slice_get ls 0))
     ++ judged_from strict silent c opening capacity (made c opening capacity b l.1).0 ls
 
-abbrev pub judgements : Bool → Parts → ℕ → ℕ → List (ℕ × Line) → List Judgement
+abbrev pub judgements : Bool → Parts → ℕ → ℕ → List (ℕ × ScriptLine) → List Judgement
 judgements strict c opening capacity ls =
-    judged_from strict (is_silent strict ls) c opening capacity first ls
+    judged_from strict (is_silent strict ls) c opening capacity initial_bench ls
 
 abbrev pub is_unmet : Judged → Bool
 is_unmet (judged.Met what) = false
@@ -101,6 +101,6 @@ with_judgements js (Err n) = Err n
 
 -- what a bench script of these lines comes to, or the line that makes more slots than a run may
 -- have
-abbrev pub played : Bool → Parts → ℕ → ℕ → List (ℕ × Line) → Result Run ℕ
-played strict c opening capacity ls =
+abbrev pub play_result : Bool → Parts → ℕ → ℕ → List (ℕ × ScriptLine) → Result Run ℕ
+play_result strict c opening capacity ls =
     with_judgements (judgements strict c opening capacity ls) (come_to c opening capacity ls)

@@ -6,7 +6,7 @@ use Rattle.lin_bench.specs.declared.fault.LineFault.{LineFault}
 use Rattle.lin_bench.specs.declared.fault.LineFault.TheVariants.{Bad, OutOfMemory}
 use Rattle.lin_bench.specs.declared.fault.ReadFault.{ReadFault}
 use Rattle.lin_bench.specs.declared.fault.ReadFault.TheVariants.{BadLine, OutOfMemory as NoMemory}
-use Rattle.lin_bench.specs.declared.line.Line.{Line}
+use Rattle.lin_bench.specs.declared.line.ScriptLine.{ScriptLine}
 use Rattle.lin_bench.specs.declared.reason.Reason.{Reason}
 use Rattle.lin_bench.specs.declared.reason.Reason.TheVariants.{Step}
 use Rattle.lin_bench.specs.declared.script.LinesLeft.{LinesLeft}
@@ -33,16 +33,16 @@ abbrev pub ReadFails : ReadFault → Script → Type 0
 ReadFails (BadLine n why) said = said ≡ Err (n, why)
 ReadFails NoMemory said = Unit {0}
 
-abbrev pub Reads : {X : Type 0} → (X → List (ℕ × Line)) → Result X ReadFault → Script → Type 0
-Reads view (Ok x) said = said ≡ Ok (view x)
-Reads view (Err e) said = ReadFails e said
+abbrev pub ReadsBenchScript : {X : Type 0} → (X → List (ℕ × ScriptLine)) → Result X ReadFault → Script → Type 0
+ReadsBenchScript view (Ok x) said = said ≡ Ok (view x)
+ReadsBenchScript view (Err e) said = ReadFails e said
 
 -- what the lines that are left say
-abbrev pub said : Parts → Option CodedData → LinesLeft → Script
-said c k lines = read_lines c k lines.number (lines_left lines.left)
+abbrev pub script_left : Parts → Option CodedData → LinesLeft → Script
+script_left c k lines = read_lines c k lines.number (lines_left lines.left)
 
 -- what asking for the next line answers: of what the lines said, and of what those after it say
-abbrev pub NextLine : Result (Option (ℕ × Line)) ReadFault → Script → Script → Type 0
+abbrev pub NextLine : Result (Option (ℕ × ScriptLine)) ReadFault → Script → Script → Type 0
 NextLine (Ok None) old new = old ≡ Ok []
 NextLine (Ok (Some l)) old new = old ≡ with_line l new
 NextLine (Err e) old new = ReadFails e old
@@ -53,6 +53,6 @@ AreBadOf (Ok ls) bad = bad ≡ []
 AreBadOf (Err first) bad = (rest : List (ℕ × Reason)) × (bad ≡ first ∷ rest)
 
 -- why a line is bad, if it is
-abbrev pub IsWhy : Result (Option Line) Reason → Option Reason → Type 0
-IsWhy read None = (said : Option Line) × (read ≡ Ok said)
+abbrev pub IsWhy : Result (Option ScriptLine) Reason → Option Reason → Type 0
+IsWhy read None = (said : Option ScriptLine) × (read ≡ Ok said)
 IsWhy read (Some why) = read ≡ Err why

@@ -5,31 +5,31 @@ use Rattle.lin_core.specs.declared.log.LogEntry.{LogEntry}
 use Rattle.lin_core.specs.declared.port.PortId.{PortId}
 use Rattle.lin_core.specs.declared.reply.Reply.{Reply}
 use Rattle.lin_core.specs.declared.step.Step.{Step}
-use Rattle.lin_bench.specs.Added.{added, rules_after}
+use Rattle.lin_bench.specs.Added.{added_steps, rules_after}
 use Rattle.lin_bench.specs.Made.{BenchState, made}
 use Rattle.lin_bench.specs.Rules.{no_rules}
-use Rattle.lin_bench.specs.Slots.{after, past_after}
-use Rattle.lin_bench.specs.declared.line.Line.TheVariants as line
+use Rattle.lin_bench.specs.Slots.{course_after, past_after}
+use Rattle.lin_bench.specs.declared.line.ScriptLine.TheVariants as line
 use Rattle.lin_bench.specs.declared.rules.Rules.{Rules}
 
 -- where no rule is in force and no answer is noted, nothing is added or noted
 abbrev pub NoRuleAddsNothing : Type 0
 NoRuleAddsNothing = (c : Parts) (e : LogEntry) (past : List LogEntry)
-    → (added c e past no_rules ≡ []) × (rules_after c e past no_rules ≡ no_rules)
+    → (added_steps c e past no_rules ≡ []) × (rules_after c e past no_rules ≡ no_rules)
 
 -- so steps come to what they come to by themselves
 abbrev pub NoRuleChangesNothing : Type 0
 NoRuleChangesNothing = (c : Parts) (opening capacity : ℕ) (past : List LogEntry)
     (steps : List (PortId × Step))
-    → after c opening capacity (record { past = past; rules = no_rules }) steps
+    → course_after c opening capacity (record { past = past; rules = no_rules }) steps
     ≡ record { past = past_after c opening capacity past steps; rules = no_rules }
 
 -- whoever gives a finish, the same is added
 abbrev pub AddedByAnyFinish : Type 0
 AddedByAnyFinish = (c : Parts) (by other : PortId) (step : Step) (reply : Reply)
     (past : List LogEntry) (rules : Rules)
-    → added c (record { port = by; step = step; reply = reply }) past rules
-    ≡ added c (record { port = other; step = step; reply = reply }) past rules
+    → added_steps c (record { port = by; step = step; reply = reply }) past rules
+    ≡ added_steps c (record { port = other; step = step; reply = reply }) past rules
 
 -- what a step comes to is told by the history and the rules, whatever expectations took and however
 -- many slots are left

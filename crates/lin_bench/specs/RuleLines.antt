@@ -13,10 +13,10 @@ use Rattle.lin_core.specs.declared.port.PortId.{PortId}
 use Rattle.lin_core.specs.declared.port.PortId.TheVariants.{Bus}
 use Rattle.lin_core.specs.declared.step.Step.{Step}
 use Rattle.lin_core.specs.declared.step.Step.TheVariants.{Send, Write}
-use Rattle.lin_log.specs.Language.{named}
+use Rattle.lin_log.specs.Language.{named_language}
 use Rattle.lin_log.specs.Said.{is_port, number, port_step, step_form}
 use Rattle.lin_log.specs.declared.reason.Reason.TheVariants.{NoBytes, NotBytes}
-use Rattle.lin_bench.specs.Fields.{◌>>=◌, count_field, node_field, number_field, of_step, or_bad}
+use Rattle.lin_bench.specs.Fields.{◌>>=◌, count_field, node_field, number_up_to, of_step, or_bad}
 use Rattle.lin_bench.specs.Fields.{rows_and_time}
 use Rattle.lin_bench.specs.declared.reason.Reason.{Reason}
 use Rattle.lin_bench.specs.declared.reason.Reason.TheVariants.{Step as BadStep, WhenForm, NoResponder}
@@ -24,15 +24,15 @@ use Rattle.lin_bench.specs.declared.reason.Reason.TheVariants.{NoPattern, Timeou
 use Rattle.lin_bench.specs.declared.reason.Reason.TheVariants.{EveryStep, ErrorsForm, NoErrorSignal}
 use Rattle.lin_bench.specs.declared.reason.Reason.TheVariants.{NoServices, ServicesForm}
 use Rattle.lin_bench.specs.declared.reason.Reason.TheVariants.{LongAnswer, WideErrorSignal}
-use Rattle.lin_bench.specs.declared.rules.Answer.{Answer}
+use Rattle.lin_bench.specs.declared.rules.RuleAnswer.{RuleAnswer}
 use Rattle.lin_bench.specs.declared.rules.Part.{Part}
 use Rattle.lin_bench.specs.declared.rules.Part.TheVariants.{Byte, Copied}
 use Rattle.lin_bench.specs.declared.rules.Pattern.{Pattern}
 use Rattle.lin_bench.specs.declared.rules.Rule.{Rule}
 use Rattle.lin_bench.specs.declared.rules.Rule.TheVariants as rule
 
-abbrev pub is_word : List ℕ → List ℕ → Bool
-is_word word f = bytes_eq f word
+abbrev pub equals_word : List ℕ → List ℕ → Bool
+equals_word word f = bytes_eq f word
 
 abbrev pub is_only : List ℕ → List (List ℕ) → Bool
 is_only word (f ∷ []) = bytes_eq f word
@@ -45,11 +45,11 @@ hex_byte x y =
     (λ high. option_map (λ low. 16 * high + low) (hex_digit_value y)) (hex_digit_value x) None
 
 -- what the signs of a row stand for, two and two
-abbrev pub row : {A : Type 0} → (ℕ → ℕ → Option A) → List ℕ → Option (List A)
-row pair [] = Some []
-row pair (x ∷ []) = None
-row pair (x ∷ y ∷ more) =
-    option_map_or (λ one. option_map (λ others. one ∷ others) (row pair more)) (pair x y) None
+abbrev pub row_of_pairs : {A : Type 0} → (ℕ → ℕ → Option A) → List ℕ → Option (List A)
+row_of_pairs pair [] = Some []
+row_of_pairs pair (x ∷ []) = None
+row_of_pairs pair (x ∷ y ∷ more) =
+    option_map_or (λ one. option_map (λ others. one ∷ others) (row_of_pairs pair more)) (pair x y) None
 
 -- what adding what a row stands for to others answers: whether it is one
 abbrev pub AddsRow : {A : Type 0} → Option (List A) → List A → Bool → List A → Type 0
@@ -57,10 +57,10 @@ AddsRow None old is new = is ≡ false
 AddsRow (Some more) old is new = (is ≡ true) × (new ≡ old ++ more)
 
 -- what several fields spell together
-abbrev pub joined : {A : Type 0} → (List ℕ → Option (List A)) → List (List ℕ) → Option (List A)
-joined read [] = Some []
-joined read (f ∷ fs) =
-    option_map_or (λ some. option_map (λ others. some ++ others) (joined read fs)) (read f) None
+abbrev pub all_parts : {A : Type 0} → (List ℕ → Option (List A)) → List (List ℕ) → Option (List A)
+all_parts read [] = Some []
+all_parts read (f ∷ fs) =
+    option_map_or (λ some. option_map (λ others. some ++ others) (all_parts read fs)) (read f) None
 
 -- ---- patterns
 -- `..` stands for any byte
@@ -90,7 +90,7 @@ pattern_of [] = None
 pattern_of (f ∷ fs) =
     option_map
     (λ bytes. record { bytes = bytes; more = has_star (last_field (f ∷ fs)) })
-    (joined (row pattern_byte) (fields_before (f ∷ fs) ++ without_star (last_field (f ∷ fs)) ∷ []))
+    (all_parts (row_of_pairs pattern_byte) (fields_before (f ∷ fs) ++ without_star (last_field (f ∷ fs)) ∷ []))
 
 abbrev pub pattern_fields : List (List ℕ) → Result Pattern Reason
 pattern_fields fs = or_bad (pattern_of fs) (NoPattern fs)
@@ -100,16 +100,16 @@ abbrev pub hex_part : ℕ → ℕ → Option Part
 hex_part x y = option_map Byte (hex_byte x y)
 
 -- `$` and 1 to 4 digits, at most 4,094, or a row of hexadecimal digits
-abbrev pub copied : List ℕ → Option (List Part)
-copied f =
+abbrev pub copied_part : List ℕ → Option (List Part)
+copied_part f =
     if nat_le (length f) 5 then option_map (λ k. Copied k ∷ []) (number 4094 (drop 1 f)) else None
 
 abbrev pub parts_field : List ℕ → Option (List Part)
-parts_field f = if slice_index f 0 == 36 then copied f else row hex_part f
+parts_field f = if slice_index f 0 == 36 then copied_part f else row_of_pairs hex_part f
 
 unfoldable pub parts_fields : List (List ℕ) → Result (List Part) Reason
 parts_fields [] = Err (BadStep NoBytes)
-parts_fields (f ∷ fs) = or_bad (joined parts_field (f ∷ fs)) (BadStep (NotBytes (f ∷ fs)))
+parts_fields (f ∷ fs) = or_bad (all_parts parts_field (f ∷ fs)) (BadStep (NotBytes (f ∷ fs)))
 
 -- the rows of an answer, and its wait where it ends with `after`, a number and `ms`
 abbrev pub rows_and_wait : List (List ℕ) → List (List ℕ) × Option (List ℕ)
@@ -117,20 +117,20 @@ rows_and_wait fs = rows_and_time (codes "after") fs
 
 abbrev pub wait_field : Option (List ℕ) → Result ℕ Reason
 wait_field None = Ok 0
-wait_field (Some n) = number_field 1000000 n
+wait_field (Some n) = number_up_to 1000000 n
 
 -- a message has at most 4,095 bytes (ISO 17987-2)
 abbrev pub answer_parts : List (List ℕ) → Result (List Part) Reason
 answer_parts fs =
     parts_fields fs >>= (λ parts. if nat_le (length parts) 4095 then Ok parts else Err LongAnswer)
 
-abbrev pub answer_form : List (List ℕ) → Result Answer Reason
+abbrev pub answer_form : List (List ℕ) → Result RuleAnswer Reason
 answer_form fs = do
   parts ← answer_parts (rows_and_wait fs).0
   wait ← wait_field (rows_and_wait fs).1
   Ok (record { parts = parts; wait_ms = wait })
 
-abbrev pub answers_in_turn : List (List (List ℕ)) → Result (List Answer) Reason
+abbrev pub answers_in_turn : List (List (List ℕ)) → Result (List RuleAnswer) Reason
 answers_in_turn [] = Ok []
 answers_in_turn (fs ∷ more) = do
   answer ← answer_form fs
@@ -138,10 +138,10 @@ answers_in_turn (fs ∷ more) = do
   Ok (answer ∷ answers)
 
 -- an answer, and each further one after `then`
-abbrev pub answers_form : List (List ℕ) → Result (List Answer) Reason
-answers_form fs = answers_in_turn (slice_split (is_word (codes "then")) fs)
+abbrev pub answers_form : List (List ℕ) → Result (List RuleAnswer) Reason
+answers_form fs = answers_in_turn (slice_split (equals_word (codes "then")) fs)
 
-abbrev pub answers_of : Option (List (List ℕ)) → Result (List Answer) Reason
+abbrev pub answers_of : Option (List (List ℕ)) → Result (List RuleAnswer) Reason
 answers_of None = Ok []
 answers_of (Some fs) = answers_form fs
 
@@ -151,7 +151,7 @@ abbrev pub responder_field : Parts → List ℕ → Result ℕ Reason
 responder_field c f =
     node_field c f >>= (λ node. if is_some (nad c node) then Ok node else Err (NoResponder f))
 
-abbrev pub when_of : Parts → List ℕ → List (List ℕ) → Result (List Answer) Reason
+abbrev pub when_of : Parts → List ℕ → List (List ℕ) → Result (List RuleAnswer) Reason
     → Result Rule Reason
 when_of c n pattern answers = do
   node ← responder_field c n
@@ -160,11 +160,11 @@ when_of c n pattern answers = do
   Ok (rule.When (record { node = node; pattern = fitting; answers = all }))
 
 -- the fields before and after the first `answer`
-abbrev pub cut : List (List ℕ) → Option (List (List ℕ) × List (List ℕ))
-cut [] = None
-cut (f ∷ fs) =
+abbrev pub cut_at_answer : List (List ℕ) → Option (List (List ℕ) × List (List ℕ))
+cut_at_answer [] = None
+cut_at_answer (f ∷ fs) =
     if bytes_eq f (codes "answer") then Some ([], fs)
-    else option_map (λ (p : List (List ℕ) × List (List ℕ)). (f ∷ p.0, p.1)) (cut fs)
+    else option_map (λ (p : List (List ℕ) × List (List ℕ)). (f ∷ p.0, p.1)) (cut_at_answer fs)
 
 -- a node, a pattern of one field at least, and answers or `silent`
 abbrev pub when_by : Parts → List ℕ → List ℕ → List (List ℕ)
@@ -179,7 +179,7 @@ when_by c n f fs None =
 abbrev pub when_fields : Parts → List (List ℕ) → Result Rule Reason
 when_fields c [] = Err WhenForm
 when_fields c (n ∷ []) = Err WhenForm
-when_fields c (n ∷ f ∷ fs) = when_by c n f fs (cut fs)
+when_fields c (n ∷ f ∷ fs) = when_by c n f fs (cut_at_answer fs)
 
 unfoldable pub when_form : Parts → List (List ℕ) → Result Rule Reason
 when_form c fs = if is_only (codes "off") fs then Ok rule.WhenOff else when_fields c fs
@@ -203,9 +203,9 @@ sends_or_writes (by, step) = Err EveryStep
 -- a send or a write, which the bus gives where no port stands before it
 abbrev pub repeated_step : Parts → List ℕ → List (List ℕ) → Result (PortId × Step) Reason
 repeated_step c word fs =
-    if is_port word then of_step (port_step (named c) word fs) >>= sends_or_writes
+    if is_port word then of_step (port_step (named_language c) word fs) >>= sends_or_writes
     else if bytes_eq word (codes "send") || bytes_eq word (codes "write")
-    then of_step (step_form (named c) word fs) >>= (λ step. Ok (Bus, step))
+    then of_step (step_form (named_language c) word fs) >>= (λ step. Ok (Bus, step))
     else Err EveryStep
 
 abbrev pub every_of : Parts → List ℕ → List ℕ → List (List ℕ) → Result Rule Reason
@@ -225,8 +225,8 @@ every_form c fs = if is_only (codes "off") fs then Ok rule.EveryOff else every_f
 -- ---- `response_errors`
 -- a signal of more than one bit is a status of its own, such as that of SAE J2602: which of its
 -- values tells an error isn't known
-abbrev pub is_wide : Parts → ErrorSignal → Bool
-is_wide c e = nat_lt 1 (signal_of c e.signal).size
+abbrev pub has_several_bits : Parts → ErrorSignal → Bool
+has_several_bits c e = nat_lt 1 (signal_of c e.signal).size
 
 abbrev pub why_wide : Parts → ErrorSignal → Result Rule Reason
 why_wide c e = Err (WideErrorSignal (signal_of c e.signal).name (signal_of c e.signal).size)
@@ -235,7 +235,7 @@ why_wide c e = Err (WideErrorSignal (signal_of c e.signal).name (signal_of c e.s
 abbrev pub errors_on : Parts → List ErrorSignal → Result Rule Reason
 errors_on c [] = Err NoErrorSignal
 errors_on c (e ∷ es) =
-    option_map_or (why_wide c) (find (is_wide c) (e ∷ es)) (Ok (rule.Errors true))
+    option_map_or (why_wide c) (find (has_several_bits c) (e ∷ es)) (Ok (rule.Errors true))
 
 unfoldable pub errors_form : Parts → List (List ℕ) → Result Rule Reason
 errors_form c fs =

@@ -10,7 +10,7 @@ use Rattle.lin_parts.specs.Cluster.{nad, response_of}
 use Rattle.lin_parts.specs.declared.parts.Parts.{Parts}
 use Rattle.lin_core.specs.declared.event.Event.{Event}
 use Rattle.lin_core.specs.declared.event.Event.TheVariants.{Message}
-use Rattle.lin_bench.specs.declared.rules.Answer.{Answer}
+use Rattle.lin_bench.specs.declared.rules.RuleAnswer.{RuleAnswer}
 use Rattle.lin_bench.specs.declared.rules.Noted.{Noted}
 use Rattle.lin_bench.specs.declared.rules.Part.{Part}
 use Rattle.lin_bench.specs.declared.rules.Part.TheVariants.{Byte, Copied}
@@ -61,11 +61,11 @@ note_of time node (Some bytes) = record { time = time; node = node; bytes = byte
 -- What a node's answers to a message come to, from a time in microseconds on: each its wait after
 -- the one before it. One that takes a byte which the message hasn't is left out; its wait counts all
 -- the same.
-abbrev pub notes : ℕ → ℕ → List ℕ → List Answer → List Noted
-notes time node message [] = []
-notes time node message (a ∷ more) =
+abbrev pub noted_answers : ℕ → ℕ → List ℕ → List RuleAnswer → List Noted
+noted_answers time node message [] = []
+noted_answers time node message (a ∷ more) =
     let at = time + 1000 * a.wait_ms
-    in note_of at node (answer_bytes message a.parts) ++ notes at node message more
+    in note_of at node (answer_bytes message a.parts) ++ noted_answers at node message more
 
 -- ---- services of node configuration (LIN 2.2A, section 4.2)
 -- the request that a message of one to six bytes is to a node with this NAD: a service identifier and its
@@ -109,7 +109,7 @@ abbrev pub notes_for : Option Parts → List When → ℕ → Event → List Not
 notes_for served whens time (Message from to message) =
     if from == 0
     then option_map_or
-    (λ w. notes time to message w.answers) (rule_for whens to message)
+    (λ w. noted_answers time to message w.answers) (rule_for whens to message)
     (service_notes served time to message)
     else []
 notes_for served whens time event = []

@@ -6,37 +6,37 @@ use Rattle.std.specs.Str.Lines.{strip_carriage_return}
 use Rattle.lin_parts.specs.declared.parts.Parts.{Parts}
 use Rattle.lin_values.specs.Coded.{CodedData}
 use Rattle.lin_bench.specs.Words.{read_worded_line}
-use Rattle.lin_bench.specs.declared.line.Line.{Line}
+use Rattle.lin_bench.specs.declared.line.ScriptLine.{ScriptLine}
 use Rattle.lin_bench.specs.declared.reason.Reason.{Reason}
 
 -- the lines that say something, with their numbers, or the first that is bad
 abbrev pub Script : Type 0
-Script = Result (List (ℕ × Line)) (ℕ × Reason)
+Script = Result (List (ℕ × ScriptLine)) (ℕ × Reason)
 
-abbrev pub with_line : ℕ × Line → Script → Script
+abbrev pub with_line : ℕ × ScriptLine → Script → Script
 with_line l (Ok ls) = Ok (l ∷ ls)
 with_line l (Err bad) = Err bad
 
-abbrev pub with_said : ℕ → Result (Option Line) Reason → Script → Script
-with_said n (Err why) more = Err (n, why)
-with_said n (Ok None) more = more
-with_said n (Ok (Some l)) more = with_line (n, l) more
+abbrev pub with_read_line : ℕ → Result (Option ScriptLine) Reason → Script → Script
+with_read_line n (Err why) more = Err (n, why)
+with_read_line n (Ok None) more = more
+with_read_line n (Ok (Some l)) more = with_line (n, l) more
 
 -- what lines from number n on say; one CR before a line's end is dropped
 abbrev pub read_lines : Parts → Option CodedData → ℕ → List (List ℕ) → Script
 read_lines c k n [] = Ok []
 read_lines c k n (l ∷ ls) =
-    with_said n (read_worded_line c k (strip_carriage_return l)) (read_lines c k (n + 1) ls)
+    with_read_line n (read_worded_line c k (strip_carriage_return l)) (read_lines c k (n + 1) ls)
 
 -- the bad lines from number n on, with their numbers
-abbrev pub with_bad : ℕ → Result (Option Line) Reason → List (ℕ × Reason) → List (ℕ × Reason)
-with_bad n (Err why) more = (n, why) ∷ more
-with_bad n (Ok said) more = more
+abbrev pub with_bad_line : ℕ → Result (Option ScriptLine) Reason → List (ℕ × Reason) → List (ℕ × Reason)
+with_bad_line n (Err why) more = (n, why) ∷ more
+with_bad_line n (Ok said) more = more
 
 abbrev pub bad_from : Parts → Option CodedData → ℕ → List (List ℕ) → List (ℕ × Reason)
 bad_from c k n [] = []
 bad_from c k n (l ∷ ls) =
-    with_bad n (read_worded_line c k (strip_carriage_return l)) (bad_from c k (n + 1) ls)
+    with_bad_line n (read_worded_line c k (strip_carriage_return l)) (bad_from c k (n + 1) ls)
 
 -- a text without the mark EF BB BF at its start
 abbrev pub without_mark : List ℕ → List ℕ

@@ -8,18 +8,18 @@ use Rattle.std.specs.List.{filter_map}
 use Rattle.lin_core.specs.History.{events}
 use Rattle.lin_core.specs.declared.event.Event.{Event}
 use Rattle.lin_core.specs.declared.log.LogEntry.{LogEntry}
-use Rattle.lin_bench.specs.Verdicts.{is_of, kind_of, loss_after, same_kind}
+use Rattle.lin_bench.specs.Verdicts.{is_of_kind, kind_of, loss_after, same_kind}
 use Rattle.lin_bench.specs.declared.taken.Cleared.{Cleared}
 use Rattle.lin_bench.specs.declared.taken.EventKind.{EventKind}
-use Rattle.lin_bench.specs.declared.taken.Place.{Place}
+use Rattle.lin_bench.specs.declared.taken.LogPlace.{LogPlace}
 use Rattle.lin_bench.specs.declared.taken.Search.{Search}
-use Rattle.lin_bench.specs.declared.taken.Taken.{Taken}
+use Rattle.lin_bench.specs.declared.taken.TakenEvents.{TakenEvents}
 
 abbrev pub kind_found : Search → List EventKind
 kind_found s = if s.found then s.kind ∷ [] else []
 
 -- of which kinds events were taken
-abbrev pub taken_by : List LogEntry → Taken → List EventKind
+abbrev pub taken_by : List LogEntry → TakenEvents → List EventKind
 taken_by es t =
     filter_map kind_of (flat_map events (take t.forgotten es))
     ++ flat_map kind_found t.searches.items
@@ -27,42 +27,42 @@ taken_by es t =
 abbrev pub last_search : EventKind → List Search → Option Search
 last_search kind ss = find (λ s. same_kind kind s.kind) (reverse ss)
 
-abbrev pub end_of : ℕ → Option Search → Place
+abbrev pub end_of : ℕ → Option Search → LogPlace
 end_of forgotten None = record { entry = forgotten; events = 0 }
 end_of forgotten (Some s) = s.end
 
 -- where the last search for a kind ended
-abbrev pub last_end : EventKind → Taken → Place
+abbrev pub last_end : EventKind → TakenEvents → LogPlace
 last_end kind t = end_of t.forgotten (last_search kind t.searches.items)
 
 -- how many events of a kind stand before a place
-abbrev pub before : List LogEntry → EventKind → Place → ℕ
-before es kind p = count_by (is_of kind) (flat_map events (take p.entry es)) + p.events
+abbrev pub before : List LogEntry → EventKind → LogPlace → ℕ
+before es kind p = count_by (is_of_kind kind) (flat_map events (take p.entry es)) + p.events
 
 -- so many events of a kind stand in the entries up to that of a place
-abbrev pub IsReached : List LogEntry → EventKind → Place → Type 0
+abbrev pub IsReached : List LogEntry → EventKind → LogPlace → Type 0
 IsReached es kind p =
-    before es kind p ≤ count_by (is_of kind) (flat_map events (take (p.entry + 1) es))
+    before es kind p ≤ count_by (is_of_kind kind) (flat_map events (take (p.entry + 1) es))
 
 -- how many entries hold no loss that isn't taken, of a host's messages or of any
-abbrev pub cleared : Cleared → Option ℕ → ℕ
-cleared c None = c.all
-cleared c (Some host) = slice_index c.hosts host
+abbrev pub cleared_count : Cleared → Option ℕ → ℕ
+cleared_count c None = c.all
+cleared_count c (Some host) = slice_index c.hosts host
 
 -- so many entries hold none
-abbrev pub AreClear : List LogEntry → Taken → Option ℕ → ℕ → Type 0
+abbrev pub AreClear : List LogEntry → TakenEvents → Option ℕ → ℕ → Type 0
 AreClear es t which n =
     (n ≤ length es)
     × (loss_after which (taken_by es t) [] (flat_map events (take n es)) ≡ None)
 
 -- the last search for each kind ended behind all events that were taken of it
-pub record IsKnown (es : List LogEntry) (t : Taken) : Type 0 where
+pub record IsSearchState (es : List LogEntry) (t : TakenEvents) : Type 0 where
   pub forgotten : t.forgotten ≤ length es
   pub within : (kind : EventKind) → (last_end kind t).entry ≤ length es
   pub taken : (kind : EventKind)
       → before es kind (last_end kind t) ≡ count_by (same_kind kind) (taken_by es t)
   pub reached : (kind : EventKind) → IsReached es kind (last_end kind t)
-  pub clear : (which : Option ℕ) → AreClear es t which (cleared t.cleared which)
+  pub clear : (which : Option ℕ) → AreClear es t which (cleared_count t.cleared which)
 
 abbrev pub same_host : Option ℕ → Option ℕ → Bool
 same_host None None = true
@@ -72,28 +72,28 @@ same_host which other = false
 -- how many entries hold none is kept for one host, or for all
 abbrev pub KeepsCleared : Option ℕ → ℕ → Cleared → Cleared → Type 0
 KeepsCleared which n old new =
-    (q : Option ℕ) → cleared new q ≡ (if same_host q which then n else cleared old q)
+    (q : Option ℕ) → cleared_count new q ≡ (if same_host q which then n else cleared_count old q)
 
 abbrev pub how_many : Option Event → ℕ
 how_many None = 0
 how_many (Some e) = 1
 
 -- a place stands so many events of a kind behind another
-pub record IsBehind (es : List LogEntry) (kind : EventKind) (from : Place) (n : ℕ) (end : Place)
+pub record IsBehind (es : List LogEntry) (kind : EventKind) (from : LogPlace) (n : ℕ) (end : LogPlace)
     : Type 0 where
   pub within : end.entry ≤ length es
   pub place : before es kind end ≡ before es kind from + n
   pub reached : IsReached es kind end
 
 -- a search from a place on finds this event, or none, and ends at this place
-pub record Finds (es : List LogEntry) (kind : EventKind) (from : Place) (event : Option Event)
-    (end : Place) : Type 0 where
-  pub event_is : event ≡ slice_get (filter (is_of kind) (flat_map events es)) (before es kind from)
+pub record Finds (es : List LogEntry) (kind : EventKind) (from : LogPlace) (event : Option Event)
+    (end : LogPlace) : Type 0 where
+  pub event_is : event ≡ slice_get (filter (is_of_kind kind) (flat_map events es)) (before es kind from)
   pub behind : IsBehind es kind from (how_many event) end
   pub some : how_many event ≤ end.events
 
 -- the place before the event that a search found, by the place behind it
-abbrev pub place_before : Option Event → Place → Place
+abbrev pub place_before : Option Event → LogPlace → LogPlace
 place_before None end = end
 place_before (Some e) end = record { entry = end.entry; events = end.events - 1 }
 
@@ -102,5 +102,5 @@ place_before (Some e) end = record { entry = end.entry; events = end.events - 1 
 abbrev pub Skips : {X : Type 0} → (X → Event) → List Event → EventKind → ℕ → Result (X × ℕ) ℕ
     → Type 0
 Skips view es kind n (Ok f) =
-    (slice_get (filter (is_of kind) es) n ≡ Some (view f.0)) × (f.1 ≡ n + 1)
-Skips view es kind n (Err left) = count_by (is_of kind) es + left ≡ n
+    (slice_get (filter (is_of_kind kind) es) n ≡ Some (view f.0)) × (f.1 ≡ n + 1)
+Skips view es kind n (Err left) = count_by (is_of_kind kind) es + left ≡ n

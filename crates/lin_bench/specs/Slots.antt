@@ -20,7 +20,7 @@ use Rattle.lin_core.specs.declared.reply.Reply.{Reply}
 use Rattle.lin_core.specs.declared.reply.Reply.TheVariants.{Done, Refused}
 use Rattle.lin_core.specs.declared.step.Step.{Step}
 use Rattle.lin_core.specs.declared.step.Step.TheVariants.{Open, Answer, Leave, Hurt, Finish}
-use Rattle.lin_bench.specs.Added.{added, rules_after}
+use Rattle.lin_bench.specs.Added.{added_steps, rules_after}
 use Rattle.lin_bench.specs.declared.got.Pending.{Pending}
 use Rattle.lin_bench.specs.declared.got.Pending.TheVariants.{MessagesWait, AnswersNoted}
 use Rattle.lin_bench.specs.declared.line.Disturbance.{Disturbance}
@@ -44,15 +44,15 @@ pub record Course : Type 0 where
 -- an entry, and after it the steps that the rules add, which add nothing themselves
 abbrev pub with_entry : Parts → ℕ → ℕ → Course → LogEntry → Course
 with_entry c opening capacity at e = record {
-  past = past_after c opening capacity (e ∷ at.past) (added c e at.past at.rules);
+  past = past_after c opening capacity (e ∷ at.past) (added_steps c e at.past at.rules);
   rules = rules_after c e at.past at.rules;
 }
 
 -- what more steps come to, each with those that the rules add after it
-abbrev pub after : Parts → ℕ → ℕ → Course → List (PortId × Step) → Course
-after c opening capacity at [] = at
-after c opening capacity at (s ∷ ss) =
-    after c opening capacity
+abbrev pub course_after : Parts → ℕ → ℕ → Course → List (PortId × Step) → Course
+course_after c opening capacity at [] = at
+course_after c opening capacity at (s ∷ ss) =
+    course_after c opening capacity
     (with_entry c opening capacity at (entry_of c opening capacity at.past s)) ss
 
 abbrev pub due_node : Event → Option ℕ
@@ -104,7 +104,7 @@ slots_steps c opening capacity how goes (suc n) at =
     let steps = slot_steps c opening capacity how at.past
     in if goes at
     then steps ++ (if is_opened (due_now c opening capacity at.past)
-    then slots_steps c opening capacity how goes n (after c opening capacity at steps)
+    then slots_steps c opening capacity how goes n (course_after c opening capacity at steps)
     else [])
     else []
 
@@ -146,15 +146,15 @@ most (slots.Milliseconds n) = slot_limit + 1
 most (slots.Idle n) = n
 
 -- likewise, where slots also end as soon as a test holds
-abbrev pub one_more : Parts → Extent → (Course → Bool) → ℕ → Course → Bool
-one_more c extent ends began at = goes_on c extent began at && not (ends at)
+abbrev pub goes_on_until : Parts → Extent → (Course → Bool) → ℕ → Course → Bool
+goes_on_until c extent ends began at = goes_on c extent began at && not (ends at)
 
 -- the steps of a line of slots, of at most n
 unfoldable pub extent_steps : Parts → ℕ → ℕ → Disturbance → Extent → (Course → Bool) → ℕ → Course
     → List (PortId × Step)
 extent_steps c opening capacity how extent ends n at =
-    slots_steps c opening capacity how (one_more c extent ends (time c at.past)) n at
+    slots_steps c opening capacity how (goes_on_until c extent ends (time c at.past)) n at
 
 -- how many slots end by these steps
-abbrev pub slots_in : List (PortId × Step) → ℕ
-slots_in steps = length (filter (λ (s : PortId × Step). is_finish s.1) steps)
+abbrev pub ended_slot_count : List (PortId × Step) → ℕ
+ended_slot_count steps = length (filter (λ (s : PortId × Step). is_finish s.1) steps)

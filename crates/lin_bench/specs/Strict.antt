@@ -15,8 +15,8 @@ use Rattle.lin_bench.specs.declared.expected.Expected.TheVariants as expected
 use Rattle.lin_bench.specs.declared.got.Got.TheVariants as got
 use Rattle.lin_bench.specs.declared.got.Judged.{Judged}
 use Rattle.lin_bench.specs.declared.got.Judged.TheVariants.{Unmet, NotDue}
-use Rattle.lin_bench.specs.declared.line.Line.{Line}
-use Rattle.lin_bench.specs.declared.line.Line.TheVariants as line
+use Rattle.lin_bench.specs.declared.line.ScriptLine.{ScriptLine}
+use Rattle.lin_bench.specs.declared.line.ScriptLine.TheVariants as line
 
 -- the entries by which a history grew, the oldest first
 abbrev pub entries_since : List LogEntry → List LogEntry → List LogEntry
@@ -32,17 +32,17 @@ first_refusal [] = None
 first_refusal (e ∷ es) = option_or (refusal_in e.reply) (first_refusal es)
 
 -- whether what a line expects, if there is one, is said of the last step before it
-abbrev pub speaks_of_last : Option (ℕ × Line) → Bool
+abbrev pub speaks_of_last : Option (ℕ × ScriptLine) → Bool
 speaks_of_last (Some (n, line.Expect expected.Done)) = true
 speaks_of_last (Some (n, line.Expect (expected.Refused why))) = true
 speaks_of_last other = false
 
 -- the entries of a line that count: all but the last one where the next line speaks of that
-abbrev pub counted : Bool → List LogEntry → List LogEntry
-counted is_told es = if is_told then take (length es - 1) es else es
+abbrev pub counted_entries : Bool → List LogEntry → List LogEntry
+counted_entries is_told es = if is_told then take (length es - 1) es else es
 
 -- the nodes whose responses a line leaves out
-abbrev pub left_out : Line → List ℕ
+abbrev pub left_out : ScriptLine → List ℕ
 left_out (line.Slot how) = leave_nodes how
 left_out (line.Slots s) = s.leave
 left_out (line.Until s what) = s.leave
@@ -50,11 +50,11 @@ left_out (line.While s what) = s.leave
 left_out line = []
 
 -- whether a node is due in a slot which an entry opened
-abbrev pub is_due : ℕ → Event → Bool
-is_due node event = option_map_or (λ n. n == node) (due_node event) false
+abbrev pub is_due_event : ℕ → Event → Bool
+is_due_event node event = option_map_or (λ n. n == node) (due_node event) false
 
 abbrev pub tells_due : ℕ → LogEntry → Bool
-tells_due node e = list_any (is_due node) (events e)
+tells_due node e = list_any (is_due_event node) (events e)
 
 -- the first of these nodes that is due in none of the slots which a line's entries opened
 abbrev pub is_never_due : List LogEntry → ℕ → Bool
@@ -69,9 +69,9 @@ not_due nodes (e ∷ es) = find (is_never_due (e ∷ es)) nodes
 abbrev pub strictly : List ℕ → Bool → List LogEntry → Option Judged
 strictly nodes is_told es =
     if is_some (first_refusal es)
-    then option_map (λ why. Unmet expected.Done (got.Refused why)) (first_refusal (counted is_told es))
+    then option_map (λ why. Unmet expected.Done (got.Refused why)) (first_refusal (counted_entries is_told es))
     else option_map (λ node. NotDue node) (not_due nodes es)
 
 -- some line of a script expects something
-abbrev pub expects_something : List (ℕ × Line) → Bool
-expects_something ls = list_any (λ (l : ℕ × Line). is_some (expects l.1)) ls
+abbrev pub expects_something : List (ℕ × ScriptLine) → Bool
+expects_something ls = list_any (λ (l : ℕ × ScriptLine). is_some (expects l.1)) ls

@@ -5,7 +5,7 @@ use Rattle.std.specs.Fmt.{decimal}
 use Rattle.std.specs.Option.{option_map_or}
 use Rattle.lin_parts.specs.declared.parts.Parts.{Parts}
 use Rattle.lin_core.specs.Tables.{cause_word, look_word, refusal_word}
-use Rattle.lin_log.specs.Language.{named, nameless, plain, word_of}
+use Rattle.lin_log.specs.Language.{named_language, nameless, plain, word_of}
 use Rattle.lin_log.specs.Words.{hex_word, spaced_word, value_word}
 use Rattle.lin_log.specs.declared.reason.Reason.{Reason as StepReason}
 use Rattle.lin_log.specs.declared.reason.Reason.TheVariants as step
@@ -150,14 +150,14 @@ bad_line_text n why =
 
 -- the name of a node or a table, or the number where it is none's
 abbrev pub node_word : Parts → ℕ → List ℕ
-node_word c n = word_of (named c).nodes n
+node_word c n = word_of (named_language c).nodes n
 
 abbrev pub table_word : Parts → ℕ → List ℕ
-table_word c t = word_of (named c).tables t
+table_word c t = word_of (named_language c).tables t
 
 -- words with the names of a cluster
 abbrev pub cluster_text : Parts → List Word → List ℕ
-cluster_text c ws = words_text (named c) (frames_called c) ws
+cluster_text c ws = words_text (named_language c) (frames_called c) ws
 
 -- the unit of a time, and from which earlier message it counts
 abbrev pub since_word : Since → List ℕ

@@ -28,7 +28,7 @@ use Rattle.lin_core.specs.declared.log.LogEntry.{LogEntry}
 use Rattle.lin_core.specs.declared.reply.Refusal.{Refusal}
 use Rattle.lin_core.specs.declared.reply.Reply.{Reply}
 use Rattle.lin_core.specs.declared.reply.Reply.TheVariants.{Done, Refused}
-use Rattle.lin_bench.specs.Meant.{is_among}
+use Rattle.lin_bench.specs.Meant.{is_among_values}
 use Rattle.lin_bench.specs.Rules.{fits}
 use Rattle.lin_bench.specs.Slots.{pending}
 use Rattle.lin_bench.specs.declared.expected.Carried.{Carried}
@@ -68,8 +68,8 @@ same_kind Ends Ends = true
 same_kind Begins Begins = true
 same_kind kind other = false
 
-abbrev pub is_of : EventKind → Event → Bool
-is_of kind event = option_map_or (same_kind kind) (kind_of event) false
+abbrev pub is_of_kind : EventKind → Event → Bool
+is_of_kind kind event = option_map_or (same_kind kind) (kind_of event) false
 
 -- the events of a history, the oldest first
 abbrev pub all_events : List LogEntry → List Event
@@ -78,13 +78,13 @@ all_events (e ∷ past) = all_events past ++ events e
 
 -- the last event of a kind
 abbrev pub last_event : List LogEntry → EventKind → Option Event
-last_event past kind = find (is_of kind) (reverse (all_events past))
+last_event past kind = find (is_of_kind kind) (reverse (all_events past))
 
 -- ---- events that expectations take, each once
 -- the oldest event of a kind that no expectation has taken
 abbrev pub next_event : List LogEntry → List EventKind → EventKind → Option Event
 next_event past taken kind =
-    slice_get (filter (is_of kind) (all_events past)) (count_by (same_kind kind) taken)
+    slice_get (filter (is_of_kind kind) (all_events past)) (count_by (same_kind kind) taken)
 
 abbrev pub with_taken : Option Event → EventKind → List EventKind → List EventKind
 with_taken None kind taken = taken
@@ -110,12 +110,12 @@ abbrev pub times_taken : Parts → (Event → Bool) → EventKind → List LogEn
 times_taken c is answer [] = []
 times_taken c is answer (e ∷ past) =
     times_taken c is answer past
-    ++ map (λ event. time c (e ∷ past) - last_time c is past) (filter (is_of answer) (events e))
+    ++ map (λ event. time c (e ∷ past) - last_time c is past) (filter (is_of_kind answer) (events e))
 
 -- the earlier messages from which the time of a message counts
 abbrev pub is_earlier : Since → ℕ → ℕ → Event → Bool
-is_earlier Request from to event = is_of (Messages to from) event
-is_earlier Last from to event = is_of (Messages to from) event || is_of (Messages from to) event
+is_earlier Request from to event = is_of_kind (Messages to from) event
+is_earlier Last from to event = is_of_kind (Messages to from) event || is_of_kind (Messages from to) event
 
 -- how long the next message took from the last of these
 abbrev pub time_taken : Parts → List LogEntry → List EventKind → Since → ℕ → ℕ → ℕ
@@ -147,7 +147,7 @@ abbrev pub is_loss_left : Option ℕ → List EventKind → List Event → Event
 is_loss_left which taken before e =
     option_map_or
     (λ host. is_host which host
-    && nat_le (count_by (same_kind (Fates host)) taken) (count_by (is_of (Fates host)) before))
+    && nat_le (count_by (same_kind (Fates host)) taken) (count_by (is_of_kind (Fates host)) before))
     (host_lost e) false
 
 -- the first such, of the events after these
@@ -171,11 +171,11 @@ carried_for c SlaveResp s = Some Response
 carried_for c (Fixed request) s = Some RequestFrame
 carried_for c entry s = option_map Signals (carried_by c entry s)
 
-abbrev pub carried : Parts → Slot → Option Carried
-carried c s = carried_for c (line_of c s.table s.entry).entry s
+abbrev pub carried_by_slot : Parts → Slot → Option Carried
+carried_by_slot c s = carried_for c (line_of c s.table s.entry).entry s
 
 abbrev pub last_carried : Parts → List LogEntry → Option Carried
-last_carried c past = option_map_or (carried c) (last_slot past) None
+last_carried c past = option_map_or (carried_by_slot c) (last_slot past) None
 
 -- the running schedule table: that of the open slot, where none is open that of the next one
 abbrev pub running_table : Parts → ℕ → List LogEntry → ℕ
@@ -196,8 +196,8 @@ abbrev pub fits_data : Option Pattern → List ℕ → Bool
 fits_data pattern row = option_map_or (λ p. fits p row) pattern true
 
 -- ---- verdicts: none where the expectation is met, otherwise what is so
-abbrev pub unless : Bool → Got → Option Got
-unless met what = if met then None else Some what
+abbrev pub got_unless : Bool → Got → Option Got
+got_unless met what = if met then None else Some what
 
 -- what a node sees of a signal, none where there is no such node or signal
 abbrev pub value_seen : Parts → List LogEntry → ℕ → ℕ → Option Value
@@ -208,7 +208,7 @@ value_seen c past node signal =
 
 abbrev pub value_verdict : (Value → Bool) → Option Value → Option Got
 value_verdict is None = Some got.NoNodeOrSignal
-value_verdict is (Some value) = unless (is value) (got.Value value)
+value_verdict is (Some value) = got_unless (is value) (got.Value value)
 
 -- a scalar from one number to another
 abbrev pub is_within : ℕ → ℕ → Value → Bool
@@ -218,16 +218,16 @@ is_within low high (Bytes b) = false
 abbrev pub waiting_verdict : Parts → List LogEntry → ℕ → ℕ → Option Got
 waiting_verdict c past host count =
     if nat_lt host (nodes c)
-    then unless (length (waiting c past host) == count) (got.Waiting (length (waiting c past host)))
+    then got_unless (length (waiting c past host) == count) (got.Waiting (length (waiting c past host)))
     else Some got.NoNode
 
 abbrev pub message_verdict : Pattern → Option Event → Option Got
-message_verdict pattern (Some (event.Message from to b)) = unless (fits pattern b) (got.Message b)
+message_verdict pattern (Some (event.Message from to b)) = got_unless (fits pattern b) (got.Message b)
 message_verdict pattern other = Some got.NoEvent
 
 -- a message that is right may be late
 abbrev pub within_verdict : ℕ → ℕ → Option Got → Option Got
-within_verdict most took None = unless (nat_le took (1000 * most)) (got.Took took)
+within_verdict most took None = got_unless (nat_le took (1000 * most)) (got.Took took)
 within_verdict most took (Some what) = Some what
 
 abbrev pub no_message_verdict : Option Event → Option Got
@@ -246,19 +246,19 @@ sent_verdict other = Some got.NoEvent
 abbrev pub lost_verdict : Cause → Option Event → Option Got
 lost_verdict cause (Some (event.Sent host number)) = Some (got.Sent number)
 lost_verdict cause (Some (event.Lost host number why)) =
-    unless (cause_number why == cause_number cause) (got.Lost number why)
+    got_unless (cause_number why == cause_number cause) (got.Lost number why)
 lost_verdict cause other = Some got.NoEvent
 
 abbrev pub seen_verdict : Look → Option Event → Option Got
 seen_verdict how (Some (event.Seen s)) =
-    unless (look_number (look_of s) == look_number how) (got.Seen (look_of s))
+    got_unless (look_number (look_of s) == look_number how) (got.Seen (look_of s))
 seen_verdict how other = Some got.NoSlot
 
 -- how the last slot that ended was seen, and what it carried
 abbrev pub good_verdict : Carried → Option Pattern → List ℕ → Option Carried → Option Got
 good_verdict frame pattern row None = Some (got.Seen look.Good)
 good_verdict frame pattern row (Some f) =
-    unless (same_frame f frame && fits_data pattern row) (got.Frame f row)
+    got_unless (same_frame f frame && fits_data pattern row) (got.Frame f row)
 
 abbrev pub carried_verdict : Carried → Option Pattern → Option Carried → Seen → Option Got
 carried_verdict frame pattern last (Good answer) = good_verdict frame pattern (data_of answer) last
@@ -270,11 +270,11 @@ frame_verdict frame pattern last other = Some got.NoSlot
 
 abbrev pub slot_verdict : ℕ → ℕ → Option Event → Option Got
 slot_verdict table entry (Some (event.Slot t e header)) =
-    unless (t == table && e == entry) (got.Slot t e)
+    got_unless (t == table && e == entry) (got.Slot t e)
 slot_verdict table entry other = Some got.NoSlot
 
 abbrev pub table_verdict : ℕ → ℕ → Option Got
-table_verdict table running = unless (running == table) (got.Table running)
+table_verdict table running = got_unless (running == table) (got.Table running)
 
 abbrev pub newest_reply : List LogEntry → Option Reply
 newest_reply [] = None
@@ -289,11 +289,11 @@ abbrev pub refused_verdict : Refusal → Option Reply → Option Got
 refused_verdict why None = Some got.NoStep
 refused_verdict why (Some (Done es)) = Some got.Done
 refused_verdict why (Some (Refused r)) =
-    unless (refusal_number r == refusal_number why) (got.Refused r)
+    got_unless (refusal_number r == refusal_number why) (got.Refused r)
 
 -- no host has a message that waits, and no node an answer that is noted
 abbrev pub idle_verdict : List Pending → Option Got
-idle_verdict all = unless (length all == 0) (got.StillPending all)
+idle_verdict all = got_unless (length all == 0) (got.StillPending all)
 
 -- given also the table that the schedule opened with, and the answers that are noted
 unfoldable pub verdict : Parts → ℕ → List LogEntry → List Noted → List EventKind → Expected
@@ -301,7 +301,7 @@ unfoldable pub verdict : Parts → ℕ → List LogEntry → List Noted → List
 verdict c opening past noted taken (expected.Signal node signal value) =
     value_verdict (λ v. same_value v value) (value_seen c past node signal)
 verdict c opening past noted taken (expected.SignalMeans node signal text values) =
-    value_verdict (is_among values) (value_seen c past node signal)
+    value_verdict (is_among_values values) (value_seen c past node signal)
 verdict c opening past noted taken (expected.SignalWithin node signal low high) =
     value_verdict (is_within low high) (value_seen c past node signal)
 verdict c opening past noted taken (expected.Waiting host count) = waiting_verdict c past host count
@@ -324,6 +324,6 @@ verdict c opening past noted taken (expected.Slot table entry) = slot_verdict ta
 verdict c opening past noted taken (expected.Table table) = table_verdict table (running_table c opening past)
 verdict c opening past noted taken expected.Done = done_verdict (newest_reply past)
 verdict c opening past noted taken (expected.Refused why) = refused_verdict why (newest_reply past)
-verdict c opening past noted taken expected.Asleep = unless (asleep past) got.Awake
+verdict c opening past noted taken expected.Asleep = got_unless (asleep past) got.Awake
 verdict c opening past noted taken expected.Awake = if asleep past then Some got.Asleep else None
 verdict c opening past noted taken expected.Idle = idle_verdict (pending c past noted)

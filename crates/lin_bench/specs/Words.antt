@@ -16,18 +16,18 @@ use Rattle.lin_frame.specs.declared.value.Value.TheVariants.{Scalar}
 use Rattle.lin_log.specs.Words.{value_word}
 use Rattle.lin_values.specs.Coded.{CodedData, encoding_of}
 use Rattle.lin_values.specs.Raws.{nearest, values_of}
-use Rattle.lin_values.specs.Read.{number_and_unit, spelled}
+use Rattle.lin_values.specs.Read.{number_and_unit, signed_number}
 use Rattle.lin_values.specs.Value.{is_small}
-use Rattle.lin_values.specs.declared.items.PlacedItem.{PlacedItem}
-use Rattle.lin_bench.specs.Fields.{◌>>=◌, all_fields, fields, range_ends, signal_field}
+use Rattle.lin_values.specs.declared.codings.PlacedItem.{PlacedItem}
+use Rattle.lin_bench.specs.Fields.{◌>>=◌, all_fields, line_fields, range_ends, signal_field}
 use Rattle.lin_bench.specs.Hints.{names_hash, texts_in, unit_hint, units_hint, units_in, value_hint, values_hint}
 use Rattle.lin_bench.specs.Lines.{read_line}
 use Rattle.lin_bench.specs.Meant.{values_within}
 use Rattle.lin_bench.specs.LineWords.{fields_text}
 use Rattle.lin_bench.specs.declared.expected.Expected.{Expected}
 use Rattle.lin_bench.specs.declared.expected.Expected.TheVariants as expected
-use Rattle.lin_bench.specs.declared.line.Line.{Line}
-use Rattle.lin_bench.specs.declared.line.Line.TheVariants as lines
+use Rattle.lin_bench.specs.declared.line.ScriptLine.{ScriptLine}
+use Rattle.lin_bench.specs.declared.line.ScriptLine.TheVariants as lines
 use Rattle.lin_bench.specs.declared.reason.Hint.{Hint}
 use Rattle.lin_bench.specs.declared.reason.Reason.{Reason}
 use Rattle.lin_bench.specs.declared.reason.Reason.TheVariants.{NoDecimal, NoWords, NoValue, SeveralValues, NoRange, Unmarked}
@@ -36,11 +36,11 @@ use Rattle.lin_bench.specs.declared.words.Wish.TheVariants.{Write, Nearest, Expe
 
 -- ---- which lines they are
 
-abbrev pub is_mark : List ℕ → Bool
-is_mark f = bytes_eq f (codes "=") || bytes_eq f (codes "~")
+abbrev pub is_value_mark : List ℕ → Bool
+is_value_mark f = bytes_eq f (codes "=") || bytes_eq f (codes "~")
 
 abbrev pub mark_at : List (List ℕ) → Option ℕ
-mark_at fs = position is_mark fs
+mark_at fs = position is_value_mark fs
 
 -- a field counted from the end, 0 the last; no bytes where there is none
 abbrev pub from_end : List (List ℕ) → ℕ → List ℕ
@@ -52,12 +52,12 @@ is_write before =
     bytes_eq (from_end before 0) (codes "write") || bytes_eq (from_end before 1) (codes "write")
 
 -- `expect`, `until` or `while`, `signal` and a node
-abbrev pub asks : List ℕ → Bool
-asks word =
+abbrev pub is_expectation_word : List ℕ → Bool
+is_expectation_word word =
     bytes_eq word (codes "expect") || bytes_eq word (codes "until") || bytes_eq word (codes "while")
 
 abbrev pub is_expect : List (List ℕ) → Bool
-is_expect before = bytes_eq (from_end before 1) (codes "signal") && asks (from_end before 2)
+is_expect before = bytes_eq (from_end before 1) (codes "signal") && is_expectation_word (from_end before 2)
 
 -- what is asked for by the fields before a signal and the mark behind it
 abbrev pub wish_of : List (List ℕ) → List ℕ → Option Wish
@@ -129,7 +129,7 @@ nearest_value k s field text word =
 
 abbrev pub decimal_field : List ℕ → Result ℤ Reason
 decimal_field f =
-    option_map_or (λ z. if is_small z then Ok z else Err (NoDecimal f)) (spelled f) (Err (NoDecimal f))
+    option_map_or (λ z. if is_small z then Ok z else Err (NoDecimal f)) (signed_number f) (Err (NoDecimal f))
 
 abbrev pub decimal_fields : List (List ℕ) → Result (ℤ × List ℕ) Reason
 decimal_fields [] = Err NoWords
@@ -146,8 +146,8 @@ abbrev pub some_between : CodedData → ℕ → List ℕ → List ℕ → ℤ �
 some_between k s field text low high unit =
     some_values (NoValue text field (unit_hint k s unit)) (values_within k s low high unit)
 
-abbrev pub between : CodedData → ℕ → List ℕ → List ℕ → ℤ → ℤ → List ℕ → Result (List Value) Reason
-between k s field text low high unit =
+abbrev pub values_between : CodedData → ℕ → List ℕ → List ℕ → ℤ → ℤ → List ℕ → Result (List Value) Reason
+values_between k s field text low high unit =
     if int_lt high low then Err (NoRange text) else some_between k s field text low high unit
 
 -- the values of a decimal, give or take a tolerance
@@ -156,7 +156,7 @@ abbrev pub around : CodedData → ℕ → List ℕ → List ℕ → List ℕ →
 around k s field text f fs = do
   z ← decimal_field f
   t ← decimal_fields fs
-  between k s field text (z -ℤ t.0) (z +ℤ t.0) t.1
+  values_between k s field text (z -ℤ t.0) (z +ℤ t.0) t.1
 
 -- those from one decimal to another
 abbrev pub from_to : CodedData → ℕ → List ℕ → List ℕ → List ℕ → List (List ℕ)
@@ -164,7 +164,7 @@ abbrev pub from_to : CodedData → ℕ → List ℕ → List ℕ → List ℕ �
 from_to k s field text f fs = do
   low ← decimal_field f
   high ← decimal_fields fs
-  between k s field text low high.0 high.1
+  values_between k s field text low high.0 high.1
 
 -- those with a text, whose first word this is
 abbrev pub by_text : CodedData → ℕ → List ℕ → List ℕ → List ℕ → Result (List Value) Reason
@@ -185,7 +185,7 @@ abbrev pub meant_by : Expected → List ℕ → List Value → Expected
 meant_by (expected.Signal node signal v) text values = expected.SignalMeans node signal text values
 meant_by other text values = other
 
-abbrev pub meant_line : List ℕ → List Value → Option Line → Option Line
+abbrev pub meant_line : List ℕ → List Value → Option ScriptLine → Option ScriptLine
 meant_line text values (Some (lines.Expect e)) = Some (lines.Expect (meant_by e text values))
 meant_line text values (Some (lines.Until s e)) = Some (lines.Until s (meant_by e text values))
 meant_line text values (Some (lines.While s e)) = Some (lines.While s (meant_by e text values))
@@ -199,38 +199,38 @@ in_numbers before signal v = fields_text (before ++ signal ∷ value_word v ∷ 
 
 -- a write of the one value of a text, whose first word this is, and one of the value nearest to it
 unfoldable pub written_line : Parts → CodedData → ℕ → WordedLine → List ℕ → List ℕ → List ℕ
-    → Result (Option Line) Reason
+    → Result (Option ScriptLine) Reason
 written_line c k s w field text word = do
   v ← only_value k s field text word (values_of k s text)
   read_line c (in_numbers w.before w.signal v)
 
 unfoldable pub nearest_line : Parts → CodedData → ℕ → WordedLine → List ℕ → List ℕ → List ℕ
-    → Result (Option Line) Reason
+    → Result (Option ScriptLine) Reason
 nearest_line c k s w field text word = do
   v ← nearest_value k s field text word
   read_line c (in_numbers w.before w.signal v)
 
 -- an expectation of the values that a text says, by what its line says with the value 0
-unfoldable pub expected_line : CodedData → ℕ → List ℕ → List ℕ → List ℕ → List (List ℕ) → Option Line
-    → Result (Option Line) Reason
+unfoldable pub expected_line : CodedData → ℕ → List ℕ → List ℕ → List ℕ → List (List ℕ) → Option ScriptLine
+    → Result (Option ScriptLine) Reason
 expected_line k s field text word ws at_zero =
     expected_values k s field text word ws >>= (λ values. Ok (meant_line text values at_zero))
 
 -- a line that asks for this of a signal, by the first of its words and the others; with the value 0
 -- it says this
-abbrev pub by_wish : Parts → CodedData → WordedLine → Option Line → List ℕ → List ℕ → List ℕ
-    → List (List ℕ) → ℕ → Wish → Result (Option Line) Reason
+abbrev pub by_wish : Parts → CodedData → WordedLine → Option ScriptLine → List ℕ → List ℕ → List ℕ
+    → List (List ℕ) → ℕ → Wish → Result (Option ScriptLine) Reason
 by_wish c k w at_zero field text word ws s Write = written_line c k s w field text word
 by_wish c k w at_zero field text word ws s Nearest = nearest_line c k s w field text word
 by_wish c k w at_zero field text word ws s Expect = expected_line k s field text word ws at_zero
 
-unfoldable pub worded_by : Parts → CodedData → WordedLine → Option Line → List ℕ → List (List ℕ) → ℕ
-    → Result (Option Line) Reason
+unfoldable pub worded_by : Parts → CodedData → WordedLine → Option ScriptLine → List ℕ → List (List ℕ) → ℕ
+    → Result (Option ScriptLine) Reason
 worded_by c k w at_zero word ws s =
     by_wish c k w at_zero w.signal (fields_text w.words) word ws s w.wish
 
-abbrev pub with_words : Parts → CodedData → WordedLine → Option Line → ℕ → List (List ℕ)
-    → Result (Option Line) Reason
+abbrev pub with_words : Parts → CodedData → WordedLine → Option ScriptLine → ℕ → List (List ℕ)
+    → Result (Option ScriptLine) Reason
 with_words c k w at_zero s [] = Err NoWords
 with_words c k w at_zero s (word ∷ ws) = worded_by c k w at_zero word ws s
 
@@ -242,15 +242,15 @@ without_comment w l = record w { words = drop (length w.before + 2) (all_fields 
 abbrev pub with_hash : CodedData → ℕ → WordedLine → List ℕ → WordedLine
 with_hash k s w l = if names_hash k s then without_comment w l else w
 
-abbrev pub with_signal : Parts → CodedData → WordedLine → Option Line → ℕ → Result (Option Line) Reason
-with_signal c k w at_zero s = with_words c k w at_zero s w.words
+abbrev pub line_with_signal : Parts → CodedData → WordedLine → Option ScriptLine → ℕ → Result (Option ScriptLine) Reason
+line_with_signal c k w at_zero s = with_words c k w at_zero s w.words
 
 -- all fields before the words are judged as those of a line with a raw value are, and then the words
-unfoldable pub worded_line : Parts → CodedData → WordedLine → List ℕ → Result (Option Line) Reason
+unfoldable pub worded_line : Parts → CodedData → WordedLine → List ℕ → Result (Option ScriptLine) Reason
 worded_line c k w l = do
   at_zero ← read_line c (in_numbers w.before w.signal (Scalar 0))
   s ← signal_field c w.signal
-  with_signal c k (with_hash k s w l) at_zero s
+  line_with_signal c k (with_hash k s w l) at_zero s
 
 -- ---- lines without words: why one is bad in which `=` is missing
 
@@ -268,18 +268,18 @@ begins_hex f = slice_index f 0 == 48 && slice_index f 1 == 120
 abbrev pub is_raw : List ℕ → Bool
 is_raw f = list_all is_ascii_digit f || (begins_hex f || is_array_word f)
 
-abbrev pub is_numeric : List (List ℕ) → Bool
-is_numeric (f ∷ []) = is_raw f || is_some (range_ends f)
-is_numeric fs = false
+abbrev pub is_number_or_range : List (List ℕ) → Bool
+is_number_or_range (f ∷ []) = is_raw f || is_some (range_ends f)
+is_number_or_range fs = false
 
 -- whether a line is good
-abbrev pub is_good : Result (Option Line) Reason → Bool
-is_good (Ok l) = true
-is_good (Err why) = false
+abbrev pub is_good_line : Result (Option ScriptLine) Reason → Bool
+is_good_line (Ok l) = true
+is_good_line (Err why) = false
 
 -- whether a line with the value 0 after a signal is good
 abbrev pub reads_zero : Parts → List (List ℕ) → List ℕ → Bool
-reads_zero c before signal = is_good (read_line c (in_numbers before signal (Scalar 0)))
+reads_zero c before signal = is_good_line (read_line c (in_numbers before signal (Scalar 0)))
 
 -- whether a field is a signal with its value after it, by the fields before it
 abbrev pub asks_value : List (List ℕ) → Bool
@@ -298,8 +298,8 @@ last_signal c fs (suc i) = if is_signal c fs (suc i) then Some (suc i) else last
 
 -- a signal is looked for after at most eight fields: `every N ms PORT write NODE` has six before it,
 -- `slots N ms leave NODE until signal NODE` eight
-abbrev pub signal_at : Parts → List (List ℕ) → Option ℕ
-signal_at c fs = last_signal c fs (min (length fs - 2) 8)
+abbrev pub signal_in_fields : Parts → List (List ℕ) → Option ℕ
+signal_in_fields c fs = last_signal c fs (min (length fs - 2) 8)
 
 -- for a number the units, if the signal has some; else the texts, or the units
 abbrev pub missing_hint : CodedData → ℕ → List PlacedItem → List ℕ → Hint
@@ -308,11 +308,11 @@ missing_hint k s ps text =
     else values_hint (units_in ps) (texts_in k s ps)
 
 -- that `=` is missing before a value, if the signal has an encoding
-abbrev pub unmarked : CodedData → ℕ → Bool → List (List ℕ) → List PlacedItem → Reason
-unmarked k s ranged value ps = Unmarked value ranged (missing_hint k s ps (fields_text value))
+abbrev pub unmarked_reason : CodedData → ℕ → Bool → List (List ℕ) → List PlacedItem → Reason
+unmarked_reason k s ranged value ps = Unmarked value ranged (missing_hint k s ps (fields_text value))
 
 abbrev pub why_coded : CodedData → ℕ → Bool → List (List ℕ) → Option Reason
-why_coded k s ranged value = option_map (λ t. unmarked k s ranged value t.items) (encoding_of k s)
+why_coded k s ranged value = option_map (λ t. unmarked_reason k s ranged value t.items) (encoding_of k s)
 
 abbrev pub why_signal : CodedData → Result ℕ Reason → Bool → List (List ℕ) → Option Reason
 why_signal k (Ok s) ranged value = why_coded k s ranged value
@@ -320,14 +320,14 @@ why_signal k (Err other) ranged value = None
 
 abbrev pub why_value : CodedData → Result ℕ Reason → Bool → List (List ℕ) → Option Reason
 why_value k signal ranged value =
-    if is_numeric value then None else why_signal k signal ranged value
+    if is_number_or_range value then None else why_signal k signal ranged value
 
 abbrev pub why_at : Parts → CodedData → List (List ℕ) → ℕ → Option Reason
 why_at c k fs i =
     why_value k (signal_field c (slice_index_or fs i [])) (is_expect (take i fs)) (drop (i + 1) fs)
 
 abbrev pub why_unmarked : Parts → CodedData → List (List ℕ) → Option Reason
-why_unmarked c k fs = option_and_then (why_at c k fs) (signal_at c fs)
+why_unmarked c k fs = option_and_then (why_at c k fs) (signal_in_fields c fs)
 
 abbrev pub or_this : Option Reason → Reason → Reason
 or_this None why = why
@@ -335,19 +335,19 @@ or_this (Some better) why = better
 
 -- what a line without words says, by what it says where what signals mean isn't known: that `=` is
 -- missing, or else why the line is bad there
-abbrev pub or_unmarked : Parts → CodedData → List (List ℕ) → Result (Option Line) Reason
-    → Result (Option Line) Reason
+abbrev pub or_unmarked : Parts → CodedData → List (List ℕ) → Result (Option ScriptLine) Reason
+    → Result (Option ScriptLine) Reason
 or_unmarked c k fs (Ok l) = Ok l
 or_unmarked c k fs (Err why) = Err (or_this (why_unmarked c k fs) why)
 
 -- ---- all lines
 
-abbrev pub worded_or_plain : Parts → CodedData → List ℕ → Option WordedLine → Result (Option Line) Reason
-worded_or_plain c k l None = or_unmarked c k (fields l) (read_line c l)
+abbrev pub worded_or_plain : Parts → CodedData → List ℕ → Option WordedLine → Result (Option ScriptLine) Reason
+worded_or_plain c k l None = or_unmarked c k (line_fields l) (read_line c l)
 worded_or_plain c k l (Some w) = worded_line c k w l
 
 -- what a line of a bench script says, where what signals mean is known, or isn't
-unfoldable pub read_worded_line : Parts → Option CodedData → List ℕ → Result (Option Line) Reason
+unfoldable pub read_worded_line : Parts → Option CodedData → List ℕ → Result (Option ScriptLine) Reason
 read_worded_line c None l = read_line c l
 read_worded_line c (Some k) l =
-    if slice_index l 0 == 62 then Ok None else worded_or_plain c k l (worded (fields l))
+    if slice_index l 0 == 62 then Ok None else worded_or_plain c k l (worded (line_fields l))

@@ -6,12 +6,12 @@ ghost use Rattle.std.specs.Cmp.Lexicographic.{pointwise};
 ghost use Rattle.std.specs.List.{list_all};
 ghost use Rattle.std.specs.Option.{option_copied};
 ghost use Rattle.lin_parts.specs.Cluster.{nodes};
-ghost use Rattle.lin_bench.specs.Rules.{all_noted, answer_bytes, fits, fits_byte, has_length, noted_with, notes};
+ghost use Rattle.lin_bench.specs.Rules.{all_noted, answer_bytes, fits, fits_byte, has_length, noted_with, noted_answers};
 ghost use Rattle.lin_bench.specs.Rules.{notes_for, part_byte, rule_for, same_byte, same_pattern};
 ghost use Rattle.lin_bench.specs.Rules.{data_by, request_byte, request_of, service_answer};
 ghost use Rattle.lin_bench.specs.Rules.{service_data, service_notes, whens_with};
 
-use crate::rules::{Answer, Noted, Part, Pattern, When};
+use crate::rules::{Noted, Part, Pattern, RuleAnswer, When};
 use lin_core::{Event, Payload};
 use lin_parts::{Cluster, Identity};
 use lin_text::Many;
@@ -109,11 +109,11 @@ fn note_answers(
     time: u128,
     node: u8,
     message: &[u8],
-    answers: &[Answer],
+    answers: &[RuleAnswer],
 ) -> Result<(), AllocError>
     requires { time < 2 ^ 64 }
     ensures { OnOk result
-        (noted.new ≡ all_noted noted.old (notes time node message.now answers.now)) }
+        (noted.new ≡ all_noted noted.old (noted_answers time node message.now answers.now)) }
 {
     let mut at = time;
     for answer in answers {

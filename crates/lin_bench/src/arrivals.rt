@@ -7,13 +7,13 @@ ghost use Rattle.std.specs.Option.{unwrap_or};
 ghost use Rattle.lin_parts.specs.declared.parts.Parts.{Parts};
 ghost use Rattle.lin_core.specs.History.{Slot, did, events, is_finish, slot_after_event, slot_after_events, time};
 ghost use Rattle.lin_core.specs.declared.log.LogEntry.{LogEntry};
-ghost use Rattle.lin_bench.specs.Arrivals.{precedes, place_of, slot_left, time_left, whole};
+ghost use Rattle.lin_bench.specs.Arrivals.{precedes, entry_place, slot_left, time_left, whole};
 ghost use Rattle.lin_bench.specs.Searches.{before};
 ghost use Rattle.lin_bench.specs.Verdicts.{last_time, times_taken};
 
 use crate::expected::Since;
 use crate::replies::{is_done, is_finish};
-use crate::taken::{EventKind, Place, events_of, skipped};
+use crate::taken::{EventKind, LogPlace, events_of, skipped};
 use lin_core::{Event, Log, LogEntry, Step};
 use lin_parts::Cluster;
 
@@ -30,7 +30,7 @@ struct Walk {
 
 /// The table and the entry that an event tells.
 fn place_in(event: &Event) -> Option<(u16, u16)>
-    ensures { (s : Slot) → place_of (slot_after_event event.now s) ≡ unwrap_or result (place_of s) }
+    ensures { (s : Slot) → entry_place (slot_after_event event.now s) ≡ unwrap_or result (entry_place s) }
 {
     match event {
         Event::Slot { table, entry, .. } => Some((*table, *entry)),
@@ -40,7 +40,7 @@ fn place_in(event: &Event) -> Option<(u16, u16)>
 
 /// The table and the entry that the last one of events tells, if one does.
 fn place_told(events: &[Event]) -> Option<(u16, u16)>
-    ensures { (s : Slot) → place_of (slot_after_events events.now s) ≡ unwrap_or result (place_of s) }
+    ensures { (s : Slot) → entry_place (slot_after_events events.now s) ≡ unwrap_or result (entry_place s) }
 {
     let mut told = None;
     for event in events {
@@ -51,13 +51,13 @@ fn place_told(events: &[Event]) -> Option<(u16, u16)>
 
 /// The earlier messages from which the time of a message from one host to another counts.
 #[derive(Clone, Copy)]
-pub(crate) struct Earlier {
+pub(crate) struct EarlierMessages {
     pub(crate) since: Since,
     pub(crate) from: u8,
     pub(crate) to: u8,
 }
 
-impl Earlier {
+impl EarlierMessages {
     /// Whether an event is one of them.
     fn has(self, event: &Event) -> bool
         ensures { result ≡ precedes self event.now }
@@ -80,7 +80,7 @@ impl Earlier {
 }
 
 /// Whether an entry tells of one of the earlier messages.
-fn tells(entry: &LogEntry, earlier: Earlier) -> bool
+fn tells(entry: &LogEntry, earlier: EarlierMessages) -> bool
     ensures { result ≡ list_any (precedes earlier) (events entry.now) }
 {
     events_of(entry).iter().any(|event| earlier.has(event))
@@ -146,7 +146,7 @@ impl Walk {
     }
 
     /// The walk after an entry more, as far as the earlier messages are concerned.
-    fn meet_request(self, earlier: Earlier, entry: &LogEntry) -> Walk
+    fn meet_request(self, earlier: EarlierMessages, entry: &LogEntry) -> Walk
         requires { did is_finish entry.now ≡ true → self.finishes ≡ false }
         ensures whole { (c : Parts) → (past : List LogEntry) → whole c (precedes earlier) result past
             ≡ self.time + (slot_left c self past + time_left c (precedes earlier) self (entry.now ∷ past)) }
@@ -172,7 +172,7 @@ impl Walk {
     }
 
     /// The walk after an entry more.
-    fn back(self, cluster: &Cluster, earlier: Earlier, entry: &LogEntry) -> Walk
+    fn back(self, cluster: &Cluster, earlier: EarlierMessages, entry: &LogEntry) -> Walk
         requires { self.time < 2 ^ 63 }
         ensures whole { (past : List LogEntry) → whole cluster.now (precedes earlier) result past
             ≡ whole cluster.now (precedes earlier) self (entry.now ∷ past) }
@@ -183,7 +183,7 @@ impl Walk {
 }
 
 /// How long the last earlier message before an entry was ago when it came, in microseconds.
-fn time_since(cluster: &Cluster, log: &Log, earlier: Earlier, index: usize) -> u64
+fn time_since(cluster: &Cluster, log: &Log, earlier: EarlierMessages, index: usize) -> u64
     requires within { index < length log.now.entries }
     requires few { index < 2 ^ 32 }
     ensures { (e : LogEntry) → e ≡ get_or log.now.entries index e
@@ -204,9 +204,9 @@ fn time_since(cluster: &Cluster, log: &Log, earlier: Earlier, index: usize) -> u
 pub(crate) fn time_taken(
     cluster: &Cluster,
     log: &Log,
-    earlier: Earlier,
+    earlier: EarlierMessages,
     answer: EventKind,
-    from: Place,
+    from: LogPlace,
 ) -> u64
     requires { from.entry ≤ length log.now.entries }
     ensures { result ≡ slice_index

@@ -5,7 +5,7 @@ ghost use Rattle.lin_bench.specs.Bench.{early_end};
 ghost use Rattle.lin_core.specs.Core.{past_of};
 ghost use Rattle.lin_bench.specs.Made.{expected_after, met_or};
 ghost use Rattle.lin_bench.specs.Making.{ending_of};
-ghost use Rattle.lin_bench.specs.Searches.{IsKnown, taken_by};
+ghost use Rattle.lin_bench.specs.Searches.{IsSearchState, taken_by};
 ghost use Rattle.lin_bench.specs.Slots.{pending};
 ghost use Rattle.lin_bench.specs.Verdicts.{kind_taken, taking, verdict};
 ghost use Rattle.lin_bench.specs.declared.line.Disturbance.{Disturbance};
@@ -13,10 +13,10 @@ ghost use Rattle.lin_bench.specs.declared.line.Disturbance.{Disturbance};
 use crate::expected::Expected;
 use crate::fault::MakeFault;
 use crate::got::{Pending, Verdict};
-use crate::line::{Disturbance, Extent, Line, Slots};
+use crate::line::{Disturbance, Extent, ScriptLine, Slots};
 use crate::ruled::{RuledCore, pending};
-use crate::slots::{Ending, SLOT_LIMIT, slots};
-use crate::taken::{Cleared, Taken};
+use crate::slot_runs::{Ending, SLOT_LIMIT, slots};
+use crate::taken::{Cleared, TakenEvents};
 use crate::verdicts::verdict;
 use lin_core::Core;
 use std::alloc::{AllocError, Global};
@@ -28,7 +28,7 @@ use std::marker::Model;
 #[derive(Drop)]
 pub struct Bench {
     ruled: RuledCore,
-    taken: Taken,
+    taken: TakenEvents,
     left: u32,
 }
 
@@ -46,16 +46,16 @@ impl Model for Bench {
 fn judge(
     alloc: Global,
     ruled: &RuledCore,
-    taken: &mut Taken,
+    taken: &mut TakenEvents,
     expected: Expected,
 ) -> Result<Verdict, AllocError>
-    requires { IsKnown ruled.now.core.log taken.old }
+    requires { IsSearchState ruled.now.core.log taken.old }
     ensures verdict { IfOk result (λ v. v ≡ met_or expected
         (verdict ruled.now.core.cluster ruled.now.core.opening (past_of ruled.now.core)
         ruled.now.rules.noted (taken_by ruled.now.core.log taken.old) expected)) }
     ensures taken { OnOk result (taken_by ruled.now.core.log taken.new ≡ taking
         (past_of ruled.now.core) (taken_by ruled.now.core.log taken.old) (kind_taken expected)) }
-    ensures known { IsKnown ruled.now.core.log taken.new }
+    ensures known { IsSearchState ruled.now.core.log taken.new }
 {
     match verdict(alloc, ruled, taken, &expected)? {
         None => Ok(Verdict::Met(expected)),
@@ -99,18 +99,18 @@ fn early_end(early: Early, expected: &Option<Expected>) -> Option<Ending<'_>>
 }
 
 impl Bench {
-    ghost use Rattle.lin_bench.specs.Bench.{Judges, Makes, MakesLine, forgotten, fresh, made_early};
-    ghost use Rattle.lin_bench.specs.Bench.{renewed};
+    ghost use Rattle.lin_bench.specs.Bench.{GivesVerdict, MakesBench, MakesLine, forgotten, new_bench, made_early};
+    ghost use Rattle.lin_bench.specs.Bench.{with_all_slots};
 
     /// A bench over a core with an empty log, on which no rule is in force. Its lines of slots may
     /// make 1,000,000 slots.
     pub fn new(alloc: Global, core: Core) -> Bench
         requires { core.log ≡ [] }
-        ensures { result ≡ fresh core }
+        ensures { result ≡ new_bench core }
     {
         Bench {
             ruled: RuledCore::new(alloc, core),
-            taken: Taken {
+            taken: TakenEvents {
                 forgotten: 0,
                 searches: Vec::new(alloc),
                 cleared: Cleared::of(0),
@@ -145,14 +145,14 @@ impl Bench {
 
     /// Lets the lines from now on make 1,000,000 slots, whatever those before made.
     pub fn renew_slots(&mut self)
-        ensures { self.new ≡ renewed self.old }
+        ensures { self.new ≡ with_all_slots self.old }
     {
         self.left = SLOT_LIMIT;
     }
 
     /// Judges what is expected, if something is.
     fn judge(&mut self, alloc: Global, expected: Option<Expected>) -> Result<Verdict, MakeFault>
-        ensures { Judges self.old expected result self.new }
+        ensures { GivesVerdict self.old expected result self.new }
     {
         match expected {
             None => Ok(Verdict::Nothing),
@@ -165,7 +165,7 @@ impl Bench {
         ensures { self.new ≡ forgotten self.old }
     {
         let entries = self.core().log().len();
-        self.taken = Taken {
+        self.taken = TakenEvents {
             forgotten: entries,
             searches: Vec::new(alloc),
             cleared: Cleared::of(entries),
@@ -181,7 +181,7 @@ impl Bench {
         expected: Option<Expected>,
         early: Early,
     ) -> Result<Verdict, MakeFault>
-        ensures { Makes (made_early self.old how.now extent early expected) self.old result self.new }
+        ensures { MakesBench (made_early self.old how.now extent early expected) self.old result self.new }
     {
         let ending = early_end(early, &expected);
         match slots(
@@ -212,7 +212,7 @@ impl Bench {
         expected: Option<Expected>,
         early: Early,
     ) -> Result<Verdict, MakeFault>
-        ensures { Makes (made_early self.old (Disturbance.Leave slots.leave) slots.extent early expected)
+        ensures { MakesBench (made_early self.old (Disturbance.Leave slots.leave) slots.extent early expected)
             self.old result self.new }
     {
         let Slots { extent, leave } = slots;
@@ -229,31 +229,31 @@ impl Bench {
     /// - `LogFull`: the line's steps are more than fit;
     /// - `OutOfMemory`.
     #[tactic(auto, unfolding(crate::specs::Made::made, crate::specs::Made::said))]
-    pub fn make(&mut self, alloc: Global, line: Line) -> Result<Verdict, MakeFault>
+    pub fn make(&mut self, alloc: Global, line: ScriptLine) -> Result<Verdict, MakeFault>
         ensures { MakesLine self.old line result self.new }
     {
         match line {
-            Line::Step(by, step) => {
+            ScriptLine::Step(by, step) => {
                 self.ruled.make(alloc, by, step)?;
                 Ok(Verdict::Nothing)
             }
-            Line::Slot(how) => self.slots(alloc, &how, Extent::Count(1), None, Early::Never),
-            Line::Slots(slots) => {
+            ScriptLine::Slot(how) => self.slots(alloc, &how, Extent::Count(1), None, Early::Never),
+            ScriptLine::Slots(slots) => {
                 let expected = expected_after(slots.extent);
                 self.line_of_slots(alloc, slots, expected, Early::Never)
             }
-            Line::Until(slots, expected) => {
+            ScriptLine::Until(slots, expected) => {
                 self.line_of_slots(alloc, slots, Some(expected), Early::Until)
             }
-            Line::While(slots, expected) => {
+            ScriptLine::While(slots, expected) => {
                 self.line_of_slots(alloc, slots, Some(expected), Early::While)
             }
-            Line::Expect(expected) => self.judge(alloc, Some(expected)),
-            Line::Forget => {
+            ScriptLine::Expect(expected) => self.judge(alloc, Some(expected)),
+            ScriptLine::Forget => {
                 self.forget(alloc);
                 Ok(Verdict::Nothing)
             }
-            Line::Rule(rule) => {
+            ScriptLine::Rule(rule) => {
                 self.ruled.rule(alloc, rule)?;
                 Ok(Verdict::Nothing)
             }

@@ -6,8 +6,8 @@ ghost use Rattle.lin_parts.specs.Cluster.{frame_of, line_of};
 ghost use Rattle.lin_parts.specs.Rules.{IsEntry};
 ghost use Rattle.lin_core.specs.History.{Slot, did, is_finish, no_slot, slot_after_event, slot_after_events};
 ghost use Rattle.lin_core.specs.declared.log.LogEntry.{LogEntry};
-ghost use Rattle.lin_bench.specs.Carried.{EndsAt, IsKept, is_open, shape, shape_in};
-ghost use Rattle.lin_bench.specs.Verdicts.{carried, last_carried};
+ghost use Rattle.lin_bench.specs.Carried.{EndsAt, KeepsOpenSlot, is_open_step, shape, shape_in};
+ghost use Rattle.lin_bench.specs.Verdicts.{carried_by_slot, last_carried};
 ghost use Rattle.lin_core.specs.Signals.{carried_by};
 
 use crate::expected::Carried;
@@ -97,10 +97,10 @@ fn follow(
     slot: Option<OpenSlot>,
     entry: &LogEntry,
 ) -> Result<Option<OpenSlot>, AllocError>
-    ensures kept { IfOk result (λ o. (past : List LogEntry) → IsKept slot past
-        → IsKept o (entry.now ∷ past)) }
-    ensures anew { IfOk result (λ o. did is_open entry.now ≡ true → (past : List LogEntry)
-        → IsKept o (entry.now ∷ past)) }
+    ensures kept { IfOk result (λ o. (past : List LogEntry) → KeepsOpenSlot slot past
+        → KeepsOpenSlot o (entry.now ∷ past)) }
+    ensures anew { IfOk result (λ o. did is_open_step entry.now ≡ true → (past : List LogEntry)
+        → KeepsOpenSlot o (entry.now ∷ past)) }
 {
     if !is_done(entry) {
         return Ok(slot);
@@ -121,10 +121,10 @@ fn walk(
     start: usize,
     end: usize,
 ) -> Result<Option<OpenSlot>, AllocError>
-    requires kept { IsKept slot (reverse (take start log.now.entries)) }
+    requires kept { KeepsOpenSlot slot (reverse (take start log.now.entries)) }
     requires order { start ≤ end }
     requires within { end ≤ length log.now.entries }
-    ensures { IfOk result (λ o. IsKept o (reverse (take end log.now.entries))) }
+    ensures { IfOk result (λ o. KeepsOpenSlot o (reverse (take end log.now.entries))) }
 {
     let mut slot = slot;
     for index in start..end {
@@ -135,7 +135,7 @@ fn walk(
 
 /// Whether an entry opened a slot.
 fn opens(entry: &LogEntry) -> bool
-    ensures { result ≡ did is_open entry.now }
+    ensures { result ≡ did is_open_step entry.now }
 {
     is_done(entry) && matches!(entry.step, Step::Open)
 }
@@ -152,7 +152,7 @@ fn last_open(log: &Log, end: usize) -> Option<usize>
     requires { end ≤ length log.now.entries }
     ensures within { IfSome result (λ i. i < end) }
     ensures opens { IfSome result (λ i. (e : LogEntry)
-        → did is_open (slice_index_or log.now.entries i e) ≡ true) }
+        → did is_open_step (slice_index_or log.now.entries i e) ≡ true) }
 {
     let mut left = end;
     while left > 0 {
@@ -171,7 +171,7 @@ pub(crate) fn open_after(
     end: usize,
 ) -> Result<Option<OpenSlot>, AllocError>
     requires { end ≤ length log.now.entries }
-    ensures { IfOk result (λ o. IsKept o (reverse (take end log.now.entries))) }
+    ensures { IfOk result (λ o. KeepsOpenSlot o (reverse (take end log.now.entries))) }
 {
     match last_open(log, end) {
         None => walk(alloc, log, None, 0, end),
@@ -249,7 +249,7 @@ pub(crate) fn signals_in(cluster: &Cluster, slot: &OpenSlot, entry: Entry) -> Op
 
 /// The frame that a slot carries.
 fn carried(cluster: &Cluster, slot: &OpenSlot) -> Option<Carried>
-    ensures { (s : Slot) → shape_in slot.now ≡ shape s → result ≡ carried cluster.now s }
+    ensures { (s : Slot) → shape_in slot.now ≡ shape s → result ≡ carried_by_slot cluster.now s }
 {
     match entry_at(cluster, slot.table, slot.entry) {
         Entry::MasterReq | Entry::Fixed(_) => Some(Carried::Request),

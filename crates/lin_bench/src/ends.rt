@@ -8,7 +8,7 @@ ghost use Rattle.lin_core.specs.History.{Slot, good, header_and_first};
 ghost use Rattle.lin_core.specs.declared.link.Direction.TheVariants.{Down, Up};
 ghost use Rattle.lin_core.specs.declared.port.PortId.{PortId};
 ghost use Rattle.lin_transport.specs.Transport.{looks_at};
-ghost use Rattle.lin_bench.specs.Adding.{AreEnds, IsAfterFinish, IsHeard, end_of};
+ghost use Rattle.lin_bench.specs.Adding.{AreEnds, IsAfterFinish, AreHeardTimes, end_of};
 
 use crate::replies::{first_byte, good_bytes};
 use lin_core::{Core, Direction, MASTER_REQUEST, NODES, SLAVE_RESPONSE};
@@ -71,10 +71,10 @@ impl Ends {
     )
         ensures down { (s : Slot) → s.service ≡ false → good s ≡ Some bytes.now
             → header_and_first s ≡ (header, node)
-            → IsHeard cluster.now time s Down self.old.downs self.new.downs }
+            → AreHeardTimes cluster.now time s Down self.old.downs self.new.downs }
         ensures up { (s : Slot) → s.service ≡ false → good s ≡ Some bytes.now
             → header_and_first s ≡ (header, node)
-            → IsHeard cluster.now time s Up self.old.ups self.new.ups }
+            → AreHeardTimes cluster.now time s Up self.old.ups self.new.ups }
     {
         match (header, node) {
             (Some(MASTER_REQUEST), _) => {

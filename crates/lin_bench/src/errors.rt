@@ -14,8 +14,8 @@ ghost use Rattle.lin_core.specs.declared.port.PortId.{PortId};
 ghost use Rattle.lin_core.specs.declared.step.Step.TheVariants.{Finish};
 ghost use Rattle.lin_bench.specs.Adding.{HasFinished, damaged_in, good_in};
 ghost use Rattle.lin_bench.specs.Carried.{shape, shape_in};
-ghost use Rattle.lin_bench.specs.Errors.{concerns, ended, error_told, errors_told, is_damaged_seen};
-ghost use Rattle.lin_bench.specs.Errors.{is_number, is_told, set_after, set_to, write_of};
+ghost use Rattle.lin_bench.specs.Errors.{concerns, ended_slot, error_told, errors_told, is_damaged_seen};
+ghost use Rattle.lin_bench.specs.Errors.{equals_scalar, reports_error, set_after, set_to, error_write};
 
 use crate::carried::{OpenSlot, entry_at, has, open_after, signals_in};
 use crate::replies::{good_bytes, is_damaged};
@@ -27,7 +27,7 @@ use std::alloc::{AllocError, Global};
 
 /// What of a slot that has ended decides which errors are told.
 #[derive(Drop)]
-pub(crate) struct Ended {
+pub(crate) struct EndedSlot {
     /// Whether its response was seen damaged, and was no answer to an event-triggered header.
     pub has_error: bool,
     pub is_good: bool,
@@ -48,14 +48,14 @@ fn is_event(entry: Entry) -> bool
 }
 
 /// What is known of a slot that was open before an entry that finished it.
-fn ended_by(cluster: &Cluster, slot: OpenSlot, finish: &LogEntry) -> Ended
+fn ended_by(cluster: &Cluster, slot: OpenSlot, finish: &LogEntry) -> EndedSlot
     ensures { (s : Slot) → shape_in slot ≡ shape s → good_in (events finish.now) ≡ good s
         → damaged_in (events finish.now) ≡ is_damaged_seen (seen_of s)
-        → result ≡ ended cluster.now s }
+        → result ≡ ended_slot cluster.now s }
 {
     let entry = entry_at(cluster, slot.table, slot.entry);
     let frame = signals_in(cluster, &slot, entry);
-    Ended {
+    EndedSlot {
         has_error: is_damaged(finish) && !is_event(entry),
         is_good: good_bytes(finish).is_some(),
         header: slot.header,
@@ -66,10 +66,10 @@ fn ended_by(cluster: &Cluster, slot: OpenSlot, finish: &LogEntry) -> Ended
 
 /// The slot that the newest entry of a core finished. It costs as many steps as entries stand in
 /// the log since the slot was opened.
-fn last_ended(alloc: Global, core: &Core) -> Result<Option<Ended>, AllocError>
+fn last_ended(alloc: Global, core: &Core) -> Result<Option<EndedSlot>, AllocError>
     requires { 0 < length core.now.log }
     ensures { IfOk result (λ o. (by : PortId) → (past : List LogEntry) → (s : Slot)
-        → HasFinished core.now by past s → o ≡ Some (ended core.now.cluster s)) }
+        → HasFinished core.now by past s → o ≡ Some (ended_slot core.now.cluster s)) }
 {
     let log = core.log();
     match open_after(alloc, log, log.len() - 1)? {
@@ -78,7 +78,7 @@ fn last_ended(alloc: Global, core: &Core) -> Result<Option<Ended>, AllocError>
     }
 }
 
-fn has_header(ended: &Ended, header: u8) -> bool
+fn has_header(ended: &EndedSlot, header: u8) -> bool
     ensures { result ≡ header_is header ended.now.header }
 {
     match ended.header {
@@ -93,7 +93,7 @@ fn is_among(numbers: &[u16], number: u16) -> bool
     numbers.iter().any(|other| *other == number)
 }
 
-fn concerns(cluster: &Cluster, ended: &Ended, signal: &ErrorSignal) -> bool
+fn concerns(cluster: &Cluster, ended: &EndedSlot, signal: &ErrorSignal) -> bool
     requires { signal.now.node < nodes cluster.now }
     ensures { result ≡ concerns cluster.now ended.now signal.now }
 {
@@ -119,7 +119,7 @@ fn has_signal(cluster: &Cluster, signal: u16, frame: u16) -> bool
     }
 }
 
-fn carries(cluster: &Cluster, ended: &Ended, signal: u16) -> bool
+fn carries(cluster: &Cluster, ended: &EndedSlot, signal: u16) -> bool
     ensures { result ≡ option_map_or (has_signal cluster.now signal) ended.now.frame false }
 {
     match ended.frame {
@@ -129,7 +129,7 @@ fn carries(cluster: &Cluster, ended: &Ended, signal: u16) -> bool
 }
 
 fn is_number(number: u16, value: Value) -> bool
-    ensures { result ≡ is_number number value }
+    ensures { result ≡ equals_scalar number value }
 {
     match value {
         Value::Scalar(own) => own == number,
@@ -163,9 +163,9 @@ fn heard(core: &Core, signal: &ErrorSignal) -> Value
     core.signal(0, signal.signal)
 }
 
-fn is_told(core: &Core, ended: &Ended, signal: &ErrorSignal) -> bool
+fn is_told(core: &Core, ended: &EndedSlot, signal: &ErrorSignal) -> bool
     requires { IsErrorSignal core.now.cluster signal.now }
-    ensures { result ≡ is_told core.now.cluster (past_of core.now) ended.now signal.now }
+    ensures { result ≡ reports_error core.now.cluster (past_of core.now) ended.now signal.now }
 {
     ended.is_good
         && carries(core.cluster(), ended, signal.signal)
@@ -173,7 +173,7 @@ fn is_told(core: &Core, ended: &Ended, signal: &ErrorSignal) -> bool
 }
 
 /// What a signal is set to after a slot.
-fn set_after(core: &Core, ended: &Ended, signal: &ErrorSignal) -> Option<u16>
+fn set_after(core: &Core, ended: &EndedSlot, signal: &ErrorSignal) -> Option<u16>
     requires { IsErrorSignal core.now.cluster signal.now }
     ensures { result ≡ set_after core.now.cluster (past_of core.now) ended.now signal.now }
 {
@@ -187,7 +187,7 @@ fn set_after(core: &Core, ended: &Ended, signal: &ErrorSignal) -> Option<u16>
 }
 
 fn write_of(signal: &ErrorSignal, number: u16) -> (PortId, Step)
-    ensures { result ≡ write_of signal.now number }
+    ensures { result ≡ error_write signal.now number }
 {
     let step = Step::Write {
         by: signal.node,
@@ -198,7 +198,11 @@ fn write_of(signal: &ErrorSignal, number: u16) -> (PortId, Step)
 }
 
 /// Adds the writes by which responders tell what they know of a slot.
-fn add_writes(core: &Core, ended: &Ended, steps: &mut Vec<(PortId, Step)>) -> Result<(), AllocError>
+fn add_writes(
+    core: &Core,
+    ended: &EndedSlot,
+    steps: &mut Vec<(PortId, Step)>,
+) -> Result<(), AllocError>
     ensures { OnOk result (steps.new.items ≡ steps.old.items ++ filter_map
         (error_told core.now.cluster (past_of core.now) ended.now) core.now.cluster.errors) }
 {

@@ -3,12 +3,12 @@
 ghost use Rattle.std.specs.Prelude.{◌≡◌, ◌<◌, ◌&&◌, IfOk, codes, length, option_map};
 ghost use Rattle.std.specs.Str.{bytes_eq};
 ghost use Rattle.lin_bench.specs.Expectations.{before_last, data_length, data_pattern, entry_field, expectation, frame_form, lone_form};
-ghost use Rattle.lin_bench.specs.Expectations.{loss_of, lost_form, pattern_form, rows_and_limit};
-ghost use Rattle.lin_bench.specs.Expectations.{message_form, no_form, no_lost_form, no_message_form, signal_value};
+ghost use Rattle.lin_bench.specs.Expectations.{loss_expectation, lost_form, pattern_form, rows_and_limit};
+ghost use Rattle.lin_bench.specs.Expectations.{message_form, no_form, no_lost_form, no_message_form, signal_expectation};
 ghost use Rattle.lin_bench.specs.Expectations.{refusal_field, refused_form, seen_form, sent_form};
 ghost use Rattle.lin_bench.specs.Expectations.{passes, signal_form, slot_form, table_form, until_form, waiting_form, while_form};
 ghost use Rattle.lin_bench.specs.Expectations.{word_expectation};
-ghost use Rattle.lin_bench.specs.Fields.{fields, range_ends, words};
+ghost use Rattle.lin_bench.specs.Fields.{line_fields, range_ends, field_texts};
 ghost use Rattle.lin_bench.specs.Read.{Gives};
 ghost use Rattle.lin_bench.specs.declared.fault.LineFault.{LineFault};
 ghost use Rattle.lin_bench.specs.declared.reason.Reason.{Reason};
@@ -49,7 +49,7 @@ fn refusal_field(alloc: Global, field: &[u8]) -> Result<Refusal, LineFault>
 /// There is no form of these fields after `expect`.
 fn no_form(alloc: Global, cluster: &Cluster, all: &[u8]) -> Result<LineFault, AllocError>
     ensures { IfOk result
-        (λ fault. fault ≡ LineFault.Bad (Reason.UnknownExpectation (fields all.now))) }
+        (λ fault. fault ≡ LineFault.Bad (Reason.UnknownExpectation (line_fields all.now))) }
 {
     Ok(LineFault::Bad(Reason::UnknownExpectation(copied(alloc, cluster, all)?)))
 }
@@ -63,7 +63,7 @@ fn signal_value(
     value: &[u8],
 ) -> Result<Expected, LineFault>
     ensures { Gives (λ e. e) result
-        (signal_value cluster.now node signal value.now (range_ends value.now)) }
+        (signal_expectation cluster.now node signal value.now (range_ends value.now)) }
 {
     match range_ends(value) {
         Some((low, high)) => {
@@ -89,7 +89,7 @@ fn signal(
     all: &[u8],
     parts: &[&[u8]],
 ) -> Result<Expected, LineFault>
-    ensures { Gives (λ e. e) result (signal_form cluster.now (fields all.now) (words parts.now)) }
+    ensures { Gives (λ e. e) result (signal_form cluster.now (line_fields all.now) (field_texts parts.now)) }
 {
     match parts {
         [node, signal, value] => {
@@ -106,7 +106,7 @@ fn waiting(
     all: &[u8],
     parts: &[&[u8]],
 ) -> Result<Expected, LineFault>
-    ensures { Gives (λ e. e) result (waiting_form cluster.now (fields all.now) (words parts.now)) }
+    ensures { Gives (λ e. e) result (waiting_form cluster.now (line_fields all.now) (field_texts parts.now)) }
 {
     match parts {
         [host, count] => Ok(Expected::Waiting {
@@ -125,7 +125,7 @@ fn is_of_last(of: &[u8], last: &[u8]) -> bool
 
 /// The fields before `of last` at the end.
 fn before_last<'a>(all: &'a [&'a [u8]]) -> Option<&'a [&'a [u8]]>
-    ensures { option_map (λ rows. words rows.now) result ≡ before_last (words all.now) }
+    ensures { option_map (λ rows. field_texts rows.now) result ≡ before_last (field_texts all.now) }
 {
     let [before @ .., of, last] = all else {
         return None;
@@ -141,8 +141,8 @@ fn before_last<'a>(all: &'a [&'a [u8]]) -> Option<&'a [&'a [u8]]>
 /// then `of last` or nothing: from which earlier message the time counts.
 #[tactic(auto, unfolding(crate::specs::Expectations::rows_and_limit))]
 fn rows_and_limit<'a>(all: &'a [&'a [u8]]) -> (&'a [&'a [u8]], Option<(&'a [u8], Since)>)
-    ensures { (words result.0.now, option_map (λ limit. (limit.0.now, limit.1)) result.1)
-        ≡ rows_and_limit (words all.now) }
+    ensures { (field_texts result.0.now, option_map (λ limit. (limit.0.now, limit.1)) result.1)
+        ≡ rows_and_limit (field_texts all.now) }
 {
     match before_last(all) {
         Some(before) => match rows_and_time(b"within".as_slice(), before) {
@@ -167,7 +167,7 @@ fn message_pattern(
     parts: &[&[u8]],
 ) -> Result<Expected, LineFault>
     ensures { Gives (λ e. e) result
-        (pattern_form (fields all.now) from to (rows_and_limit (words parts.now))) }
+        (pattern_form (line_fields all.now) from to (rows_and_limit (field_texts parts.now))) }
 {
     let (rows, limit) = rows_and_limit(parts);
     if rows.is_empty() {
@@ -187,7 +187,7 @@ fn message_pattern(
 }
 
 fn message(alloc: Global, cluster: &Cluster, all: &[u8], line: &[u8]) -> Result<Expected, LineFault>
-    ensures { Gives (λ e. e) result (message_form cluster.now (fields all.now) (fields line.now)) }
+    ensures { Gives (λ e. e) result (message_form cluster.now (line_fields all.now) (line_fields line.now)) }
 {
     let Some((from, rest)) = first_field(cluster, line) else {
         return Err(no_form(alloc, cluster, all)?);
@@ -209,7 +209,7 @@ fn sent(
     all: &[u8],
     parts: &[&[u8]],
 ) -> Result<Expected, LineFault>
-    ensures { Gives (λ e. e) result (sent_form cluster.now (fields all.now) (words parts.now)) }
+    ensures { Gives (λ e. e) result (sent_form cluster.now (line_fields all.now) (field_texts parts.now)) }
 {
     match parts {
         [host] => Ok(Expected::Sent {
@@ -227,7 +227,7 @@ fn loss(
     host: &[u8],
     why: &[u8],
 ) -> Result<Expected, LineFault>
-    ensures { Gives (λ e. e) result (loss_of cluster.now (fields all.now) host.now why.now) }
+    ensures { Gives (λ e. e) result (loss_expectation cluster.now (line_fields all.now) host.now why.now) }
 {
     let host = host_field(alloc, cluster, host)?;
     match named(why) {
@@ -237,7 +237,7 @@ fn loss(
 }
 
 fn lost(alloc: Global, cluster: &Cluster, all: &[u8], line: &[u8]) -> Result<Expected, LineFault>
-    ensures { Gives (λ e. e) result (lost_form cluster.now (fields all.now) (fields line.now)) }
+    ensures { Gives (λ e. e) result (lost_form cluster.now (line_fields all.now) (line_fields line.now)) }
 {
     let Some((host, rest)) = first_field(cluster, line) else {
         return Err(no_form(alloc, cluster, all)?);
@@ -290,7 +290,7 @@ fn frame(
     all: &[u8],
     parts: &[&[u8]],
 ) -> Result<Expected, LineFault>
-    ensures { Gives (λ e. e) result (frame_form cluster.now (fields all.now) (words parts.now)) }
+    ensures { Gives (λ e. e) result (frame_form cluster.now (line_fields all.now) (field_texts parts.now)) }
 {
     match parts {
         [] => Err(no_form(alloc, cluster, all)?),
@@ -316,7 +316,7 @@ fn seen(
     all: &[u8],
     parts: &[&[u8]],
 ) -> Result<Expected, LineFault>
-    ensures { Gives (λ e. e) result (seen_form (fields all.now) (words parts.now)) }
+    ensures { Gives (λ e. e) result (seen_form (line_fields all.now) (field_texts parts.now)) }
 {
     let [word] = parts else {
         return Err(no_form(alloc, cluster, all)?);
@@ -355,7 +355,7 @@ fn slot(
     all: &[u8],
     parts: &[&[u8]],
 ) -> Result<Expected, LineFault>
-    ensures { Gives (λ e. e) result (slot_form cluster.now (fields all.now) (words parts.now)) }
+    ensures { Gives (λ e. e) result (slot_form cluster.now (line_fields all.now) (field_texts parts.now)) }
 {
     match parts {
         [name, entry] => {
@@ -374,7 +374,7 @@ fn table(
     all: &[u8],
     parts: &[&[u8]],
 ) -> Result<Expected, LineFault>
-    ensures { Gives (λ e. e) result (table_form cluster.now (fields all.now) (words parts.now)) }
+    ensures { Gives (λ e. e) result (table_form cluster.now (line_fields all.now) (field_texts parts.now)) }
 {
     match parts {
         [table] => Ok(Expected::Table(present_table(alloc, cluster, table)?)),
@@ -388,7 +388,7 @@ fn refused(
     all: &[u8],
     parts: &[&[u8]],
 ) -> Result<Expected, LineFault>
-    ensures { Gives (λ e. e) result (refused_form (fields all.now) (words parts.now)) }
+    ensures { Gives (λ e. e) result (refused_form (line_fields all.now) (field_texts parts.now)) }
 {
     match parts {
         [why] => Ok(Expected::Refused(refusal_field(alloc, why)?)),
@@ -403,7 +403,7 @@ fn no_message(
     parts: &[&[u8]],
 ) -> Result<Expected, LineFault>
     ensures { Gives (λ e. e) result
-        (no_message_form cluster.now (fields all.now) (words parts.now)) }
+        (no_message_form cluster.now (line_fields all.now) (field_texts parts.now)) }
 {
     match parts {
         [from, to] => {
@@ -420,7 +420,7 @@ fn no_lost(
     all: &[u8],
     parts: &[&[u8]],
 ) -> Result<Expected, LineFault>
-    ensures { Gives (λ e. e) result (no_lost_form cluster.now (fields all.now) (words parts.now)) }
+    ensures { Gives (λ e. e) result (no_lost_form cluster.now (line_fields all.now) (field_texts parts.now)) }
 {
     match parts {
         [] => Ok(Expected::NoLost { host: None }),
@@ -433,7 +433,7 @@ fn no_lost(
 
 /// What isn't to be, by the fields after `no`.
 fn nothing(alloc: Global, cluster: &Cluster, all: &[u8], line: &[u8]) -> Result<Expected, LineFault>
-    ensures { Gives (λ e. e) result (no_form cluster.now (fields all.now) (fields line.now)) }
+    ensures { Gives (λ e. e) result (no_form cluster.now (line_fields all.now) (line_fields line.now)) }
 {
     let Some((word, rest)) = first_field(cluster, line) else {
         return Err(no_form(alloc, cluster, all)?);
@@ -456,7 +456,7 @@ fn lone(
     all: &[u8],
     parts: &[&[u8]],
 ) -> Result<Expected, LineFault>
-    ensures { Gives (λ e. e) result (lone_form (fields all.now) what (words parts.now)) }
+    ensures { Gives (λ e. e) result (lone_form (line_fields all.now) what (field_texts parts.now)) }
 {
     match parts {
         [] => Ok(what),
@@ -473,7 +473,7 @@ fn of_word(
     line: &[u8],
 ) -> Result<Expected, LineFault>
     ensures { Gives
-        (λ e. e) result (word_expectation cluster.now (fields all.now) word.now (fields line.now)) }
+        (λ e. e) result (word_expectation cluster.now (line_fields all.now) word.now (line_fields line.now)) }
 {
     let parts = fields(alloc, cluster, line)?;
     let parts = parts.as_slice();
@@ -513,7 +513,7 @@ fn of_word(
 /// What is waited for, by the fields after `until`.
 #[tactic(auto, unfolding(crate::specs::Expectations::until_form))]
 pub(crate) fn until(alloc: Global, cluster: &Cluster, line: &[u8]) -> Result<Expected, LineFault>
-    ensures { Gives (λ e. e) result (until_form cluster.now (fields line.now)) }
+    ensures { Gives (λ e. e) result (until_form cluster.now (line_fields line.now)) }
 {
     let Some((word, rest)) = first_field(cluster, line) else {
         return Err(LineFault::Bad(Reason::UntilForm));
@@ -543,7 +543,7 @@ fn passes(word: &[u8]) -> bool
 /// What is to hold, by the fields after `while`.
 #[tactic(auto, unfolding(crate::specs::Expectations::while_form))]
 pub(crate) fn holding(alloc: Global, cluster: &Cluster, line: &[u8]) -> Result<Expected, LineFault>
-    ensures { Gives (λ e. e) result (while_form cluster.now (fields line.now)) }
+    ensures { Gives (λ e. e) result (while_form cluster.now (line_fields line.now)) }
 {
     let Some((word, rest)) = first_field(cluster, line) else {
         return Err(LineFault::Bad(Reason::WhileForm));
@@ -566,7 +566,7 @@ pub(crate) fn expectation(
     cluster: &Cluster,
     line: &[u8],
 ) -> Result<Expected, LineFault>
-    ensures { Gives (λ e. e) result (expectation cluster.now (fields line.now)) }
+    ensures { Gives (λ e. e) result (expectation cluster.now (line_fields line.now)) }
 {
     match first_field(cluster, line) {
         None => Err(LineFault::Bad(Reason::ExpectForm)),

@@ -3,14 +3,14 @@
 ghost use Rattle.std.specs.Prelude.{◌≡◌, ◌<◌, ◌&&◌, codes, length, IfOk, map, option_map};
 ghost use Rattle.std.specs.Str.{bytes_eq};
 ghost use Rattle.lin_log.specs.Said.{fields as said_fields};
-ghost use Rattle.lin_bench.specs.Fields.{bytes_fields, count_field, fields, node_field, number_field};
+ghost use Rattle.lin_bench.specs.Fields.{bytes_fields, count_field, line_fields, node_field, number_up_to};
 ghost use Rattle.lin_bench.specs.Fields.{after_dots, frame_called, frame_field, frame_numbered};
 ghost use Rattle.lin_bench.specs.Fields.{frames_called, has_commander, lacks_end, message_frame};
 ghost use Rattle.lin_log.specs.Language.{number_named};
 ghost use Rattle.lin_bench.specs.Fields.{or_bad, range_ends, range_field, rows_and_time};
 ghost use Rattle.lin_bench.specs.Fields.{host_field, pair_fields, present_node, present_signal};
 ghost use Rattle.lin_bench.specs.Fields.{present_table, sends, signal_field, signal_fields};
-ghost use Rattle.lin_bench.specs.Fields.{table_field, takes_part, untabbed, value_field, words};
+ghost use Rattle.lin_bench.specs.Fields.{table_field, takes_part, tab_as_space, value_field, field_texts};
 ghost use Rattle.lin_bench.specs.Read.{Gives};
 ghost use Rattle.lin_bench.specs.declared.reason.Reason.{Reason};
 
@@ -31,7 +31,7 @@ pub(crate) fn fields<'a, N: Naming>(
     names: &N,
     line: &'a [u8],
 ) -> Result<Vec<&'a [u8]>, AllocError>
-    ensures { IfOk result (λ v. words v.items ≡ said_fields (N.language names.now).free line.now) }
+    ensures { IfOk result (λ v. field_texts v.items ≡ said_fields (N.language names.now).free line.now) }
 {
     let mut fields = Vec::new(alloc);
     let mut left = line;
@@ -43,14 +43,14 @@ pub(crate) fn fields<'a, N: Naming>(
 }
 
 fn without_tab(byte: u8) -> u8
-    ensures { result ≡ untabbed byte }
+    ensures { result ≡ tab_as_space byte }
 {
     if byte == b'\t' { b' ' } else { byte }
 }
 
 /// A line with a space in place of each tab.
 pub(crate) fn untabbed(alloc: Global, line: &[u8]) -> Result<Vec<u8>, AllocError>
-    ensures { IfOk result (λ text. text.items ≡ map untabbed line.now) }
+    ensures { IfOk result (λ text. text.items ≡ map tab_as_space line.now) }
 {
     let mut text = Vec::new(alloc);
     for byte in line {
@@ -61,7 +61,7 @@ pub(crate) fn untabbed(alloc: Global, line: &[u8]) -> Result<Vec<u8>, AllocError
 
 /// A number of 1 to 10 digits, at most a limit.
 pub(crate) fn number_field(alloc: Global, field: &[u8], most: u32) -> Result<u32, LineFault>
-    ensures { Gives (λ n. n) result (number_field most field.now) }
+    ensures { Gives (λ n. n) result (number_up_to most field.now) }
 {
     Ok(lin_log::number_field(alloc, field, most)?)
 }
@@ -78,7 +78,7 @@ pub(crate) fn count_field(alloc: Global, field: &[u8]) -> Result<u32, LineFault>
 
 /// Copies of fields.
 pub(crate) fn copied_fields(alloc: Global, fields: &[&[u8]]) -> Result<Many<Text>, AllocError>
-    ensures { IfOk result (λ all. all ≡ words fields.now) }
+    ensures { IfOk result (λ all. all ≡ field_texts fields.now) }
 {
     let mut all = Vec::new(alloc);
     for field in fields {
@@ -296,7 +296,7 @@ pub(crate) fn bytes_fields(
     cluster: &Cluster,
     line: &[u8],
 ) -> Result<Payload, LineFault>
-    ensures { Gives (λ p. p) result (bytes_fields cluster.now (fields line.now)) }
+    ensures { Gives (λ p. p) result (bytes_fields cluster.now (line_fields line.now)) }
 {
     Ok(lin_log::bytes_fields(alloc, cluster, line)?)
 }
@@ -312,8 +312,8 @@ pub(crate) fn rows_and_time<'a>(
     before: &[u8],
     all: &'a [&'a [u8]],
 ) -> (&'a [&'a [u8]], Option<&'a [u8]>)
-    ensures { (words result.0.now, option_map (λ n. n.now) result.1)
-        ≡ rows_and_time before.now (words all.now) }
+    ensures { (field_texts result.0.now, option_map (λ n. n.now) result.1)
+        ≡ rows_and_time before.now (field_texts all.now) }
 {
     let [rows @ .., word, number, unit] = all else {
         return (all, None);

@@ -3,11 +3,11 @@
 ghost use Rattle.std.specs.Prelude.{◌≡◌, ◌++◌, IfOk, OnOk};
 ghost use Rattle.lin_values.specs.Meaning.{meant};
 ghost use Rattle.lin_values.specs.Shown.{plain_shown};
-ghost use Rattle.lin_values.specs.Value.{IsReadable, value};
-ghost use Rattle.lin_bench.specs.Hints.{any_hash, few, has_hash, has_sign, has_unit, is_among};
-ghost use Rattle.lin_bench.specs.Hints.{is_strange, is_text, names_hash, near_number, near_words};
-ghost use Rattle.lin_bench.specs.Hints.{number_hint, range_hint, text_hint, text_of, texts_in};
-ghost use Rattle.lin_bench.specs.Hints.{unit_hint, unit_of, units_hint, units_in, value_hint};
+ghost use Rattle.lin_values.specs.Value.{IsReadable, scaled_value};
+ghost use Rattle.lin_bench.specs.Hints.{any_hash, few, has_hash, has_sign, some_has_unit, is_among_texts};
+ghost use Rattle.lin_bench.specs.Hints.{is_strange, is_text_of_signal, names_hash, near_number, near_words};
+ghost use Rattle.lin_bench.specs.Hints.{number_hint, range_hint, text_hint, item_text, texts_in};
+ghost use Rattle.lin_bench.specs.Hints.{unit_hint, item_unit, units_hint, units_in, value_hint};
 ghost use Rattle.lin_bench.specs.Hints.{values_hint, with_text, with_text_of};
 
 use crate::meant::MeantValues;
@@ -21,7 +21,7 @@ use std::alloc::{AllocError, Global};
 const FEW: usize = 8;
 
 fn is_among(texts: &[Text], text: &[u8]) -> bool
-    ensures { result ≡ is_among texts.now text.now }
+    ensures { result ≡ is_among_texts texts.now text.now }
 {
     texts.iter().any(|other| other.as_slice() == text)
 }
@@ -39,7 +39,7 @@ fn add_text(alloc: Global, texts: &mut Vec<Text>, text: &[u8]) -> Result<(), All
 
 /// The text of a logical value; empty for other items.
 fn text_of(item: &Item) -> &[u8]
-    ensures { result.now ≡ text_of item.now }
+    ensures { result.now ≡ item_text item.now }
 {
     match item {
         Item::Logical { text, .. } => text.as_slice(),
@@ -49,7 +49,7 @@ fn text_of(item: &Item) -> &[u8]
 
 /// The unit of a range; empty for other items.
 fn unit_of(item: &Item) -> &[u8]
-    ensures { result.now ≡ unit_of item.now }
+    ensures { result.now ≡ item_unit item.now }
 {
     match item {
         Item::Physical { unit, .. } => unit.as_slice(),
@@ -59,7 +59,7 @@ fn unit_of(item: &Item) -> &[u8]
 
 /// Whether a raw value of a signal has this text.
 fn is_text(alloc: Global, coded: &Coded, signal: u16, text: &[u8]) -> Result<bool, AllocError>
-    ensures { IfOk result (λ is. is ≡ is_text coded.now signal text.now) }
+    ensures { IfOk result (λ is. is ≡ is_text_of_signal coded.now signal text.now) }
 {
     Ok(MeantValues::of_text(alloc, coded, signal, text)?.count() > 0)
 }
@@ -175,7 +175,7 @@ pub(crate) fn values_hint(
 
 /// Whether an item has this unit, or none if it is empty.
 fn has_unit(items: &[PlacedItem], unit: &[u8]) -> bool
-    ensures { result ≡ has_unit items.now unit.now }
+    ensures { result ≡ some_has_unit items.now unit.now }
 {
     items.iter().any(|one| unit_of(&one.item) == unit)
 }
@@ -235,7 +235,7 @@ fn near_number(
 ) -> Result<Vec<Text>, AllocError>
     requires { IsReadable number }
     ensures { IfOk result
-        (λ v. v.items ≡ near_number coded.now signal (value number, unit.now)) }
+        (λ v. v.items ≡ near_number coded.now signal (scaled_value number, unit.now)) }
 {
     let mut texts = Vec::new(alloc);
     let (below, above) = coded.neighbours(signal, number, unit);
@@ -255,7 +255,7 @@ fn number_hint(
 ) -> Result<Hint, AllocError>
     requires { IsReadable number }
     ensures { IfOk result
-        (λ h. h ≡ number_hint coded.now signal items.now (value number, unit.now)) }
+        (λ h. h ≡ number_hint coded.now signal items.now (scaled_value number, unit.now)) }
 {
     let units = units_in(alloc, items)?;
     if is_strange(units.as_slice(), items, unit) {

@@ -35,7 +35,7 @@ pub struct Slots {
 
 /// What a line of a bench script says.
 #[derive(Drop)]
-pub enum Line {
+pub enum ScriptLine {
     /// A step by a port.
     Step(PortId, Step),
     /// A slot, in which each node that is due answers.

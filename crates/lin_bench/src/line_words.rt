@@ -7,14 +7,14 @@ ghost use Rattle.lin_log.specs.Language.{Called, name_at, nameless, word_of};
 ghost use Rattle.lin_log.specs.Words.{value_word};
 ghost use Rattle.lin_text.specs.Written.{Grows};
 ghost use Rattle.lin_bench.specs.Fields.{frames_called};
-ghost use Rattle.lin_bench.specs.LineWords.{byte_word, carried_word, is_mark, pattern_word, said, seen_after, seen_byte};
-ghost use Rattle.lin_bench.specs.LineWords.{seen_text, seen_texts, spaced, spaced_words, word_text};
+ghost use Rattle.lin_bench.specs.LineWords.{byte_word, carried_word, is_mark_word, pattern_word, as_word, seen_after, seen_byte};
+ghost use Rattle.lin_bench.specs.LineWords.{seen_text, seen_texts, text_after_space, spaced_words, word_text};
 ghost use Rattle.lin_bench.specs.LineWords.{words_text};
 
 use crate::expected::Carried;
 use crate::rules::Pattern;
 use lin_frame::Value;
-use lin_log::{Naming, Numbers, put_hex};
+use lin_log::{Naming, NumberNaming, put_hex};
 use lin_parts::Cluster;
 use lin_text::{Text, TextWriter};
 use std::io::Write;
@@ -29,7 +29,7 @@ pub trait LineNaming: Naming {
         ensures { option_map (λ w. w.now) result ≡ name_at (frames self.now) frame };
 }
 
-impl LineNaming for Numbers {
+impl LineNaming for NumberNaming {
     ghost frames = { λ _. nameless };
 
     fn name_of_frame(&self, _frame: u16) -> Option<&[u8]> {
@@ -76,31 +76,31 @@ pub enum Word<'a> {
 
 /// The words of a line, seven at most.
 #[derive(Drop)]
-pub struct Line<'a> {
+pub struct WordList<'a> {
     words: [Word<'a>; 7],
     len: usize,
 }
 
-impl<'a> Model for Line<'a> {
+impl<'a> Model for WordList<'a> {
     ghost use Rattle.std.specs.Prelude.{List, map, take, ◌≤◌};
-    ghost use Rattle.lin_bench.specs.LineWords.{Word, said};
+    ghost use Rattle.lin_bench.specs.LineWords.{Word, as_word};
 
     ghost Value = { List Word };
 
-    ghost view = { λ l. map said (take l.len l.words) };
+    ghost view = { λ l. map as_word (take l.len l.words) };
 
     ghost invariant = { λ l. l.len ≤ 7 };
 }
 
-impl<'a> Line<'a> {
+impl<'a> WordList<'a> {
     /// These words.
-    pub fn of(words: &[Word<'a>]) -> Line<'a>
+    pub fn of(words: &[Word<'a>]) -> WordList<'a>
         requires { length words.now ≤ 7 }
-        ensures { result ≡ map said words.now }
+        ensures { result ≡ map as_word words.now }
     {
         let mut all = [Word::Mark(""); 7];
         all[..words.len()].copy_from_slice(words);
-        Line {
+        WordList {
             words: all,
             len: words.len(),
         }
@@ -218,7 +218,7 @@ pub fn put_texts<W: Write>(out: &mut TextWriter<'_, W>, gap: &str, texts: &[Text
 /// A word alone.
 fn put_word<N: LineNaming, W: Write>(out: &mut TextWriter<'_, W>, names: &N, word: Word<'_>)
     ensures { Grows W.contents out.old out.new
-        (word_text (N.language names.now) (N.frames names.now) (said word.entry)) }
+        (word_text (N.language names.now) (N.frames names.now) (as_word word.entry)) }
 {
     match word {
         Word::Node(node) => put_called(out, names.name_of_node(node), u64::from(node)),
@@ -239,7 +239,7 @@ fn put_word<N: LineNaming, W: Write>(out: &mut TextWriter<'_, W>, names: &N, wor
 }
 
 fn is_mark(word: Word<'_>) -> bool
-    ensures { result ≡ is_mark (said word.entry) }
+    ensures { result ≡ is_mark_word (as_word word.entry) }
 {
     matches!(word, Word::Mark(_))
 }
@@ -247,7 +247,7 @@ fn is_mark(word: Word<'_>) -> bool
 /// A word after a space, or a mark.
 fn put_after<N: LineNaming, W: Write>(out: &mut TextWriter<'_, W>, names: &N, word: Word<'_>)
     ensures { Grows W.contents out.old out.new
-        (spaced (N.language names.now) (N.frames names.now) (said word.entry)) }
+        (text_after_space (N.language names.now) (N.frames names.now) (as_word word.entry)) }
 {
     if is_mark(word) {
         put_word(out, names, word);
@@ -264,7 +264,7 @@ pub fn put_spaced<N: LineNaming, W: Write>(
     words: &[Word<'_>],
 )
     ensures { Grows W.contents out.old out.new
-        (spaced_words (N.language names.now) (N.frames names.now) (map said words.now)) }
+        (spaced_words (N.language names.now) (N.frames names.now) (map as_word words.now)) }
 {
     for word in words {
         put_after(out, names, *word);
@@ -278,7 +278,7 @@ pub fn put_words<N: LineNaming, W: Write>(
     words: &[Word<'_>],
 )
     ensures { Grows W.contents out.old out.new
-        (words_text (N.language names.now) (N.frames names.now) (map said words.now)) }
+        (words_text (N.language names.now) (N.frames names.now) (map as_word words.now)) }
 {
     match words {
         [] => {}
@@ -290,7 +290,11 @@ pub fn put_words<N: LineNaming, W: Write>(
 }
 
 /// The words of a line.
-pub fn put_line<N: LineNaming, W: Write>(out: &mut TextWriter<'_, W>, names: &N, line: &Line<'_>)
+pub fn put_line<N: LineNaming, W: Write>(
+    out: &mut TextWriter<'_, W>,
+    names: &N,
+    line: &WordList<'_>,
+)
     ensures { Grows W.contents out.old out.new
         (words_text (N.language names.now) (N.frames names.now) line.now) }
 {

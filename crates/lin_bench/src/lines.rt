@@ -1,7 +1,7 @@
 //! The forms of lines.
 
 ghost use Rattle.std.specs.Prelude.{◌≡◌, option_map};
-ghost use Rattle.lin_bench.specs.Fields.{fields};
+ghost use Rattle.lin_bench.specs.Fields.{line_fields};
 ghost use Rattle.lin_bench.specs.Lines.{after_count, all_answer, count_form, early_form, ends_early};
 ghost use Rattle.lin_bench.specs.Lines.{extent_of, forget_form, idle_form, leave_form, left_form};
 ghost use Rattle.lin_bench.specs.Lines.{line_form, node_fields, nodes_and_early, nodes_read, read_line};
@@ -11,7 +11,7 @@ ghost use Rattle.lin_bench.specs.Read.{Gives};
 use crate::expectations::{expectation, holding, until};
 use crate::fault::LineFault;
 use crate::fields::{bytes_fields, count_field, node_field};
-use crate::line::{Disturbance, Extent, Line, Slots};
+use crate::line::{Disturbance, Extent, ScriptLine, Slots};
 use crate::reason::Reason;
 use crate::rule_lines::{every, response_errors, services, timeouts, when};
 use lin_core::PortId;
@@ -34,17 +34,17 @@ fn all_answer(alloc: Global, extent: Extent) -> Slots
 }
 
 /// Slots until no message waits, by the fields after `idle`.
-fn idle(alloc: Global, cluster: &Cluster, line: &[u8]) -> Result<Line, LineFault>
-    ensures { Gives (λ l. l) result (idle_form (fields line.now)) }
+fn idle(alloc: Global, cluster: &Cluster, line: &[u8]) -> Result<ScriptLine, LineFault>
+    ensures { Gives (λ l. l) result (idle_form (line_fields line.now)) }
 {
     let Some((count, rest)) = first_field(cluster, line) else {
-        return Ok(Line::Slots(all_answer(alloc, Extent::Idle(IDLE))));
+        return Ok(ScriptLine::Slots(all_answer(alloc, Extent::Idle(IDLE))));
     };
     if !is_over(cluster, rest) {
         return Err(LineFault::Bad(Reason::SlotsForm));
     }
     let count = count_field(alloc, count)?;
-    Ok(Line::Slots(all_answer(alloc, Extent::Idle(count))))
+    Ok(ScriptLine::Slots(all_answer(alloc, Extent::Idle(count))))
 }
 
 fn ends_early(word: &[u8]) -> bool
@@ -54,16 +54,21 @@ fn ends_early(word: &[u8]) -> bool
 }
 
 /// Slots, and what ends them early, by the fields after them.
-fn early(alloc: Global, cluster: &Cluster, slots: Slots, line: &[u8]) -> Result<Line, LineFault>
-    ensures { Gives (λ l. l) result (early_form cluster.now slots (fields line.now)) }
+fn early(
+    alloc: Global,
+    cluster: &Cluster,
+    slots: Slots,
+    line: &[u8],
+) -> Result<ScriptLine, LineFault>
+    ensures { Gives (λ l. l) result (early_form cluster.now slots (line_fields line.now)) }
 {
     let Some((word, rest)) = first_field(cluster, line) else {
-        return Ok(Line::Slots(slots));
+        return Ok(ScriptLine::Slots(slots));
     };
     if word == b"until".as_slice() {
-        Ok(Line::Until(slots, until(alloc, cluster, rest)?))
+        Ok(ScriptLine::Until(slots, until(alloc, cluster, rest)?))
     } else if word == b"while".as_slice() {
-        Ok(Line::While(slots, holding(alloc, cluster, rest)?))
+        Ok(ScriptLine::While(slots, holding(alloc, cluster, rest)?))
     } else {
         Err(LineFault::Bad(Reason::SlotsForm))
     }
@@ -71,7 +76,7 @@ fn early(alloc: Global, cluster: &Cluster, slots: Slots, line: &[u8]) -> Result<
 
 /// The first field of a line and the rest, unless it ends slots early.
 fn field_before_early<'a>(cluster: &Cluster, line: &'a [u8]) -> Option<(&'a [u8], &'a [u8])>
-    ensures { BeginsNodes (option_map (λ f. (f.0.now, fields f.1.now)) result) (fields line.now) }
+    ensures { BeginsNodes (option_map (λ f. (f.0.now, line_fields f.1.now)) result) (line_fields line.now) }
 {
     match first_field(cluster, line) {
         Some((field, rest)) if !ends_early(field) => Some((field, rest)),
@@ -86,8 +91,8 @@ fn nodes_and_early<'a>(
     cluster: &Cluster,
     line: &'a [u8],
 ) -> Result<(Many<u8>, &'a [u8]), LineFault>
-    ensures { Gives (λ r. (r.0, fields r.1.now)) result
-        (nodes_read cluster.now (nodes_and_early (fields line.now))) }
+    ensures { Gives (λ r. (r.0, line_fields r.1.now)) result
+        (nodes_read cluster.now (nodes_and_early (line_fields line.now))) }
 {
     let mut nodes = Vec::new(alloc);
     let mut left = line;
@@ -107,9 +112,9 @@ fn left_out(
     cluster: &Cluster,
     extent: Extent,
     line: &[u8],
-) -> Result<Line, LineFault>
+) -> Result<ScriptLine, LineFault>
     ensures { Gives (λ l. l) result
-        (left_form cluster.now extent (nodes_and_early (fields line.now))) }
+        (left_form cluster.now extent (nodes_and_early (line_fields line.now))) }
 {
     if field_before_early(cluster, line).is_none() {
         return Err(LineFault::Bad(Reason::SlotsLeaveForm));
@@ -137,12 +142,12 @@ fn after_count(
     is_time: bool,
     count: &[u8],
     line: &[u8],
-) -> Result<Line, LineFault>
-    ensures { Gives (λ l. l) result (after_count cluster.now is_time count.now (fields line.now)) }
+) -> Result<ScriptLine, LineFault>
+    ensures { Gives (λ l. l) result (after_count cluster.now is_time count.now (line_fields line.now)) }
 {
     let Some((word, rest)) = first_field(cluster, line) else {
         let extent = extent_of(alloc, is_time, count)?;
-        return Ok(Line::Slots(all_answer(alloc, extent)));
+        return Ok(ScriptLine::Slots(all_answer(alloc, extent)));
     };
     if word == b"leave".as_slice() {
         let extent = extent_of(alloc, is_time, count)?;
@@ -156,8 +161,13 @@ fn after_count(
 }
 
 /// Slots, by their number or that of a time and the fields after it.
-fn counted(alloc: Global, cluster: &Cluster, count: &[u8], line: &[u8]) -> Result<Line, LineFault>
-    ensures { Gives (λ l. l) result (count_form cluster.now count.now (fields line.now)) }
+fn counted(
+    alloc: Global,
+    cluster: &Cluster,
+    count: &[u8],
+    line: &[u8],
+) -> Result<ScriptLine, LineFault>
+    ensures { Gives (λ l. l) result (count_form cluster.now count.now (line_fields line.now)) }
 {
     match first_field(cluster, line) {
         Some((word, rest)) if word == b"ms".as_slice() => {
@@ -169,8 +179,8 @@ fn counted(alloc: Global, cluster: &Cluster, count: &[u8], line: &[u8]) -> Resul
 
 /// Slots, by the fields after `slots`.
 #[tactic(auto, unfolding(crate::specs::Lines::slots_form))]
-fn slots(alloc: Global, cluster: &Cluster, line: &[u8]) -> Result<Line, LineFault>
-    ensures { Gives (λ l. l) result (slots_form cluster.now (fields line.now)) }
+fn slots(alloc: Global, cluster: &Cluster, line: &[u8]) -> Result<ScriptLine, LineFault>
+    ensures { Gives (λ l. l) result (slots_form cluster.now (line_fields line.now)) }
 {
     let Some((count, rest)) = first_field(cluster, line) else {
         return Err(LineFault::Bad(Reason::SlotsForm));
@@ -183,11 +193,11 @@ fn slots(alloc: Global, cluster: &Cluster, line: &[u8]) -> Result<Line, LineFaul
 }
 
 /// That all events so far are taken, where no field stands after its word.
-fn forget(alloc: Global, cluster: &Cluster, line: &[u8]) -> Result<Line, LineFault>
-    ensures { Gives (λ l. l) result (forget_form (fields line.now)) }
+fn forget(alloc: Global, cluster: &Cluster, line: &[u8]) -> Result<ScriptLine, LineFault>
+    ensures { Gives (λ l. l) result (forget_form (line_fields line.now)) }
 {
     if is_over(cluster, line) {
-        return Ok(Line::Forget);
+        return Ok(ScriptLine::Forget);
     }
     Err(LineFault::Bad(Reason::Step(lin_log::Reason::Takes {
         word: Text::copied(alloc, b"forget")?,
@@ -196,7 +206,7 @@ fn forget(alloc: Global, cluster: &Cluster, line: &[u8]) -> Result<Line, LineFau
 }
 
 fn node_fields(alloc: Global, cluster: &Cluster, line: &[u8]) -> Result<Many<u8>, LineFault>
-    ensures { Gives (λ nodes. nodes) result (node_fields cluster.now (fields line.now)) }
+    ensures { Gives (λ nodes. nodes) result (node_fields cluster.now (line_fields line.now)) }
 {
     let mut nodes = Vec::new(alloc);
     let mut left = line;
@@ -212,7 +222,7 @@ fn node_fields(alloc: Global, cluster: &Cluster, line: &[u8]) -> Result<Many<u8>
 
 /// The nodes that leave their responses out.
 fn leave(alloc: Global, cluster: &Cluster, line: &[u8]) -> Result<Disturbance, LineFault>
-    ensures { Gives (λ d. d) result (leave_form cluster.now (fields line.now)) }
+    ensures { Gives (λ d. d) result (leave_form cluster.now (line_fields line.now)) }
 {
     if is_over(cluster, line) {
         return Err(LineFault::Bad(Reason::LeaveForm));
@@ -223,7 +233,7 @@ fn leave(alloc: Global, cluster: &Cluster, line: &[u8]) -> Result<Disturbance, L
 /// How a slot is disturbed, by the fields after `slot`.
 #[tactic(auto, unfolding(crate::specs::Lines::slot_form))]
 fn slot(alloc: Global, cluster: &Cluster, line: &[u8]) -> Result<Disturbance, LineFault>
-    ensures { Gives (λ d. d) result (slot_form cluster.now (fields line.now)) }
+    ensures { Gives (λ d. d) result (slot_form cluster.now (line_fields line.now)) }
 {
     let Some((word, rest)) = first_field(cluster, line) else {
         return Ok(Disturbance::Undisturbed);
@@ -239,32 +249,37 @@ fn slot(alloc: Global, cluster: &Cluster, line: &[u8]) -> Result<Disturbance, Li
 
 /// What a line says, by its first field and the rest of it.
 #[tactic(auto, unfolding(crate::specs::Lines::line_form))]
-fn of_word(alloc: Global, cluster: &Cluster, word: &[u8], rest: &[u8]) -> Result<Line, LineFault>
-    ensures { Gives (λ l. l) result (line_form cluster.now word.now (fields rest.now)) }
+fn of_word(
+    alloc: Global,
+    cluster: &Cluster,
+    word: &[u8],
+    rest: &[u8],
+) -> Result<ScriptLine, LineFault>
+    ensures { Gives (λ l. l) result (line_form cluster.now word.now (line_fields rest.now)) }
 {
     if is_port(word) {
         let (by, step) = port_step(alloc, cluster, word, rest)?;
-        Ok(Line::Step(by, step))
+        Ok(ScriptLine::Step(by, step))
     } else if word == b"slots".as_slice() {
         slots(alloc, cluster, rest)
     } else if word == b"slot".as_slice() {
-        Ok(Line::Slot(slot(alloc, cluster, rest)?))
+        Ok(ScriptLine::Slot(slot(alloc, cluster, rest)?))
     } else if word == b"expect".as_slice() {
-        Ok(Line::Expect(expectation(alloc, cluster, rest)?))
+        Ok(ScriptLine::Expect(expectation(alloc, cluster, rest)?))
     } else if word == b"forget".as_slice() {
         forget(alloc, cluster, rest)
     } else if word == b"when".as_slice() {
-        Ok(Line::Rule(when(alloc, cluster, rest)?))
+        Ok(ScriptLine::Rule(when(alloc, cluster, rest)?))
     } else if word == b"timeouts".as_slice() {
-        Ok(Line::Rule(timeouts(alloc, cluster, rest)?))
+        Ok(ScriptLine::Rule(timeouts(alloc, cluster, rest)?))
     } else if word == b"every".as_slice() {
-        Ok(Line::Rule(every(alloc, cluster, rest)?))
+        Ok(ScriptLine::Rule(every(alloc, cluster, rest)?))
     } else if word == b"services".as_slice() {
-        Ok(Line::Rule(services(alloc, cluster, rest)?))
+        Ok(ScriptLine::Rule(services(alloc, cluster, rest)?))
     } else if word == b"response_errors".as_slice() {
-        Ok(Line::Rule(response_errors(alloc, cluster, rest)?))
+        Ok(ScriptLine::Rule(response_errors(alloc, cluster, rest)?))
     } else {
-        Ok(Line::Step(PortId::Bus, step(alloc, cluster, word, rest)?))
+        Ok(ScriptLine::Step(PortId::Bus, step(alloc, cluster, word, rest)?))
     }
 }
 
@@ -274,7 +289,11 @@ fn of_word(alloc: Global, cluster: &Cluster, word: &[u8], rest: &[u8]) -> Result
 /// # Errors
 /// `Bad` with why the line is; `OutOfMemory`.
 #[tactic(auto, unfolding(crate::specs::Lines::read_line))]
-pub fn read_line(alloc: Global, cluster: &Cluster, line: &[u8]) -> Result<Option<Line>, LineFault>
+pub fn read_line(
+    alloc: Global,
+    cluster: &Cluster,
+    line: &[u8],
+) -> Result<Option<ScriptLine>, LineFault>
     ensures { Gives (λ l. l) result (read_line cluster.now line.now) }
 {
     if let [b'>', ..] = line {

@@ -5,11 +5,11 @@ ghost use Rattle.lin_core.specs.History.{events};
 ghost use Rattle.lin_core.specs.declared.event.Event.{Event};
 ghost use Rattle.lin_core.specs.declared.log.LogEntry.{LogEntry};
 ghost use Rattle.lin_bench.specs.Losses.{AreOf, is_left};
-ghost use Rattle.lin_bench.specs.Searches.{AreClear, IsKnown, taken_by};
-ghost use Rattle.lin_bench.specs.Verdicts.{first_loss, is_host, is_loss_left, is_of, loss_after};
+ghost use Rattle.lin_bench.specs.Searches.{AreClear, IsSearchState, taken_by};
+ghost use Rattle.lin_bench.specs.Verdicts.{first_loss, is_host, is_loss_left, is_of_kind, loss_after};
 ghost use Rattle.lin_bench.specs.declared.taken.EventKind.TheVariants.{Fates};
 
-use crate::taken::{EventKind, Taken, events_of, last_end};
+use crate::taken::{EventKind, TakenEvents, events_of, last_end};
 use lin_core::{Event, Log};
 
 fn is_host(which: Option<u8>, host: u8) -> bool
@@ -23,15 +23,15 @@ fn is_host(which: Option<u8>, host: u8) -> bool
 
 /// How many events of a kind there are.
 fn count_of(told: &[Event], kind: EventKind) -> usize
-    ensures { result ≡ count_by (is_of kind) told.now }
+    ensures { result ≡ count_by (is_of_kind kind) told.now }
 {
     told.iter().filter(|event| kind.has(event)).count()
 }
 
 /// Whether what became of a host's message isn't taken, by its entry and the events before it there.
-fn is_left(taken: &Taken, host: u8, entry: usize, before: &[Event]) -> bool
-    ensures { (es : List LogEntry) → (e : Event) → (rest : List Event) → IsKnown es taken.now
-        → AreOf es entry (before.now ++ e ∷ rest) → is_of (Fates host) e ≡ true
+fn is_left(taken: &TakenEvents, host: u8, entry: usize, before: &[Event]) -> bool
+    ensures { (es : List LogEntry) → (e : Event) → (rest : List Event) → IsSearchState es taken.now
+        → AreOf es entry (before.now ++ e ∷ rest) → is_of_kind (Fates host) e ≡ true
         → result ≡ is_left (taken_by es taken.now) host
         (flat_map events (take entry es) ++ before.now) }
 {
@@ -45,13 +45,13 @@ fn is_left(taken: &Taken, host: u8, entry: usize, before: &[Event]) -> bool
 
 /// Whether an event is a loss, of a message of this host where there is one, that isn't taken.
 fn is_loss_left(
-    taken: &Taken,
+    taken: &TakenEvents,
     which: Option<u8>,
     entry: usize,
     before: &[Event],
     event: &Event,
 ) -> bool
-    ensures { (es : List LogEntry) → (rest : List Event) → IsKnown es taken.now
+    ensures { (es : List LogEntry) → (rest : List Event) → IsSearchState es taken.now
         → AreOf es entry (before.now ++ event.now ∷ rest)
         → result ≡ is_loss_left which (taken_by es taken.now)
         (flat_map events (take entry es) ++ before.now) event.now }
@@ -66,12 +66,12 @@ fn is_loss_left(
 
 /// The first loss among the events of an entry that isn't taken.
 fn loss_in<'a>(
-    taken: &Taken,
+    taken: &TakenEvents,
     which: Option<u8>,
     entry: usize,
     told: &'a [Event],
 ) -> Option<&'a Event>
-    ensures { (es : List LogEntry) → IsKnown es taken.now → AreOf es entry told.now
+    ensures { (es : List LogEntry) → IsSearchState es taken.now → AreOf es entry told.now
         → option_map (λ e. e.now) result
         ≡ loss_after which (taken_by es taken.now) (flat_map events (take entry es)) told.now }
 {
@@ -85,8 +85,8 @@ fn loss_in<'a>(
 
 /// The first loss, of a message of this host where there is one, that isn't taken; and how many
 /// entries hold none.
-fn find_loss<'a>(log: &'a Log, taken: &Taken, which: Option<u8>) -> (Option<&'a Event>, usize)
-    requires { IsKnown log.now.entries taken.now }
+fn find_loss<'a>(log: &'a Log, taken: &TakenEvents, which: Option<u8>) -> (Option<&'a Event>, usize)
+    requires { IsSearchState log.now.entries taken.now }
     ensures loss { option_map (λ e. e.now) result.0
         ≡ first_loss (reverse log.now.entries) (taken_by log.now.entries taken.now) which }
     ensures clear { AreClear log.now.entries taken.now which result.1 }
@@ -103,14 +103,14 @@ fn find_loss<'a>(log: &'a Log, taken: &Taken, which: Option<u8>) -> (Option<&'a 
 /// begins there.
 pub(crate) fn first_loss<'a>(
     log: &'a Log,
-    taken: &mut Taken,
+    taken: &mut TakenEvents,
     which: Option<u8>,
 ) -> Option<&'a Event>
-    requires { IsKnown log.now.entries taken.old }
+    requires { IsSearchState log.now.entries taken.old }
     ensures loss { option_map (λ e. e.now) result
         ≡ first_loss (reverse log.now.entries) (taken_by log.now.entries taken.old) which }
     ensures taken { taken_by log.now.entries taken.new ≡ taken_by log.now.entries taken.old }
-    ensures known { IsKnown log.now.entries taken.new }
+    ensures known { IsSearchState log.now.entries taken.new }
 {
     let (event, clear) = find_loss(log, taken, which);
     taken.cleared.keep(which, clear);

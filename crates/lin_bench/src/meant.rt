@@ -2,7 +2,7 @@
 
 ghost use Rattle.std.specs.Prelude.{◌≡◌, ◌≤◌, ◌^◌, length, IfOk, unsigned_abs};
 ghost use Rattle.lin_values.specs.Raws.{values_of};
-ghost use Rattle.lin_bench.specs.Meant.{is_among, only_one, values_within};
+ghost use Rattle.lin_bench.specs.Meant.{is_among_values, only_one, values_within};
 
 use lin_frame::Value;
 use lin_values::{Coded, Raws};
@@ -67,7 +67,7 @@ impl MeantValues {
 
     /// Whether a value is one of them.
     pub fn has(&self, value: &Value) -> bool
-        ensures { result ≡ is_among self.now value.now }
+        ensures { result ≡ is_among_values self.now value.now }
     {
         self.raws.has(value)
     }

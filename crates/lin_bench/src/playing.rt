@@ -2,12 +2,12 @@
 
 ghost use Rattle.std.specs.Prelude.{◌≡◌, ◌<◌, ◌≤◌, ◌++◌, false, length, true, OnOk};
 ghost use Rattle.lin_bench.specs.Played.{is_silent, nothing_expected, on_line};
-ghost use Rattle.lin_bench.specs.Plays.{IsLogFull, Plays, PlaysLine, has_rule};
+ghost use Rattle.lin_bench.specs.Plays.{EndsWithFullLog, Plays, PlaysLine, has_rule};
 
 use crate::bench::Bench;
 use crate::fault::{MakeFault, PlayFault};
 use crate::got::{Judged, Judgement, Verdict};
-use crate::line::Line;
+use crate::line::ScriptLine;
 use crate::strict::{expects_something, left_out, speaks_of_last, strictly};
 use lin_core::{Core, Log};
 use lin_parts::Cluster;
@@ -50,7 +50,7 @@ fn play_line(
     bench: &mut Bench,
     judgements: &mut Vec<Judgement>,
     number: u64,
-    line: Line,
+    line: ScriptLine,
 ) -> Result<(), PlayFault>
     ensures { PlaysLine false bench.old judgements.old.items (number, line) false result
         bench.new judgements.new.items }
@@ -73,7 +73,7 @@ fn play_strictly(
     bench: &mut Bench,
     judgements: &mut Vec<Judgement>,
     number: u64,
-    line: Line,
+    line: ScriptLine,
     is_told: bool,
 ) -> Result<(), PlayFault>
     ensures { PlaysLine true bench.old judgements.old.items (number, line)
@@ -98,7 +98,7 @@ fn play_numbered(
     is_strict: bool,
     bench: &mut Bench,
     judgements: &mut Vec<Judgement>,
-    numbered: (u64, Line),
+    numbered: (u64, ScriptLine),
     is_told: bool,
 ) -> Result<(), PlayFault>
     ensures { PlaysLine is_strict bench.old judgements.old.items numbered is_told result
@@ -113,7 +113,7 @@ fn play_numbered(
 }
 
 /// Whether nothing is expected where it is to be.
-fn is_silent(is_strict: bool, lines: &[(u64, Line)]) -> bool
+fn is_silent(is_strict: bool, lines: &[(u64, ScriptLine)]) -> bool
     ensures { result ≡ is_silent is_strict lines.now }
 {
     is_strict && !expects_something(lines)
@@ -150,13 +150,13 @@ pub fn play(
     cluster: Cluster,
     table: u16,
     capacity: usize,
-    lines: Vec<(u64, Line)>,
+    lines: Vec<(u64, ScriptLine)>,
     is_strict: bool,
 ) -> Result<Played, PlayFault>
     requires table { table < length cluster.tables }
     requires capacity { (1 ≤ capacity) × (capacity ≤ 1024) }
     ensures plays { Plays is_strict cluster table capacity lines.items result }
-    ensures few { length lines.items ≤ 16777217 → IsLogFull result → has_rule lines.items ≡ true }
+    ensures few { length lines.items ≤ 16777217 → EndsWithFullLog result → has_rule lines.items ≡ true }
 {
     cluster.sound();
     let mut bench = Bench::new(alloc, Core::new(alloc, cluster, table, capacity)?);

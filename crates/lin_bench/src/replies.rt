@@ -5,7 +5,7 @@ ghost use Rattle.std.specs.Option.{option_map_or};
 ghost use Rattle.lin_core.specs.History.{done, events, is_finish};
 ghost use Rattle.lin_transport.specs.Transport.{functional};
 ghost use Rattle.lin_bench.specs.Adding.{damaged_in, good_in};
-ghost use Rattle.lin_bench.specs.Strict.{counted, first_refusal, refusal_in};
+ghost use Rattle.lin_bench.specs.Strict.{counted_entries, first_refusal, refusal_in};
 
 use lin_core::{Event, Log, LogEntry, Refusal, Reply, Seen, Step};
 use lin_transport::FUNCTIONAL;
@@ -108,7 +108,7 @@ pub fn first_refusal(log: &Log, from: usize) -> Option<Refusal>
 
 /// The first refusal among the entries of a log from one on, of which the last one may not count.
 pub(crate) fn counted_refusal(log: &Log, from: usize, is_told: bool) -> Option<Refusal>
-    ensures { result ≡ first_refusal (counted is_told (drop from log.now.entries)) }
+    ensures { result ≡ first_refusal (counted_entries is_told (drop from log.now.entries)) }
 {
     if is_told {
         refusal_among(log, from, log.len().saturating_sub(1))

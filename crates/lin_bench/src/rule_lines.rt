@@ -4,20 +4,20 @@ ghost use Rattle.std.specs.Prelude.{◌≡◌, ◌<◌, ◌&&◌, ◌∷◌, [],
 ghost use Rattle.std.specs.Prelude.{IfOk, IfSome};
 ghost use Rattle.std.specs.Str.{bytes_eq};
 ghost use Rattle.hex.specs.Hex.{hex_digit_value};
-ghost use Rattle.lin_bench.specs.Fields.{fields, words};
+ghost use Rattle.lin_bench.specs.Fields.{line_fields, field_texts};
 ghost use Rattle.lin_bench.specs.Read.{Gives};
-ghost use Rattle.lin_bench.specs.RuleLines.{AddsRow, answer_form, answer_parts, answers_form, answers_of, copied};
-ghost use Rattle.lin_bench.specs.RuleLines.{errors_form, errors_on, services_form, services_on, is_wide, every_fields, every_form, has_star, hex_byte, hex_part};
-ghost use Rattle.lin_bench.specs.RuleLines.{joined, last_field, parts_field, parts_fields, pattern_byte};
+ghost use Rattle.lin_bench.specs.RuleLines.{AddsRow, answer_form, answer_parts, answers_form, answers_of, copied_part};
+ghost use Rattle.lin_bench.specs.RuleLines.{errors_form, errors_on, services_form, services_on, has_several_bits, every_fields, every_form, has_star, hex_byte, hex_part};
+ghost use Rattle.lin_bench.specs.RuleLines.{all_parts, last_field, parts_field, parts_fields, pattern_byte};
 ghost use Rattle.lin_bench.specs.RuleLines.{pattern_fields, pattern_of, repeated_step, responder_field};
-ghost use Rattle.lin_bench.specs.RuleLines.{row, sends_or_writes, timeouts_form};
+ghost use Rattle.lin_bench.specs.RuleLines.{row_of_pairs, sends_or_writes, timeouts_form};
 ghost use Rattle.lin_bench.specs.RuleLines.{wait_field, when_fields, when_form, when_of, without_star};
 ghost use Rattle.lin_bench.specs.declared.rules.Part.{Part};
 
 use crate::fault::LineFault;
 use crate::fields::{copied_fields, count_field, fields, node_field, number_field, rows_and_time};
 use crate::reason::Reason;
-use crate::rules::{Answer, Every, Part, Pattern, Rule, When};
+use crate::rules::{Every, Part, Pattern, Rule, RuleAnswer, When};
 use lin_core::{PortId, Step};
 use lin_log::{Reason as StepReason, first_field, is_port, number, port_step, step};
 use lin_parts::Cluster;
@@ -66,7 +66,7 @@ fn pattern_byte(x: u8, y: u8) -> Option<Option<u8>>
 /// Adds what a row of a pattern stands for, and answers whether it is one.
 fn add_row(bytes: &mut Vec<Option<u8>>, signs: &[u8]) -> Result<bool, AllocError>
     ensures { IfOk result
-        (λ is. AddsRow (row pattern_byte signs.now) bytes.old.items is bytes.new.items) }
+        (λ is. AddsRow (row_of_pairs pattern_byte signs.now) bytes.old.items is bytes.new.items) }
 {
     let mut left = signs;
     while let [x, y, rest @ ..] = left {
@@ -82,7 +82,7 @@ fn add_row(bytes: &mut Vec<Option<u8>>, signs: &[u8]) -> Result<bool, AllocError
 /// Adds what rows of a pattern stand for, and answers whether they are rows.
 fn add_rows(bytes: &mut Vec<Option<u8>>, rows: &[&[u8]]) -> Result<bool, AllocError>
     ensures { IfOk result
-        (λ is. AddsRow (joined (row pattern_byte) (words rows.now)) bytes.old.items is
+        (λ is. AddsRow (all_parts (row_of_pairs pattern_byte) (field_texts rows.now)) bytes.old.items is
         bytes.new.items) }
 {
     for row in rows {
@@ -100,7 +100,7 @@ fn add_fields(
     last: &[u8],
 ) -> Result<bool, AllocError>
     ensures { IfOk result
-        (λ is. AddsRow (joined (row pattern_byte) (words before.now ++ last.now ∷ []))
+        (λ is. AddsRow (all_parts (row_of_pairs pattern_byte) (field_texts before.now ++ last.now ∷ []))
         bytes.old.items is bytes.new.items) }
 {
     if !add_rows(bytes, before)? {
@@ -123,7 +123,7 @@ fn without_star(field: &[u8]) -> (&[u8], bool)
 /// The pattern of one or more fields, of which the last one may end with `*`; none where they are no
 /// pattern.
 fn pattern_of(alloc: Global, fields: &[&[u8]]) -> Result<Option<Pattern>, AllocError>
-    ensures { IfOk result (λ p. p ≡ pattern_of (words fields.now)) }
+    ensures { IfOk result (λ p. p ≡ pattern_of (field_texts fields.now)) }
 {
     let [before @ .., last] = fields else {
         return Ok(None);
@@ -141,7 +141,7 @@ fn pattern_of(alloc: Global, fields: &[&[u8]]) -> Result<Option<Pattern>, AllocE
 
 /// The pattern of fields.
 pub(crate) fn pattern(alloc: Global, all: &[&[u8]]) -> Result<Pattern, LineFault>
-    ensures { Gives (λ p. p) result (pattern_fields (words all.now)) }
+    ensures { Gives (λ p. p) result (pattern_fields (field_texts all.now)) }
 {
     match pattern_of(alloc, all)? {
         Some(pattern) => Ok(pattern),
@@ -152,7 +152,7 @@ pub(crate) fn pattern(alloc: Global, all: &[&[u8]]) -> Result<Pattern, LineFault
 /// Adds what a row of an answer stands for, and answers whether it is one.
 fn add_hex(parts: &mut Vec<Part>, signs: &[u8]) -> Result<bool, AllocError>
     ensures { IfOk result
-        (λ is. AddsRow (row hex_part signs.now) parts.old.items is parts.new.items) }
+        (λ is. AddsRow (row_of_pairs hex_part signs.now) parts.old.items is parts.new.items) }
 {
     let mut left = signs;
     while let [x, y, rest @ ..] = left {
@@ -167,7 +167,7 @@ fn add_hex(parts: &mut Vec<Part>, signs: &[u8]) -> Result<bool, AllocError>
 
 /// The number of the byte that is copied, by the digits after `$`.
 fn copied(digits: &[u8]) -> Option<u16>
-    ensures { option_map (λ k. Part.Copied k ∷ []) result ≡ copied (36 ∷ digits.now) }
+    ensures { option_map (λ k. Part.Copied k ∷ []) result ≡ copied_part (36 ∷ digits.now) }
 {
     if digits.len() > 4 {
         return None;
@@ -199,7 +199,7 @@ fn add_part(parts: &mut Vec<Part>, field: &[u8]) -> Result<bool, AllocError>
 /// The bytes of an answer.
 #[tactic(auto, unfolding(crate::specs::RuleLines::parts_fields))]
 fn parts(alloc: Global, all: &[&[u8]]) -> Result<Many<Part>, LineFault>
-    ensures { Gives (λ p. p) result (parts_fields (words all.now)) }
+    ensures { Gives (λ p. p) result (parts_fields (field_texts all.now)) }
 {
     if all.is_empty() {
         return Err(LineFault::Bad(Reason::Step(StepReason::NoBytes)));
@@ -225,7 +225,7 @@ fn wait(alloc: Global, number: Option<&[u8]>) -> Result<u32, LineFault>
 
 /// The bytes of an answer, at most as many as a message has.
 fn answer_parts(alloc: Global, all: &[&[u8]]) -> Result<Many<Part>, LineFault>
-    ensures { Gives (λ p. p) result (answer_parts (words all.now)) }
+    ensures { Gives (λ p. p) result (answer_parts (field_texts all.now)) }
 {
     let parts = parts(alloc, all)?;
     if parts.as_slice().len() > LONGEST_MESSAGE {
@@ -235,13 +235,13 @@ fn answer_parts(alloc: Global, all: &[&[u8]]) -> Result<Many<Part>, LineFault>
 }
 
 /// An answer: its rows, and its wait.
-fn answer(alloc: Global, all: &[&[u8]]) -> Result<Answer, LineFault>
-    ensures { Gives (λ a. a) result (answer_form (words all.now)) }
+fn answer(alloc: Global, all: &[&[u8]]) -> Result<RuleAnswer, LineFault>
+    ensures { Gives (λ a. a) result (answer_form (field_texts all.now)) }
 {
     let (rows, number) = rows_and_time(b"after".as_slice(), all);
     let parts = answer_parts(alloc, rows)?;
     let wait_ms = wait(alloc, number)?;
-    Ok(Answer { parts, wait_ms })
+    Ok(RuleAnswer { parts, wait_ms })
 }
 
 /// The number of the first field that is a word.
@@ -253,8 +253,8 @@ fn word_at(fields: &[&[u8]], word: &[u8]) -> Option<usize>
 }
 
 /// An answer, and each further one after `then`.
-fn answers(alloc: Global, all: &[&[u8]]) -> Result<Many<Answer>, LineFault>
-    ensures { Gives (λ a. a) result (answers_form (words all.now)) }
+fn answers(alloc: Global, all: &[&[u8]]) -> Result<Many<RuleAnswer>, LineFault>
+    ensures { Gives (λ a. a) result (answers_form (field_texts all.now)) }
 {
     let mut answers = Many::new(Vec::new(alloc));
     let mut left = all;
@@ -288,8 +288,8 @@ fn when_with(
     fields: &[&[u8]],
     answers_in: Option<&[&[u8]]>,
 ) -> Result<Rule, LineFault>
-    ensures { Gives (λ r. r) result (when_of cluster.now node.now (words fields.now)
-        (answers_of (option_map (λ fs. words fs.now) answers_in.entry))) }
+    ensures { Gives (λ r. r) result (when_of cluster.now node.now (field_texts fields.now)
+        (answers_of (option_map (λ fs. field_texts fs.now) answers_in.entry))) }
 {
     let node = responder(alloc, cluster, node)?;
     let pattern = pattern(alloc, fields)?;
@@ -305,7 +305,7 @@ fn when_with(
 }
 
 fn is_silent(rest: &[&[u8]]) -> bool
-    ensures { result ≡ bytes_eq (last_field (words rest.now)) (codes "silent") }
+    ensures { result ≡ bytes_eq (last_field (field_texts rest.now)) (codes "silent") }
 {
     match rest {
         [.., last] => *last == b"silent".as_slice(),
@@ -315,7 +315,7 @@ fn is_silent(rest: &[&[u8]]) -> bool
 
 /// A node, a pattern of a field at least, and answers or `silent`.
 fn when_by(alloc: Global, cluster: &Cluster, all: &[&[u8]]) -> Result<Rule, LineFault>
-    ensures { Gives (λ r. r) result (when_fields cluster.now (words all.now)) }
+    ensures { Gives (λ r. r) result (when_fields cluster.now (field_texts all.now)) }
 {
     let [node, fields @ ..] = all else {
         return Err(LineFault::Bad(Reason::WhenForm));
@@ -336,7 +336,7 @@ fn when_by(alloc: Global, cluster: &Cluster, all: &[&[u8]]) -> Result<Rule, Line
 /// What a node answers, by the fields after `when`.
 #[tactic(auto, unfolding(crate::specs::RuleLines::when_form))]
 pub(crate) fn when(alloc: Global, cluster: &Cluster, line: &[u8]) -> Result<Rule, LineFault>
-    ensures { Gives (λ r. r) result (when_form cluster.now (fields line.now)) }
+    ensures { Gives (λ r. r) result (when_form cluster.now (line_fields line.now)) }
 {
     let all = fields(alloc, cluster, line)?;
     match all.as_slice() {
@@ -348,7 +348,7 @@ pub(crate) fn when(alloc: Global, cluster: &Cluster, line: &[u8]) -> Result<Rule
 /// When transfers are given up, by the fields after `timeouts`.
 #[tactic(auto, unfolding(crate::specs::RuleLines::timeouts_form))]
 pub(crate) fn timeouts(alloc: Global, cluster: &Cluster, line: &[u8]) -> Result<Rule, LineFault>
-    ensures { Gives (λ r. r) result (timeouts_form (fields line.now)) }
+    ensures { Gives (λ r. r) result (timeouts_form (line_fields line.now)) }
 {
     let all = fields(alloc, cluster, line)?;
     match all.as_slice() {
@@ -377,7 +377,7 @@ fn repeated_step(
     word: &[u8],
     rest: &[u8],
 ) -> Result<(PortId, Step), LineFault>
-    ensures { Gives (λ s. s) result (repeated_step cluster.now word.now (fields rest.now)) }
+    ensures { Gives (λ s. s) result (repeated_step cluster.now word.now (line_fields rest.now)) }
 {
     if is_port(word) {
         let (by, step) = port_step(alloc, cluster, word, rest)?;
@@ -398,7 +398,7 @@ fn every_of(
     rest: &[u8],
 ) -> Result<Rule, LineFault>
     ensures { Gives (λ r. r) result
-        (every_fields cluster.now (number.now ∷ unit.now ∷ fields rest.now)) }
+        (every_fields cluster.now (number.now ∷ unit.now ∷ line_fields rest.now)) }
 {
     let Some((word, rest)) = first_field(cluster, rest) else {
         return Err(LineFault::Bad(Reason::EveryForm));
@@ -418,7 +418,7 @@ fn every_of(
 /// What is repeated, by the fields after `every`.
 #[tactic(auto, unfolding(crate::specs::RuleLines::every_form))]
 pub(crate) fn every(alloc: Global, cluster: &Cluster, line: &[u8]) -> Result<Rule, LineFault>
-    ensures { Gives (λ r. r) result (every_form cluster.now (fields line.now)) }
+    ensures { Gives (λ r. r) result (every_form cluster.now (line_fields line.now)) }
 {
     let Some((number, rest)) = first_field(cluster, line) else {
         return Err(LineFault::Bad(Reason::EveryForm));
@@ -432,7 +432,7 @@ pub(crate) fn every(alloc: Global, cluster: &Cluster, line: &[u8]) -> Result<Rul
 
 /// The first signal by which a responder tells errors in responses that has more than one bit.
 fn wide_signal(cluster: &Cluster) -> Option<u16>
-    ensures wide { result ≡ option_map (λ e. e.signal) (find (is_wide cluster.now) cluster.now.errors) }
+    ensures wide { result ≡ option_map (λ e. e.signal) (find (has_several_bits cluster.now) cluster.now.errors) }
     ensures range { IfSome result (λ s. s < length cluster.now.signals) }
 {
     cluster.sound();
@@ -474,7 +474,7 @@ fn services_on(cluster: &Cluster) -> Result<Rule, LineFault>
 /// Whether responders answer messages that ask for a service, by the fields after `services`.
 #[tactic(auto, unfolding(crate::specs::RuleLines::services_form))]
 pub(crate) fn services(alloc: Global, cluster: &Cluster, line: &[u8]) -> Result<Rule, LineFault>
-    ensures { Gives (λ r. r) result (services_form cluster.now (fields line.now)) }
+    ensures { Gives (λ r. r) result (services_form cluster.now (line_fields line.now)) }
 {
     let all = fields(alloc, cluster, line)?;
     match all.as_slice() {
@@ -491,7 +491,7 @@ pub(crate) fn response_errors(
     cluster: &Cluster,
     line: &[u8],
 ) -> Result<Rule, LineFault>
-    ensures { Gives (λ r. r) result (errors_form cluster.now (fields line.now)) }
+    ensures { Gives (λ r. r) result (errors_form cluster.now (line_fields line.now)) }
 {
     let all = fields(alloc, cluster, line)?;
     match all.as_slice() {

@@ -10,9 +10,9 @@ ghost use Rattle.lin_core.specs.Runs.{entry_of};
 ghost use Rattle.lin_core.specs.declared.log.LogEntry.{LogEntry};
 ghost use Rattle.lin_core.specs.declared.port.PortId.{PortId};
 ghost use Rattle.lin_core.specs.declared.step.Step.TheVariants.{Finish};
-ghost use Rattle.lin_bench.specs.Added.{has_time, is_given_up, links_at, noted_by, send_of, step_of};
-ghost use Rattle.lin_bench.specs.Added.{timeout_of, timeouts, times_until};
-ghost use Rattle.lin_bench.specs.Adding.{Adds, HasFinished, MakesAdded, MakesOne};
+ghost use Rattle.lin_bench.specs.Added.{has_time, is_given_up, links_at, noted_by, send_of, step_to_repeat};
+ghost use Rattle.lin_bench.specs.Added.{timeout_step, timeouts, times_until};
+ghost use Rattle.lin_bench.specs.Adding.{AddsAfterFinish, HasFinished, MakesAdded, MakesOne};
 ghost use Rattle.lin_bench.specs.Errors.{errors_told};
 ghost use Rattle.lin_bench.specs.Making.{MakesSteps};
 ghost use Rattle.std.specs.Option.{option_copied};
@@ -27,7 +27,7 @@ use crate::fault::MakeFault;
 use crate::got::Pending;
 use crate::replies::{is_done, is_finish, went_to_all};
 use crate::rules::{Noted, Repeated, Rule, Rules};
-use crate::slots::hosts_waiting;
+use crate::slot_runs::hosts_waiting;
 use lin_core::{Core, Direction, Hold, PortId, Reply, Step};
 use lin_parts::Cluster;
 use lin_text::Many;
@@ -294,7 +294,7 @@ impl RuledCore {
     ) -> Result<(), AllocError>
         requires node { node < nodes self.now.core.cluster }
         requires closed { open_slot (past_of self.now.core) ≡ None }
-        ensures { OnOk result (steps.new.items ≡ steps.old.items ++ map timeout_of (filter
+        ensures { OnOk result (steps.new.items ≡ steps.old.items ++ map timeout_step (filter
             (is_given_up self.now.core.cluster (past_of self.now.core) ms)
             (if is_some (nad self.now.core.cluster node) then links_at node else []))) }
     {
@@ -351,7 +351,7 @@ impl RuledCore {
         steps: &mut Vec<(PortId, Step)>,
     ) -> Result<(), AllocError>
         ensures { OnOk result (steps.new.items ≡ steps.old.items
-            ++ map step_of (filter (has_time began time) self.now.rules.everies)) }
+            ++ map step_to_repeat (filter (has_time began time) self.now.rules.everies)) }
     {
         for repeated in self.rules.everies.as_slice() {
             if times_until(repeated, began) < times_until(repeated, time) {
@@ -380,7 +380,7 @@ impl RuledCore {
         ensures { (by : PortId) → (past : List LogEntry) → (s : Slot)
             → HasFinished self.old.core by past s
             → began ≡ time self.old.core.cluster past
-            → Adds self.old (entry_of self.old.core.cluster self.old.core.opening
+            → AddsAfterFinish self.old (entry_of self.old.core.cluster self.old.core.opening
             self.old.core.capacity past (by, Finish)) past result self.new }
     {
         self.note(alloc)?;

@@ -22,7 +22,7 @@ pub enum Part {
 /// An answer of a responder, so many milliseconds (at most 1,000,000) after the one before it, or
 /// after the slot by which the message arrived.
 #[derive(Drop)]
-pub struct Answer {
+pub struct RuleAnswer {
     pub parts: Many<Part>,
     pub wait_ms: u32,
 }
@@ -32,7 +32,7 @@ pub struct Answer {
 pub struct When {
     pub node: u8,
     pub pattern: Pattern,
-    pub answers: Many<Answer>,
+    pub answers: Many<RuleAnswer>,
 }
 
 /// A send or a write that is made again and again.

@@ -2,11 +2,11 @@
 
 ghost use Rattle.std.specs.Prelude.{◌≡◌, ◌≤◌, ◌<◌, ◌^◌, IfOk, unsigned_abs};
 ghost use Rattle.lin_values.specs.Raws.{values_of};
-ghost use Rattle.lin_bench.specs.Fields.{words};
+ghost use Rattle.lin_bench.specs.Fields.{field_texts};
 ghost use Rattle.lin_bench.specs.Hints.{unit_hint};
 ghost use Rattle.lin_bench.specs.Read.{Gives};
 ghost use Rattle.lin_bench.specs.LineWords.{fields_text};
-ghost use Rattle.lin_bench.specs.Words.{around, begins_number, between, by_text, decimal_field};
+ghost use Rattle.lin_bench.specs.Words.{around, begins_number, values_between, by_text, decimal_field};
 ghost use Rattle.lin_bench.specs.Words.{decimal_fields, expected_values, from_to, is_bad_number};
 ghost use Rattle.lin_bench.specs.Words.{nearest_value, no_value, only_value, some_between, why_none};
 ghost use Rattle.lin_bench.specs.declared.fault.LineFault.{LineFault};
@@ -33,7 +33,7 @@ pub(crate) struct Said<'a> {
 
 /// Fields with one space between two.
 pub(crate) fn joined(alloc: Global, fields: &[&[u8]]) -> Result<Vec<u8>, AllocError>
-    ensures { IfOk result (λ text. text.items ≡ fields_text (words fields.now)) }
+    ensures { IfOk result (λ text. text.items ≡ fields_text (field_texts fields.now)) }
 {
     let mut text = Vec::new(alloc);
     let [first, others @ ..] = fields else {
@@ -158,8 +158,8 @@ fn decimal_fields<'a>(
     text: &'a [u8],
     fields: &[&[u8]],
 ) -> Result<(i128, &'a [u8]), LineFault>
-    requires { text.now ≡ fields_text (words fields.now) }
-    ensures same { Gives (λ p. (p.0, p.1.now)) result (decimal_fields (words fields.now)) }
+    requires { text.now ≡ fields_text (field_texts fields.now) }
+    ensures same { Gives (λ p. (p.0, p.1.now)) result (decimal_fields (field_texts fields.now)) }
     ensures small { IfOk result (λ p. unsigned_abs p.0 < 10 ^ 33) }
 {
     let [first, ..] = fields else {
@@ -221,7 +221,7 @@ fn between(
     requires low { unsigned_abs low ≤ 10 ^ 38 }
     requires high { unsigned_abs high ≤ 10 ^ 38 }
     ensures { Gives (λ m. m) result
-        (between coded.now said.entry.signal said.entry.field.now said.entry.text.now low high unit.now) }
+        (values_between coded.now said.entry.signal said.entry.field.now said.entry.text.now low high unit.now) }
 {
     if low > high {
         return Err(LineFault::Bad(Reason::NoRange(Text::copied(alloc, said.text)?)));
@@ -239,7 +239,7 @@ fn around(
 ) -> Result<MeantValues, LineFault>
     ensures { Gives (λ m. m) result
         (around coded.now said.entry.signal said.entry.field.now said.entry.text.now first.now
-        (words others.now)) }
+        (field_texts others.now)) }
 {
     let middle = decimal_field(alloc, first)?;
     let rest = joined(alloc, others)?;
@@ -264,7 +264,7 @@ fn from_to(
 ) -> Result<MeantValues, LineFault>
     ensures { Gives (λ m. m) result
         (from_to coded.now said.entry.signal said.entry.field.now said.entry.text.now first.now
-        (words others.now)) }
+        (field_texts others.now)) }
 {
     let low = decimal_field(alloc, first)?;
     let rest = joined(alloc, others)?;
@@ -293,7 +293,7 @@ pub(crate) fn expected_values(
     others: &[&[u8]],
 ) -> Result<MeantValues, LineFault>
     ensures { Gives (λ m. m) result (expected_values coded.now said.entry.signal
-        said.entry.field.now said.entry.text.now said.entry.first.now (words others.now)) }
+        said.entry.field.now said.entry.text.now said.entry.first.now (field_texts others.now)) }
 {
     let [mark, others @ ..] = others else {
         return by_text(alloc, coded, said);

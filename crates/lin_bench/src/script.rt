@@ -4,13 +4,13 @@ ghost use Rattle.std.specs.Prelude.{◌≡◌, ◌≤◌, ◌+◌, length, optio
 ghost use Rattle.lin_values.specs.Coded.{CodedData};
 ghost use Rattle.lin_bench.specs.Words.{read_worded_line};
 ghost use Rattle.std.specs.Str.Lines.{strip_carriage_return};
-ghost use Rattle.lin_log.specs.Judged.{left_of};
+ghost use Rattle.lin_log.specs.Judged.{left_length};
 ghost use Rattle.lin_parts.specs.declared.parts.Parts.{Parts};
 ghost use Rattle.lin_bench.specs.Scripts.{bad_lines, read, without_mark};
-ghost use Rattle.lin_bench.specs.Read.{AreBadOf, IsWhy, NextLine, Reads, said};
+ghost use Rattle.lin_bench.specs.Read.{AreBadOf, IsWhy, NextLine, ReadsBenchScript, script_left};
 
 use crate::fault::{LineFault, ReadFault};
-use crate::line::Line;
+use crate::line::ScriptLine;
 use crate::reason::Reason;
 use crate::words::read_worded_line;
 use lin_log::{first_line, without_return};
@@ -39,9 +39,9 @@ struct LinesLeft<'a> {
 impl<'a> LinesLeft<'a> {
     #[tactic(auto, unfolding(crate::specs::Scripts::read))]
     fn new(text: &'a [u8]) -> LinesLeft<'a>
-        ensures said { (c : Parts) (k : Option CodedData) → said c k result ≡ read c k text.now }
+        ensures said { (c : Parts) (k : Option CodedData) → script_left c k result ≡ read c k text.now }
         ensures first { result.number ≡ 1 }
-        ensures left { left_of result.left ≤ length text.now + 1 }
+        ensures left { left_length result.left ≤ length text.now + 1 }
     {
         LinesLeft {
             left: Some(without_mark(text)),
@@ -55,12 +55,12 @@ impl<'a> LinesLeft<'a> {
         alloc: Global,
         cluster: &Cluster,
         coded: Option<&Coded>,
-    ) -> Result<Option<(u64, Line)>, ReadFault>
-        requires { self.old.number + left_of self.old.left ≤ 16777218 }
-        ensures line { NextLine result (said cluster.now (option_map (λ k. k.now) coded.entry) self.old)
-            (said cluster.now (option_map (λ k. k.now) coded.entry) self.new) }
-        ensures bound { self.new.number + left_of self.new.left
-            ≤ self.old.number + left_of self.old.left }
+    ) -> Result<Option<(u64, ScriptLine)>, ReadFault>
+        requires { self.old.number + left_length self.old.left ≤ 16777218 }
+        ensures line { NextLine result (script_left cluster.now (option_map (λ k. k.now) coded.entry) self.old)
+            (script_left cluster.now (option_map (λ k. k.now) coded.entry) self.new) }
+        ensures bound { self.new.number + left_length self.new.left
+            ≤ self.old.number + left_length self.old.left }
         ensures passed { IfOk result
             (λ line. IfSome line (λ _. self.old.number + 1 ≤ self.new.number)) }
     {
@@ -97,9 +97,9 @@ pub fn read(
     cluster: &Cluster,
     coded: Option<&Coded>,
     text: &[u8],
-) -> Result<Vec<(u64, Line)>, ReadFault>
+) -> Result<Vec<(u64, ScriptLine)>, ReadFault>
     requires { length text.now ≤ 16777216 }
-    ensures said { Reads (λ v. v.items) result
+    ensures said { ReadsBenchScript (λ v. v.items) result
         (read cluster.now (option_map (λ k. k.now) coded.entry) text.now) }
     ensures few { IfOk result (λ v. length v.items ≤ length text.now + 1) }
 {

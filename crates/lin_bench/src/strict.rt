@@ -2,58 +2,58 @@
 
 ghost use Rattle.std.specs.Prelude.{◌≡◌, drop, find, is_some, IfOk};
 ghost use Rattle.lin_bench.specs.Made.{expects};
-ghost use Rattle.lin_bench.specs.Strict.{expects_something, is_due, is_never_due, left_out, not_due, speaks_of_last, strictly};
+ghost use Rattle.lin_bench.specs.Strict.{expects_something, is_due_event, is_never_due, left_out, not_due, speaks_of_last, strictly};
 ghost use Rattle.lin_bench.specs.Strict.{tells_due};
 
 use crate::expected::Expected;
 use crate::got::{Got, Judged};
-use crate::line::{Disturbance, Extent, Line, Slots};
+use crate::line::{Disturbance, Extent, ScriptLine, Slots};
 use crate::replies::{counted_refusal, first_refusal};
-use crate::slots::due_node;
+use crate::slot_runs::due_node;
 use crate::taken::events_of;
 use lin_core::{Event, Log, LogEntry};
 use std::alloc::{AllocError, Global};
 
 /// Whether a line expects something.
-fn expects(line: &Line) -> bool
+fn expects(line: &ScriptLine) -> bool
     ensures { result ≡ is_some (expects line.now) }
 {
     match line {
-        Line::Slots(
+        ScriptLine::Slots(
             Slots {
                 extent: Extent::Idle(_),
                 ..
             },
         ) => true,
-        Line::Until(_, _) | Line::While(_, _) | Line::Expect(_) => true,
+        ScriptLine::Until(_, _) | ScriptLine::While(_, _) | ScriptLine::Expect(_) => true,
         _ => false,
     }
 }
 
 /// Whether one of these lines expects something.
-pub(crate) fn expects_something(lines: &[(u64, Line)]) -> bool
+pub(crate) fn expects_something(lines: &[(u64, ScriptLine)]) -> bool
     ensures { result ≡ expects_something lines.now }
 {
     lines.iter().any(|line| expects(&line.1))
 }
 
 /// Whether what a line expects, if there is one, is said of the last step before it.
-pub(crate) fn speaks_of_last(line: &Option<(u64, Line)>) -> bool
+pub(crate) fn speaks_of_last(line: &Option<(u64, ScriptLine)>) -> bool
     ensures { result ≡ speaks_of_last line.now }
 {
     match line {
-        Some((_, Line::Expect(Expected::Done | Expected::Refused(_)))) => true,
+        Some((_, ScriptLine::Expect(Expected::Done | Expected::Refused(_)))) => true,
         _ => false,
     }
 }
 
 /// The nodes whose responses a line leaves out.
-pub(crate) fn left_out(alloc: Global, line: &Line) -> Result<Vec<u8>, AllocError>
+pub(crate) fn left_out(alloc: Global, line: &ScriptLine) -> Result<Vec<u8>, AllocError>
     ensures { IfOk result (λ v. v.items ≡ left_out line.now) }
 {
     match line {
-        Line::Slot(Disturbance::Leave(nodes)) => Vec::from_slice(alloc, nodes.as_slice()),
-        Line::Slots(slots) | Line::Until(slots, _) | Line::While(slots, _) => {
+        ScriptLine::Slot(Disturbance::Leave(nodes)) => Vec::from_slice(alloc, nodes.as_slice()),
+        ScriptLine::Slots(slots) | ScriptLine::Until(slots, _) | ScriptLine::While(slots, _) => {
             Vec::from_slice(alloc, slots.leave.as_slice())
         }
         _ => Ok(Vec::new(alloc)),
@@ -61,7 +61,7 @@ pub(crate) fn left_out(alloc: Global, line: &Line) -> Result<Vec<u8>, AllocError
 }
 
 fn is_due(event: &Event, node: u8) -> bool
-    ensures { result ≡ is_due node event.now }
+    ensures { result ≡ is_due_event node event.now }
 {
     due_node(event) == Some(node)
 }

@@ -3,9 +3,9 @@
 ghost use Rattle.std.specs.Prelude.{◌≡◌, ◌≤◌, length, filter, find, option_map, replicate, reverse};
 ghost use Rattle.lin_core.specs.History.{events};
 ghost use Rattle.lin_core.specs.declared.event.Event.{Event};
-ghost use Rattle.lin_bench.specs.Searches.{Finds, IsReached, KeepsCleared, Skips, cleared};
+ghost use Rattle.lin_bench.specs.Searches.{Finds, IsReached, KeepsCleared, Skips, cleared_count};
 ghost use Rattle.lin_bench.specs.Searches.{last_end, last_search, place_before};
-ghost use Rattle.lin_bench.specs.Verdicts.{all_events, is_of, same_kind};
+ghost use Rattle.lin_bench.specs.Verdicts.{all_events, is_of_kind, same_kind};
 
 use lin_core::{Event, Log, LogEntry, Reply};
 
@@ -39,7 +39,7 @@ impl EventKind {
 
     /// Whether an event is of this kind.
     pub(crate) fn has(self, event: &Event) -> bool
-        ensures { result ≡ is_of self event.now }
+        ensures { result ≡ is_of_kind self event.now }
     {
         match (self, event) {
             (EventKind::Messages { from, to }, Event::Message { from: f, to: t, .. }) => {
@@ -57,7 +57,7 @@ impl EventKind {
 
 /// A place in a log.
 #[derive(Clone, Copy)]
-pub(crate) struct Place {
+pub(crate) struct LogPlace {
     /// The number of an entry.
     pub(crate) entry: usize,
     /// How many events of a kind stand before the place, of those of the entry on.
@@ -71,7 +71,7 @@ pub(crate) struct Search {
     /// Whether there was one, which is taken.
     pub(crate) found: bool,
     /// Where the next search for the kind goes on.
-    pub(crate) end: Place,
+    pub(crate) end: LogPlace,
 }
 
 /// How many numbers of hosts there are.
@@ -99,7 +99,7 @@ impl Cleared {
 
     /// How many entries hold none of a host's messages, or of any.
     pub(crate) fn before(&self, which: Option<u8>) -> usize
-        ensures { result ≡ cleared self.now which }
+        ensures { result ≡ cleared_count self.now which }
     {
         match which {
             Some(host) => self.hosts[host as usize],
@@ -120,7 +120,7 @@ impl Cleared {
 
 /// What expectations have taken.
 #[derive(Drop)]
-pub(crate) struct Taken {
+pub(crate) struct TakenEvents {
     /// All events of so many entries are taken.
     pub(crate) forgotten: usize,
     /// The searches since these, each behind them.
@@ -162,7 +162,7 @@ pub(crate) fn skipped(
 
 /// The first event of a kind from a place on, and the place behind it: the end of the log where
 /// there is none.
-pub(crate) fn event_from(log: &Log, kind: EventKind, from: Place) -> (Option<&Event>, Place)
+pub(crate) fn event_from(log: &Log, kind: EventKind, from: LogPlace) -> (Option<&Event>, LogPlace)
     requires within { from.entry ≤ length log.now.entries }
     requires reached { IsReached log.now.entries kind from }
     ensures { Finds log.now.entries kind from (option_map (λ e. e.now) result.0) result.1 }
@@ -171,7 +171,7 @@ pub(crate) fn event_from(log: &Log, kind: EventKind, from: Place) -> (Option<&Ev
     for index in from.entry..log.len() {
         match skipped(events_of(log.entry(index)), kind, skip) {
             Ok((event, events)) => {
-                let end = Place {
+                let end = LogPlace {
                     entry: index,
                     events,
                 };
@@ -180,7 +180,7 @@ pub(crate) fn event_from(log: &Log, kind: EventKind, from: Place) -> (Option<&Ev
             Err(left) => skip = left,
         }
     }
-    let end = Place {
+    let end = LogPlace {
         entry: log.len(),
         events: skip,
     };
@@ -195,12 +195,12 @@ fn last_search(searches: &[Search], kind: EventKind) -> Option<&Search>
 }
 
 /// Where it ended, or the end of what is forgotten.
-pub(crate) fn last_end(taken: &Taken, kind: EventKind) -> Place
+pub(crate) fn last_end(taken: &TakenEvents, kind: EventKind) -> LogPlace
     ensures { result ≡ last_end kind taken.now }
 {
     match last_search(taken.searches.as_slice(), kind) {
         Some(search) => search.end,
-        None => Place {
+        None => LogPlace {
             entry: taken.forgotten,
             events: 0,
         },
@@ -208,11 +208,11 @@ pub(crate) fn last_end(taken: &Taken, kind: EventKind) -> Place
 }
 
 /// The place before an event that a search found, by the place behind it.
-pub(crate) fn place_before(event: Option<&Event>, end: Place) -> Place
+pub(crate) fn place_before(event: Option<&Event>, end: LogPlace) -> LogPlace
     ensures { result ≡ place_before (option_map (λ e. e.now) event.entry) end }
 {
     match event {
-        Some(_) => Place {
+        Some(_) => LogPlace {
             events: end.events.saturating_sub(1),
             ..end
         },
@@ -222,7 +222,7 @@ pub(crate) fn place_before(event: Option<&Event>, end: Place) -> Place
 
 /// The last event of a kind among events.
 fn last_in(events: &[Event], kind: EventKind) -> Option<&Event>
-    ensures { option_map (λ e. e.now) result ≡ find (is_of kind) (reverse events.now) }
+    ensures { option_map (λ e. e.now) result ≡ find (is_of_kind kind) (reverse events.now) }
 {
     events.iter().rev().find(|event| kind.has(event))
 }
@@ -230,7 +230,7 @@ fn last_in(events: &[Event], kind: EventKind) -> Option<&Event>
 /// The last event of a kind in a log.
 pub(crate) fn last_event(log: &Log, kind: EventKind) -> Option<&Event>
     ensures { option_map (λ e. e.now) result
-        ≡ find (is_of kind) (reverse (all_events (reverse log.now.entries))) }
+        ≡ find (is_of_kind kind) (reverse (all_events (reverse log.now.entries))) }
 {
     let mut left = log.len();
     while left > 0 {

@@ -4,9 +4,9 @@ ghost use Rattle.std.specs.Prelude.{◌≡◌, ◌∷◌, ◌++◌, [], flat_map
 ghost use Rattle.std.specs.Option.{option_map_or};
 ghost use Rattle.lin_log.specs.Words.{spaced_word};
 ghost use Rattle.lin_text.specs.Written.{Grows, WritesText};
-ghost use Rattle.lin_log.specs.Language.{named};
+ghost use Rattle.lin_log.specs.Language.{named_language};
 ghost use Rattle.lin_bench.specs.Fields.{frames_called};
-ghost use Rattle.lin_bench.specs.LineWords.{said, spaced_words};
+ghost use Rattle.lin_bench.specs.LineWords.{as_word, spaced_words};
 ghost use Rattle.lin_bench.specs.Texts.{bad_line_text, bytes_word, entries_word, expected_text, expected_words, fields_word};
 ghost use Rattle.lin_bench.specs.Texts.{found_text, got_text, hint_words, judged_text};
 ghost use Rattle.lin_bench.specs.Texts.{or_marked, other_pending_words, pending_text};
@@ -16,10 +16,10 @@ ghost use Rattle.lin_bench.specs.Texts.{unmet_text, verdict_text, what_text};
 
 use crate::expected::{Expected, Since};
 use crate::got::{Got, Judged, Judgement, Pending, is_unmet};
-use crate::line_words::{Line, Word, put_line, put_spaced, put_words};
+use crate::line_words::{Word, WordList, put_line, put_spaced, put_words};
 use crate::reason::{Hint, Reason};
 use lin_core::Listed;
-use lin_log::{Numbers, Reason as StepReason, put_node};
+use lin_log::{NumberNaming, Reason as StepReason, put_node};
 use lin_parts::Cluster;
 use lin_text::{TextBuffer, TextWriter, WriteFailed};
 use std::io::Write;
@@ -46,26 +46,26 @@ fn entries_word(count: u16) -> &'static str
 }
 
 /// Why a line of a step is bad.
-fn step_line(reason: &StepReason) -> Line<'_>
+fn step_line(reason: &StepReason) -> WordList<'_>
     ensures { result ≡ step_reason_words reason.now }
 {
     match reason {
-        StepReason::NoPort => return Line::of(&[Word::Fixed("missing port")]),
-        StepReason::NoStep => return Line::of(&[Word::Fixed("missing step after the port")]),
+        StepReason::NoPort => return WordList::of(&[Word::Fixed("missing port")]),
+        StepReason::NoStep => return WordList::of(&[Word::Fixed("missing step after the port")]),
         StepReason::UnknownStep(word) => {
-            return Line::of(&[Word::Fixed("unknown step"), Word::Said(word.as_slice())]);
+            return WordList::of(&[Word::Fixed("unknown step"), Word::Said(word.as_slice())]);
         }
         StepReason::NoNode(name) => {
-            return Line::of(&[Word::Fixed("unknown node"), Word::Said(name.as_slice())]);
+            return WordList::of(&[Word::Fixed("unknown node"), Word::Said(name.as_slice())]);
         }
         StepReason::NoSignal(name) => {
-            return Line::of(&[Word::Fixed("unknown signal"), Word::Said(name.as_slice())]);
+            return WordList::of(&[Word::Fixed("unknown signal"), Word::Said(name.as_slice())]);
         }
         StepReason::NoTable(name) => {
-            return Line::of(&[Word::Fixed("unknown table"), Word::Said(name.as_slice())]);
+            return WordList::of(&[Word::Fixed("unknown table"), Word::Said(name.as_slice())]);
         }
         StepReason::NoNumber { field, most } => {
-            return Line::of(&[
+            return WordList::of(&[
                 Word::Fixed("expected a number from 0 to"),
                 Word::Number(u64::from(*most)),
                 Word::Mark(","),
@@ -73,58 +73,58 @@ fn step_line(reason: &StepReason) -> Line<'_>
                 Word::Said(field.as_slice()),
             ]);
         }
-        StepReason::NoBytes => return Line::of(&[Word::Fixed("expected hexadecimal bytes")]),
+        StepReason::NoBytes => return WordList::of(&[Word::Fixed("expected hexadecimal bytes")]),
         StepReason::NotBytes(fields) => {
-            return Line::of(&[
+            return WordList::of(&[
                 Word::Fixed("expected hexadecimal bytes, not"),
                 Word::Fields(fields.as_slice()),
             ]);
         }
         StepReason::TooManyBytes(field) => {
-            return Line::of(&[
+            return WordList::of(&[
                 Word::Said(field.as_slice()),
                 Word::Fixed("has more than 8 bytes"),
             ]);
         }
         StepReason::Takes { word, fields } => {
-            return Line::of(&[
+            return WordList::of(&[
                 Word::Said(word.as_slice()),
                 Word::Fixed("takes"),
                 Word::Number(u64::from(*fields)),
                 Word::Fixed(plural(*fields)),
             ]);
         }
-        StepReason::SendForm => return Line::of(&[Word::Fixed("usage: send NODE NODE BYTES")]),
+        StepReason::SendForm => return WordList::of(&[Word::Fixed("usage: send NODE NODE BYTES")]),
         StepReason::WriteForm => {
-            return Line::of(&[Word::Fixed("usage: write SIGNAL VALUE")]);
+            return WordList::of(&[Word::Fixed("usage: write SIGNAL VALUE")]);
         }
-        StepReason::TimeoutForm => return Line::of(&[Word::Fixed(
+        StepReason::TimeoutForm => return WordList::of(&[Word::Fixed(
             "usage: timeout NODE down or timeout NODE up",
         )]),
     }
 }
 
 /// Three words, and the hint about the values of a signal after them.
-fn hinted_line<'a>(one: Word<'a>, two: Word<'a>, three: Word<'a>, hint: &'a Hint) -> Line<'a>
-    ensures { result ≡ said one.entry ∷ said two.entry ∷ said three.entry ∷ hint_words hint.now }
+fn hinted_line<'a>(one: Word<'a>, two: Word<'a>, three: Word<'a>, hint: &'a Hint) -> WordList<'a>
+    ensures { result ≡ as_word one.entry ∷ as_word two.entry ∷ as_word three.entry ∷ hint_words hint.now }
 {
     let end = Word::Mark(")");
     match hint {
-        Hint::Nothing => return Line::of(&[one, two, three]),
+        Hint::Nothing => return WordList::of(&[one, two, three]),
         Hint::NoEncoding => {
-            return Line::of(&[one, two, three, Word::Fixed("(no encoding)")]);
+            return WordList::of(&[one, two, three, Word::Fixed("(no encoding)")]);
         }
         Hint::Units(units) => {
             let units = Word::Listed(units.as_slice());
-            return Line::of(&[one, two, three, Word::Fixed("(units:"), units, end]);
+            return WordList::of(&[one, two, three, Word::Fixed("(units:"), units, end]);
         }
         Hint::Nearest(near) => {
             let near = Word::Listed(near.as_slice());
-            return Line::of(&[one, two, three, Word::Fixed("(nearest:"), near, end]);
+            return WordList::of(&[one, two, three, Word::Fixed("(nearest:"), near, end]);
         }
         Hint::Values(texts) => {
             let texts = Word::Listed(texts.as_slice());
-            return Line::of(&[one, two, three, Word::Fixed("(values:"), texts, end]);
+            return WordList::of(&[one, two, three, Word::Fixed("(values:"), texts, end]);
         }
     }
 }
@@ -140,112 +140,122 @@ fn or_marked(ranged: bool) -> &'static str
 }
 
 /// Why a line is bad.
-fn reason_line(reason: &Reason) -> Line<'_>
+fn reason_line(reason: &Reason) -> WordList<'_>
     ensures { result ≡ reason_words reason.now }
 {
     match reason {
         Reason::Step(why) => return step_line(why),
-        Reason::NoRefusal(name) => return Line::of(&[
+        Reason::NoRefusal(name) => return WordList::of(&[
             Word::Fixed("unknown refusal"),
             Word::Said(name.as_slice()),
         ]),
-        Reason::NoFrame(name) => return Line::of(&[
+        Reason::NoFrame(name) => return WordList::of(&[
             Word::Fixed("unknown frame"),
             Word::Said(name.as_slice()),
         ]),
-        Reason::NoData { frame, bytes } => return Line::of(&[
+        Reason::NoData { frame, bytes } => return WordList::of(&[
             Word::Said(frame.as_slice()),
             Word::Fixed("has"),
             Word::Number(u64::from(*bytes)),
             Word::Fixed(bytes_word(*bytes)),
         ]),
-        Reason::NoEntry { table, entries } => return Line::of(&[
+        Reason::NoEntry { table, entries } => return WordList::of(&[
             Word::Said(table.as_slice()),
             Word::Fixed("has"),
             Word::Number(u64::from(*entries)),
             Word::Fixed(entries_word(*entries)),
         ]),
-        Reason::NoRange(field) => return Line::of(&[
+        Reason::NoRange(field) => return WordList::of(&[
             Word::Fixed("expected a range LOW..HIGH, not"),
             Word::Said(field.as_slice()),
         ]),
-        Reason::TooSmall => return Line::of(&[Word::Fixed(
+        Reason::TooSmall => return WordList::of(&[Word::Fixed(
             "expected a number of at least 1, not 0",
         )]),
-        Reason::SlotsForm => return Line::of(&[Word::Fixed(
+        Reason::SlotsForm => return WordList::of(&[Word::Fixed(
             "usage: slots N, slots N ms or slots idle",
         )]),
-        Reason::SlotForm(word) => return Line::of(&[
+        Reason::SlotForm(word) => return WordList::of(&[
             Word::Fixed("expected hurt or leave after slot, not"),
             Word::Said(word.as_slice()),
         ]),
-        Reason::LeaveForm => return Line::of(&[Word::Fixed("usage: slot leave NODE ..")]),
-        Reason::SlotsLeaveForm => return Line::of(&[Word::Fixed("usage: slots N leave NODE ..")]),
-        Reason::ExpectForm => return Line::of(&[Word::Fixed("missing expectation after expect")]),
-        Reason::UnknownExpectation(fields) => return Line::of(&[
+        Reason::LeaveForm => return WordList::of(&[Word::Fixed("usage: slot leave NODE ..")]),
+        Reason::SlotsLeaveForm => return WordList::of(&[Word::Fixed(
+            "usage: slots N leave NODE ..",
+        )]),
+        Reason::ExpectForm => return WordList::of(&[Word::Fixed(
+            "missing expectation after expect",
+        )]),
+        Reason::UnknownExpectation(fields) => return WordList::of(&[
             Word::Fixed("unknown expectation"),
             Word::Fields(fields.as_slice()),
         ]),
-        Reason::UntilForm => return Line::of(&[Word::Fixed("missing expectation after until")]),
-        Reason::UnknownUntil(fields) => return Line::of(&[
+        Reason::UntilForm => return WordList::of(&[Word::Fixed("missing expectation after until")]),
+        Reason::UnknownUntil(fields) => return WordList::of(&[
             Word::Fixed("until doesn't accept"),
             Word::Fields(fields.as_slice()),
         ]),
-        Reason::WhileForm => return Line::of(&[Word::Fixed("missing expectation after while")]),
-        Reason::UnknownWhile(fields) => return Line::of(&[
+        Reason::WhileForm => return WordList::of(&[Word::Fixed("missing expectation after while")]),
+        Reason::UnknownWhile(fields) => return WordList::of(&[
             Word::Fixed("while doesn't accept"),
             Word::Fields(fields.as_slice()),
         ]),
-        Reason::WhenForm => return Line::of(&[Word::Fixed(
+        Reason::WhenForm => return WordList::of(&[Word::Fixed(
             "usage: when NODE PATTERN answer BYTES or when NODE PATTERN silent",
         )]),
-        Reason::NoResponder(field) => return Line::of(&[
+        Reason::NoResponder(field) => return WordList::of(&[
             Word::Said(field.as_slice()),
             Word::Fixed("isn't a responder with a NAD"),
         ]),
-        Reason::NoMessages { from, to } => return Line::of(&[
+        Reason::NoMessages { from, to } => return WordList::of(&[
             Word::Fixed("no message goes from"),
             Word::Said(from.as_slice()),
             Word::Fixed("to"),
             Word::Said(to.as_slice()),
         ]),
-        Reason::NotItsSignal { node, signal } => return Line::of(&[
+        Reason::NotItsSignal { node, signal } => return WordList::of(&[
             Word::Said(node.as_slice()),
             Word::Fixed("neither publishes nor subscribes"),
             Word::Said(signal.as_slice()),
         ]),
-        Reason::NoPattern(fields) => return Line::of(&[
+        Reason::NoPattern(fields) => return WordList::of(&[
             Word::Fields(fields.as_slice()),
             Word::Fixed("isn't a pattern"),
         ]),
-        Reason::LongAnswer => return Line::of(&[Word::Fixed("answer has more than 4095 bytes")]),
-        Reason::TimeoutsForm => return Line::of(&[Word::Fixed(
+        Reason::LongAnswer => return WordList::of(&[Word::Fixed(
+            "answer has more than 4095 bytes",
+        )]),
+        Reason::TimeoutsForm => return WordList::of(&[Word::Fixed(
             "usage: timeouts N ms or timeouts off",
         )]),
-        Reason::EveryForm => return Line::of(&[Word::Fixed("usage: every N ms STEP or every off")]),
-        Reason::EveryStep => return Line::of(&[Word::Fixed("every accepts only send and write")]),
-        Reason::ServicesForm => return Line::of(&[Word::Fixed(
+        Reason::EveryForm => return WordList::of(&[Word::Fixed(
+            "usage: every N ms STEP or every off",
+        )]),
+        Reason::EveryStep => return WordList::of(&[Word::Fixed(
+            "every accepts only send and write",
+        )]),
+        Reason::ServicesForm => return WordList::of(&[Word::Fixed(
             "usage: services on or services off",
         )]),
-        Reason::NoServices => return Line::of(&[Word::Fixed("no responder answers services")]),
-        Reason::ErrorsForm => return Line::of(&[Word::Fixed(
+        Reason::NoServices => return WordList::of(&[Word::Fixed("no responder answers services")]),
+        Reason::ErrorsForm => return WordList::of(&[Word::Fixed(
             "usage: response_errors on or response_errors off",
         )]),
-        Reason::NoErrorSignal => return Line::of(&[Word::Fixed(
+        Reason::NoErrorSignal => return WordList::of(&[Word::Fixed(
             "no responder has a response_error signal",
         )]),
-        Reason::WideErrorSignal { signal, bits } => return Line::of(&[
+        Reason::WideErrorSignal { signal, bits } => return WordList::of(&[
             Word::Fixed("response_error signal"),
             Word::Said(signal.as_slice()),
             Word::Fixed("has"),
             Word::Number(u64::from(*bits)),
             Word::Fixed("bits"),
         ]),
-        Reason::NoDecimal(field) => return Line::of(&[
+        Reason::NoDecimal(field) => return WordList::of(&[
             Word::Said(field.as_slice()),
             Word::Fixed("isn't a number"),
         ]),
-        Reason::NoWords => return Line::of(&[Word::Fixed("missing value")]),
+        Reason::NoWords => return WordList::of(&[Word::Fixed("missing value")]),
         Reason::NoValue { text, signal, hint } => return hinted_line(
             Word::Said(signal.as_slice()),
             Word::Fixed("has no value"),
@@ -267,7 +277,7 @@ fn reason_line(reason: &Reason) -> Line<'_>
             text,
             signal,
         } => {
-            return Line::of(&[
+            return WordList::of(&[
                 Word::Number(*count),
                 Word::Fixed("values of"),
                 Word::Said(signal.as_slice()),
@@ -282,7 +292,7 @@ fn reason_line(reason: &Reason) -> Line<'_>
 pub fn put_reason<W: Write>(out: &mut TextWriter<'_, W>, reason: &Reason)
     ensures { Grows W.contents out.old out.new (reason_text reason.now) }
 {
-    put_line(out, &Numbers, &reason_line(reason));
+    put_line(out, &NumberNaming, &reason_line(reason));
 }
 
 fn put_bad_line<W: Write>(out: &mut TextWriter<'_, W>, line: u64, reason: &Reason)
@@ -325,7 +335,7 @@ fn since_word(since: Since) -> &'static str
 }
 
 /// What is expected.
-fn expected_line(expected: &Expected) -> Line<'_>
+fn expected_line(expected: &Expected) -> WordList<'_>
     ensures { result ≡ expected_words expected.now }
 {
     match expected {
@@ -334,7 +344,7 @@ fn expected_line(expected: &Expected) -> Line<'_>
             signal,
             value,
         } => {
-            return Line::of(&[
+            return WordList::of(&[
                 Word::Fixed("signal"),
                 Word::Node(*node),
                 Word::Signal(*signal),
@@ -347,7 +357,7 @@ fn expected_line(expected: &Expected) -> Line<'_>
             low,
             high,
         } => {
-            return Line::of(&[
+            return WordList::of(&[
                 Word::Fixed("signal"),
                 Word::Node(*node),
                 Word::Signal(*signal),
@@ -360,7 +370,7 @@ fn expected_line(expected: &Expected) -> Line<'_>
             text,
             values: _,
         } => {
-            return Line::of(&[
+            return WordList::of(&[
                 Word::Fixed("signal"),
                 Word::Node(*node),
                 Word::Signal(*signal),
@@ -369,14 +379,14 @@ fn expected_line(expected: &Expected) -> Line<'_>
             ]);
         }
         Expected::Waiting { host, count } => {
-            return Line::of(&[
+            return WordList::of(&[
                 Word::Fixed("waiting"),
                 Word::Node(*host),
                 Word::Number(u64::from(*count)),
             ]);
         }
         Expected::Message { from, to, pattern } => {
-            return Line::of(&[
+            return WordList::of(&[
                 Word::Fixed("message"),
                 Word::Node(*from),
                 Word::Node(*to),
@@ -390,7 +400,7 @@ fn expected_line(expected: &Expected) -> Line<'_>
             most_ms,
             since,
         } => {
-            return Line::of(&[
+            return WordList::of(&[
                 Word::Fixed("message"),
                 Word::Node(*from),
                 Word::Node(*to),
@@ -401,58 +411,58 @@ fn expected_line(expected: &Expected) -> Line<'_>
             ]);
         }
         Expected::NoMessage { from, to } => {
-            return Line::of(&[
+            return WordList::of(&[
                 Word::Fixed("no message"),
                 Word::Node(*from),
                 Word::Node(*to),
             ]);
         }
-        Expected::NoLost { host: None } => return Line::of(&[Word::Fixed("no lost")]),
+        Expected::NoLost { host: None } => return WordList::of(&[Word::Fixed("no lost")]),
         Expected::NoLost { host: Some(host) } => {
-            return Line::of(&[Word::Fixed("no lost"), Word::Node(*host)]);
+            return WordList::of(&[Word::Fixed("no lost"), Word::Node(*host)]);
         }
-        Expected::Sent { host } => return Line::of(&[Word::Fixed("sent"), Word::Node(*host)]),
+        Expected::Sent { host } => return WordList::of(&[Word::Fixed("sent"), Word::Node(*host)]),
         Expected::Lost { host, cause } => {
-            return Line::of(&[
+            return WordList::of(&[
                 Word::Fixed("lost"),
                 Word::Node(*host),
                 Word::Fixed(cause.word()),
             ]);
         }
-        Expected::Seen(how) => return Line::of(&[Word::Fixed("seen"), Word::Fixed(how.word())]),
+        Expected::Seen(how) => return WordList::of(&[Word::Fixed("seen"), Word::Fixed(how.word())]),
         Expected::Frame {
             frame,
             pattern: None,
         } => {
-            return Line::of(&[Word::Fixed("frame"), Word::Frame(*frame)]);
+            return WordList::of(&[Word::Fixed("frame"), Word::Frame(*frame)]);
         }
         Expected::Frame {
             frame,
             pattern: Some(pattern),
         } => {
-            return Line::of(&[
+            return WordList::of(&[
                 Word::Fixed("frame"),
                 Word::Frame(*frame),
                 Word::Pattern(pattern),
             ]);
         }
         Expected::Slot { table, entry } => {
-            return Line::of(&[
+            return WordList::of(&[
                 Word::Fixed("slot"),
                 Word::Table(*table),
                 Word::Number(u64::from(*entry)),
             ]);
         }
         Expected::Table(table) => {
-            return Line::of(&[Word::Fixed("table"), Word::Table(*table)]);
+            return WordList::of(&[Word::Fixed("table"), Word::Table(*table)]);
         }
-        Expected::Done => return Line::of(&[Word::Fixed("done")]),
+        Expected::Done => return WordList::of(&[Word::Fixed("done")]),
         Expected::Refused(why) => {
-            return Line::of(&[Word::Fixed("refused"), Word::Fixed(why.word())]);
+            return WordList::of(&[Word::Fixed("refused"), Word::Fixed(why.word())]);
         }
-        Expected::Asleep => return Line::of(&[Word::Fixed("asleep")]),
-        Expected::Awake => return Line::of(&[Word::Fixed("awake")]),
-        Expected::Idle => return Line::of(&[Word::Fixed("idle")]),
+        Expected::Asleep => return WordList::of(&[Word::Fixed("asleep")]),
+        Expected::Awake => return WordList::of(&[Word::Fixed("awake")]),
+        Expected::Idle => return WordList::of(&[Word::Fixed("idle")]),
     }
 }
 
@@ -467,7 +477,7 @@ fn put_expected<W: Write>(out: &mut TextWriter<'_, W>, cluster: &Cluster, expect
 
 /// How many messages of a host wait, or answers of a node are noted.
 fn pending_words(pending: &Pending) -> [Word<'_>; 4]
-    ensures { map said result ≡ pending_words pending.now }
+    ensures { map as_word result ≡ pending_words pending.now }
 {
     let (node, count, how) = match pending {
         Pending::MessagesWait(host, count) => (*host, *count, "waiting"),
@@ -483,7 +493,7 @@ fn pending_words(pending: &Pending) -> [Word<'_>; 4]
 
 fn put_others<W: Write>(out: &mut TextWriter<'_, W>, cluster: &Cluster, pending: &[Pending])
     ensures { Grows W.contents out.old out.new
-        (spaced_words (named cluster.now) (frames_called cluster.now)
+        (spaced_words (named_language cluster.now) (frames_called cluster.now)
         (flat_map other_pending_words pending.now)) }
 {
     for one in pending {
@@ -506,21 +516,21 @@ pub fn put_pending<W: Write>(out: &mut TextWriter<'_, W>, cluster: &Cluster, pen
 }
 
 /// What is so in its place, in few words.
-fn got_line(got: &Got) -> Line<'_>
+fn got_line(got: &Got) -> WordList<'_>
     ensures { result ≡ short_words got.now }
 {
     match got {
-        Got::Value(value) => return Line::of(&[Word::Value(value)]),
-        Got::Meaning(text) => return Line::of(&[Word::Said(text.as_slice())]),
-        Got::Waiting(count) => return Line::of(&[Word::Number(*count as u64)]),
-        Got::Message(bytes) => return Line::of(&[Word::Bytes(bytes.as_slice())]),
-        Got::Took(time) => return Line::of(&[Word::Number(*time), Word::Fixed("us")]),
-        Got::Sent { number } => return Line::of(&[
+        Got::Value(value) => return WordList::of(&[Word::Value(value)]),
+        Got::Meaning(text) => return WordList::of(&[Word::Said(text.as_slice())]),
+        Got::Waiting(count) => return WordList::of(&[Word::Number(*count as u64)]),
+        Got::Message(bytes) => return WordList::of(&[Word::Bytes(bytes.as_slice())]),
+        Got::Took(time) => return WordList::of(&[Word::Number(*time), Word::Fixed("us")]),
+        Got::Sent { number } => return WordList::of(&[
             Word::Fixed("message"),
             Word::Number(u64::from(*number)),
             Word::Fixed("sent"),
         ]),
-        Got::Lost { number, cause } => return Line::of(&[
+        Got::Lost { number, cause } => return WordList::of(&[
             Word::Fixed("message"),
             Word::Number(u64::from(*number)),
             Word::Fixed("lost"),
@@ -530,7 +540,7 @@ fn got_line(got: &Got) -> Line<'_>
             host,
             number,
             cause,
-        } => return Line::of(&[
+        } => return WordList::of(&[
             Word::Fixed("message"),
             Word::Number(u64::from(*number)),
             Word::Fixed("of"),
@@ -538,26 +548,29 @@ fn got_line(got: &Got) -> Line<'_>
             Word::Fixed("lost"),
             Word::Fixed(cause.word()),
         ]),
-        Got::NoEvent => return Line::of(&[Word::Fixed("none")]),
-        Got::Seen(how) => return Line::of(&[Word::Fixed(how.word())]),
-        Got::Frame { frame, bytes } => return Line::of(&[
+        Got::NoEvent => return WordList::of(&[Word::Fixed("none")]),
+        Got::Seen(how) => return WordList::of(&[Word::Fixed(how.word())]),
+        Got::Frame { frame, bytes } => return WordList::of(&[
             Word::Frame(*frame),
             Word::Bytes(bytes.as_slice()),
         ]),
-        Got::Slot { table, entry } => return Line::of(&[
+        Got::Slot { table, entry } => return WordList::of(&[
             Word::Table(*table),
             Word::Number(u64::from(*entry)),
         ]),
-        Got::Table(table) => return Line::of(&[Word::Table(*table)]),
-        Got::NoSlot => return Line::of(&[Word::Fixed("no slot")]),
-        Got::Done => return Line::of(&[Word::Fixed("done")]),
-        Got::Refused(why) => return Line::of(&[Word::Fixed("refused"), Word::Fixed(why.word())]),
-        Got::NoStep => return Line::of(&[Word::Fixed("no step")]),
-        Got::Asleep => return Line::of(&[Word::Fixed("asleep")]),
-        Got::Awake => return Line::of(&[Word::Fixed("awake")]),
-        Got::StillPending(_) => return Line::of(&[]),
-        Got::NoNode => return Line::of(&[Word::Fixed("no such node")]),
-        Got::NoNodeOrSignal => return Line::of(&[Word::Fixed("no such node or signal")]),
+        Got::Table(table) => return WordList::of(&[Word::Table(*table)]),
+        Got::NoSlot => return WordList::of(&[Word::Fixed("no slot")]),
+        Got::Done => return WordList::of(&[Word::Fixed("done")]),
+        Got::Refused(why) => return WordList::of(&[
+            Word::Fixed("refused"),
+            Word::Fixed(why.word()),
+        ]),
+        Got::NoStep => return WordList::of(&[Word::Fixed("no step")]),
+        Got::Asleep => return WordList::of(&[Word::Fixed("asleep")]),
+        Got::Awake => return WordList::of(&[Word::Fixed("awake")]),
+        Got::StillPending(_) => return WordList::of(&[]),
+        Got::NoNode => return WordList::of(&[Word::Fixed("no such node")]),
+        Got::NoNodeOrSignal => return WordList::of(&[Word::Fixed("no such node or signal")]),
     }
 }
 

@@ -3,18 +3,18 @@
 ghost use Rattle.std.specs.Prelude.{◌≡◌, ◌<◌, ◌+◌, IfOk, IfSome, length};
 ghost use Rattle.std.specs.Char.{is_ascii_digit};
 ghost use Rattle.std.specs.List.{list_all};
-ghost use Rattle.lin_bench.specs.Fields.{fields, signal_field, words};
+ghost use Rattle.lin_bench.specs.Fields.{line_fields, signal_field, field_texts};
 ghost use Rattle.lin_bench.specs.Lines.{read_line};
 ghost use Rattle.lin_bench.specs.Read.{Gives};
-ghost use Rattle.lin_bench.specs.Words.{asks_value, begins_hex, is_array_word, is_hex, is_numeric};
+ghost use Rattle.lin_bench.specs.Words.{asks_value, begins_hex, is_array_word, is_hex, is_number_or_range};
 ghost use Rattle.lin_bench.specs.Words.{is_raw, is_signal, is_signal_after, missing_hint, or_this};
-ghost use Rattle.lin_bench.specs.Words.{or_unmarked, reads_zero, signal_at, unmarked, why_at};
+ghost use Rattle.lin_bench.specs.Words.{or_unmarked, reads_zero, signal_in_fields, unmarked_reason, why_at};
 ghost use Rattle.lin_bench.specs.Words.{why_coded, why_unmarked, why_value};
 
 use crate::fault::LineFault;
 use crate::fields::{copied_fields, range_ends, signal_field};
 use crate::hints::{texts_in, units_hint, units_in, values_hint};
-use crate::line::Line;
+use crate::line::ScriptLine;
 use crate::lines::read_line;
 use crate::reason::{Hint, Reason};
 use crate::rule_lines::digit;
@@ -66,7 +66,7 @@ fn is_raw(field: &[u8]) -> bool
 
 /// Whether the fields of a value are meant as a raw value or a range.
 fn is_numeric(value: &[&[u8]]) -> bool
-    ensures { result ≡ is_numeric (words value.now) }
+    ensures { result ≡ is_number_or_range (field_texts value.now) }
 {
     match value {
         [field] => is_raw(*field) || range_ends(*field).is_some(),
@@ -81,7 +81,7 @@ fn reads_zero<'a>(
     before: &'a [&'a [u8]],
     signal: &'a [u8],
 ) -> Result<bool, AllocError>
-    ensures { IfOk result (λ is. is ≡ reads_zero cluster.now (words before.now) signal.now) }
+    ensures { IfOk result (λ is. is ≡ reads_zero cluster.now (field_texts before.now) signal.now) }
 {
     let line = in_numbers(alloc, before, signal, &Value::Scalar(0))?;
     match read_line(alloc, cluster, line.as_slice()) {
@@ -93,7 +93,7 @@ fn reads_zero<'a>(
 
 /// Whether the fields before a signal are those of a write or of an expectation.
 fn asks_value(before: &[&[u8]]) -> bool
-    ensures { result ≡ asks_value (words before.now) }
+    ensures { result ≡ asks_value (field_texts before.now) }
 {
     is_write(before) || is_expect(before)
 }
@@ -106,7 +106,7 @@ fn is_signal_after<'a>(
     signal: &'a [u8],
 ) -> Result<bool, AllocError>
     ensures { IfOk result
-        (λ is. is ≡ is_signal_after cluster.now (words before.now) signal.now) }
+        (λ is. is ≡ is_signal_after cluster.now (field_texts before.now) signal.now) }
 {
     if asks_value(before) {
         return reads_zero(alloc, cluster, before, signal);
@@ -122,7 +122,7 @@ fn is_signal<'a>(
     at: usize,
 ) -> Result<bool, AllocError>
     requires { at < length all.now }
-    ensures { IfOk result (λ is. is ≡ is_signal cluster.now (words all.now) at) }
+    ensures { IfOk result (λ is. is ≡ is_signal cluster.now (field_texts all.now) at) }
 {
     is_signal_after(alloc, cluster, &all[..at], all[at])
 }
@@ -133,7 +133,7 @@ fn signal_at<'a>(
     cluster: &Cluster,
     all: &'a [&'a [u8]],
 ) -> Result<Option<usize>, AllocError>
-    ensures at { IfOk result (λ o. o ≡ signal_at cluster.now (words all.now)) }
+    ensures at { IfOk result (λ o. o ≡ signal_in_fields cluster.now (field_texts all.now)) }
     ensures within { IfOk result (λ o. IfSome o (λ at. at + 1 < length all.now)) }
 {
     let mut at = all.len().saturating_sub(2).min(MOST_BEFORE);
@@ -173,7 +173,7 @@ fn unmarked(
     items: &[PlacedItem],
 ) -> Result<Reason, AllocError>
     ensures { IfOk result
-        (λ r. r ≡ unmarked coded.now signal ranged (words value.now) items.now) }
+        (λ r. r ≡ unmarked_reason coded.now signal ranged (field_texts value.now) items.now) }
 {
     let text = joined(alloc, value)?;
     let hint = missing_hint(alloc, coded, signal, items, text.as_slice())?;
@@ -193,7 +193,7 @@ fn why_coded(
     ranged: bool,
     value: &[&[u8]],
 ) -> Result<Option<Reason>, AllocError>
-    ensures { IfOk result (λ r. r ≡ why_coded coded.now signal ranged (words value.now)) }
+    ensures { IfOk result (λ r. r ≡ why_coded coded.now signal ranged (field_texts value.now)) }
 {
     match coded.encoding_of(signal) {
         Some(encoding) => {
@@ -214,7 +214,7 @@ fn why_value(
     value: &[&[u8]],
 ) -> Result<Option<Reason>, AllocError>
     ensures { IfOk result (λ r. r ≡ why_value coded.now
-        (signal_field cluster.now signal.now) ranged (words value.now)) }
+        (signal_field cluster.now signal.now) ranged (field_texts value.now)) }
 {
     if is_numeric(value) {
         return Ok(None);
@@ -235,7 +235,7 @@ fn why_at<'a>(
     at: usize,
 ) -> Result<Option<Reason>, AllocError>
     requires { at + 1 < length all.now }
-    ensures { IfOk result (λ r. r ≡ why_at cluster.now coded.now (words all.now) at) }
+    ensures { IfOk result (λ r. r ≡ why_at cluster.now coded.now (field_texts all.now) at) }
 {
     let ranged = is_expect(&all[..at]);
     why_value(alloc, cluster, coded, all[at], ranged, &all[at + 1..])
@@ -248,7 +248,7 @@ fn why_unmarked<'a>(
     coded: &Coded,
     all: &'a [&'a [u8]],
 ) -> Result<Option<Reason>, AllocError>
-    ensures { IfOk result (λ r. r ≡ why_unmarked cluster.now coded.now (words all.now)) }
+    ensures { IfOk result (λ r. r ≡ why_unmarked cluster.now coded.now (field_texts all.now)) }
 {
     match signal_at(alloc, cluster, all)? {
         Some(at) => why_at(alloc, cluster, coded, all, at),
@@ -273,10 +273,10 @@ pub(crate) fn read_unworded<'a>(
     coded: &Coded,
     line: &[u8],
     all: &'a [&'a [u8]],
-) -> Result<Option<Line>, LineFault>
-    requires { words all.now ≡ fields line.now }
+) -> Result<Option<ScriptLine>, LineFault>
+    requires { field_texts all.now ≡ line_fields line.now }
     ensures { Gives (λ l. l) result
-        (or_unmarked cluster.now coded.now (fields line.now) (read_line cluster.now line.now)) }
+        (or_unmarked cluster.now coded.now (line_fields line.now) (read_line cluster.now line.now)) }
 {
     match read_line(alloc, cluster, line) {
         Ok(said) => Ok(said),

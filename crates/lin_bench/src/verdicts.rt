@@ -3,9 +3,9 @@
 ghost use Rattle.std.specs.Prelude.{◌≡◌, ◌==◌, ◌<◌, ◌≤◌, ◌&&◌, IfOk, OnOk, None, option_map};
 ghost use Rattle.lin_core.specs.Core.{past_of};
 ghost use Rattle.lin_bench.specs.Made.{comes};
-ghost use Rattle.lin_bench.specs.Searches.{IsKnown, taken_by};
+ghost use Rattle.lin_bench.specs.Searches.{IsSearchState, taken_by};
 ghost use Rattle.lin_bench.specs.Making.{course_on};
-ghost use Rattle.lin_bench.specs.Meant.{is_among};
+ghost use Rattle.lin_bench.specs.Meant.{is_among_values};
 ghost use Rattle.lin_bench.specs.Slots.{pending};
 ghost use Rattle.lin_bench.specs.Verdicts.{done_verdict, idle_verdict, kind_taken, last_event};
 ghost use Rattle.lin_bench.specs.Verdicts.{lost_verdict, message_verdict, newest_reply};
@@ -15,7 +15,7 @@ ghost use Rattle.lin_bench.specs.Verdicts.{slot_verdict, table_verdict, taking, 
 ghost use Rattle.lin_bench.specs.Verdicts.{with_taken, data_of, fits_data, frame_verdict, good_verdict, same_frame};
 
 use crate::answers::fits;
-use crate::arrivals::{self, Earlier};
+use crate::arrivals::{self, EarlierMessages};
 use crate::carried::{last_carried, open_after};
 use crate::expected::{Carried, Expected, Since};
 use crate::got::Got;
@@ -23,7 +23,9 @@ use crate::losses::first_loss;
 use crate::meant::MeantValues;
 use crate::ruled::{RuledCore, pending};
 use crate::rules::Pattern;
-use crate::taken::{EventKind, Search, Taken, event_from, last_end, last_event, place_before};
+use crate::taken::{
+    EventKind, Search, TakenEvents, event_from, last_end, last_event, place_before,
+};
 use lin_core::{Cause, Core, Event, Look, Payload, Refusal, Reply, Seen};
 use lin_frame::Value;
 use lin_text::Many;
@@ -89,7 +91,7 @@ fn signal_within(seen: Option<Value>, low: u16, high: u16) -> Option<Got>
 
 /// Whether a value is one that words say.
 fn signal_means(seen: Option<Value>, values: &MeantValues) -> Option<Got>
-    ensures { result ≡ value_verdict (is_among values.now) seen }
+    ensures { result ≡ value_verdict (is_among_values values.now) seen }
 {
     match seen {
         None => Some(Got::NoNodeOrSignal),
@@ -151,13 +153,13 @@ fn within(first: Option<Got>, most_ms: u32, took: u64) -> Option<Got>
 }
 
 /// How long the next message took from the earlier one, in microseconds.
-fn time_taken(core: &Core, taken: &Taken, since: Since, from: u8, to: u8) -> u64
-    requires { IsKnown core.now.log taken.now }
+fn time_taken(core: &Core, taken: &TakenEvents, since: Since, from: u8, to: u8) -> u64
+    requires { IsSearchState core.now.log taken.now }
     ensures { result ≡ time_taken core.now.cluster (past_of core.now)
         (taken_by core.now.log taken.now) since from to }
 {
     let answer = EventKind::Messages { from, to };
-    let earlier = Earlier { since, from, to };
+    let earlier = EarlierMessages { since, from, to };
     let place = last_end(taken, answer);
     arrivals::time_taken(core.cluster(), core.log(), earlier, answer, place)
 }
@@ -410,15 +412,15 @@ fn idle(alloc: Global, ruled: &RuledCore) -> Result<Option<Got>, AllocError>
 /// The oldest event of a kind that isn't taken.
 fn look_for<'a>(
     core: &'a Core,
-    taken: &mut Taken,
+    taken: &mut TakenEvents,
     kind: EventKind,
 ) -> Result<Option<&'a Event>, AllocError>
-    requires { IsKnown core.now.log taken.old }
+    requires { IsSearchState core.now.log taken.old }
     ensures event { IfOk result (λ e. option_map (λ e. e.now) e
         ≡ next_event (past_of core.now) (taken_by core.now.log taken.old) kind) }
     ensures taken { OnOk result
         (taken_by core.now.log taken.new ≡ taken_by core.now.log taken.old) }
-    ensures known { IsKnown core.now.log taken.new }
+    ensures known { IsSearchState core.now.log taken.new }
 {
     let from = last_end(taken, kind);
     let (event, end) = event_from(core.log(), kind, from);
@@ -433,16 +435,16 @@ fn look_for<'a>(
 /// The oldest event of a kind that no expectation has taken, which is taken now.
 fn take_next<'a>(
     core: &'a Core,
-    taken: &mut Taken,
+    taken: &mut TakenEvents,
     kind: EventKind,
 ) -> Result<Option<&'a Event>, AllocError>
-    requires { IsKnown core.now.log taken.old }
+    requires { IsSearchState core.now.log taken.old }
     ensures event { IfOk result (λ e. option_map (λ e. e.now) e
         ≡ next_event (past_of core.now) (taken_by core.now.log taken.old) kind) }
     ensures taken { OnOk result (taken_by core.now.log taken.new ≡ with_taken
         (next_event (past_of core.now) (taken_by core.now.log taken.old) kind) kind
         (taken_by core.now.log taken.old)) }
-    ensures known { IsKnown core.now.log taken.new }
+    ensures known { IsSearchState core.now.log taken.new }
 {
     let from = last_end(taken, kind);
     let (event, end) = event_from(core.log(), kind, from);
@@ -476,15 +478,15 @@ fn kind_taken(expected: &Expected) -> Option<EventKind>
 pub(crate) fn comes(
     alloc: Global,
     ruled: &RuledCore,
-    taken: &mut Taken,
+    taken: &mut TakenEvents,
     expected: &Expected,
 ) -> Result<bool, AllocError>
-    requires { IsKnown ruled.now.core.log taken.old }
+    requires { IsSearchState ruled.now.core.log taken.old }
     ensures comes { IfOk result (λ is. is ≡ comes ruled.now.core.cluster ruled.now.core.opening
         (taken_by ruled.now.core.log taken.old) expected.now (course_on ruled.now)) }
     ensures taken { OnOk result
         (taken_by ruled.now.core.log taken.new ≡ taken_by ruled.now.core.log taken.old) }
-    ensures known { IsKnown ruled.now.core.log taken.new }
+    ensures known { IsSearchState ruled.now.core.log taken.new }
 {
     match kind_taken(expected) {
         Some(kind) => Ok(look_for(ruled.core(), taken, kind)?.is_some()),
@@ -498,16 +500,16 @@ pub(crate) fn comes(
 pub(crate) fn verdict(
     alloc: Global,
     ruled: &RuledCore,
-    taken: &mut Taken,
+    taken: &mut TakenEvents,
     expected: &Expected,
 ) -> Result<Option<Got>, AllocError>
-    requires { IsKnown ruled.now.core.log taken.old }
+    requires { IsSearchState ruled.now.core.log taken.old }
     ensures verdict { IfOk result
         (λ v. v ≡ verdict ruled.now.core.cluster ruled.now.core.opening (past_of ruled.now.core)
         ruled.now.rules.noted (taken_by ruled.now.core.log taken.old) expected.now) }
     ensures taken { OnOk result (taken_by ruled.now.core.log taken.new
         ≡ taking (past_of ruled.now.core) (taken_by ruled.now.core.log taken.old) (kind_taken expected.now)) }
-    ensures known { IsKnown ruled.now.core.log taken.new }
+    ensures known { IsSearchState ruled.now.core.log taken.new }
 {
     let core = ruled.core();
     match expected {

@@ -3,28 +3,28 @@
 ghost use Rattle.std.specs.Prelude.{◌≡◌, ◌<◌, IfOk, drop, length, option_map, position};
 ghost use Rattle.std.specs.Str.{bytes_eq};
 ghost use Rattle.lin_log.specs.Words.{value_word};
-ghost use Rattle.lin_bench.specs.Fields.{fields, words};
+ghost use Rattle.lin_bench.specs.Fields.{line_fields, field_texts};
 ghost use Rattle.lin_bench.specs.Lines.{read_line};
-ghost use Rattle.lin_bench.specs.Parts.{parts_of};
+ghost use Rattle.lin_bench.specs.Parts.{worded_line_of};
 ghost use Rattle.lin_bench.specs.Read.{Gives};
-ghost use Rattle.lin_bench.specs.Words.{expected_line, from_end, in_numbers, is_expect, is_mark};
+ghost use Rattle.lin_bench.specs.Words.{expected_line, from_end, in_numbers, is_expect, is_value_mark};
 ghost use Rattle.lin_bench.specs.Words.{by_wish, nearest_line, worded_by, written_line};
 ghost use Rattle.lin_bench.specs.Words.{is_write, meant_by, meant_line, read_worded_line, wish_of};
-ghost use Rattle.lin_bench.specs.Words.{with_signal};
+ghost use Rattle.lin_bench.specs.Words.{line_with_signal};
 ghost use Rattle.lin_bench.specs.Words.{without_comment, worded, worded_line};
 
 use crate::expected::Expected;
 use crate::fault::LineFault;
 use crate::fields::{fields, signal_field, untabbed};
 use crate::hints::names_hash;
-use crate::line::Line;
+use crate::line::ScriptLine;
 use crate::lines::read_line;
 use crate::meant::MeantValues;
 use crate::reason::Reason;
 use crate::said_values::{Said, expected_values, joined, nearest_value, only_value};
 use crate::unmarked::read_unworded;
 use lin_frame::Value;
-use lin_log::{Numbers, put_shown, value_word};
+use lin_log::{NumberNaming, put_shown, value_word};
 use lin_parts::Cluster;
 use lin_text::{Text, TextBuffer, TextWriter};
 use lin_values::Coded;
@@ -53,21 +53,21 @@ struct Worded<'a> {
 /// Whether a field, counted from the end, is a word.
 fn is_from_end(fields: &[&[u8]], n: usize, word: &[u8]) -> bool
     requires { 0 < length word.now }
-    ensures { result ≡ bytes_eq (from_end (words fields.now) n) word.now }
+    ensures { result ≡ bytes_eq (from_end (field_texts fields.now) n) word.now }
 {
     n < fields.len() && fields[fields.len() - 1 - n] == word
 }
 
 /// Whether fields are those of a write, before its signal.
 pub(crate) fn is_write(before: &[&[u8]]) -> bool
-    ensures { result ≡ is_write (words before.now) }
+    ensures { result ≡ is_write (field_texts before.now) }
 {
     is_from_end(before, 0, b"write") || is_from_end(before, 1, b"write")
 }
 
 /// Whether fields are those of an expectation of a signal, before the signal.
 pub(crate) fn is_expect(before: &[&[u8]]) -> bool
-    ensures { result ≡ is_expect (words before.now) }
+    ensures { result ≡ is_expect (field_texts before.now) }
 {
     is_from_end(before, 1, b"signal")
         && (is_from_end(before, 2, b"expect")
@@ -77,7 +77,7 @@ pub(crate) fn is_expect(before: &[&[u8]]) -> bool
 
 /// What the fields before a signal and the mark behind it ask for.
 fn wish_of(before: &[&[u8]], mark: &[u8]) -> Option<Wish>
-    ensures { result ≡ wish_of (words before.now) mark.now }
+    ensures { result ≡ wish_of (field_texts before.now) mark.now }
 {
     if is_expect(before) {
         return if mark == b"=".as_slice() {
@@ -98,7 +98,7 @@ fn wish_of(before: &[&[u8]], mark: &[u8]) -> Option<Wish>
 
 /// The place of the first `=` or `~`.
 fn mark_at(all: &[&[u8]]) -> Option<usize>
-    ensures { result ≡ position (λ f. is_mark f.now) all.now }
+    ensures { result ≡ position (λ f. is_value_mark f.now) all.now }
 {
     all.iter().position(|field| *field == b"=".as_slice() || *field == b"~".as_slice())
 }
@@ -106,7 +106,7 @@ fn mark_at(all: &[&[u8]]) -> Option<usize>
 /// The parts of a line with words, if it is one.
 #[tactic(auto, unfolding(crate::specs::Words::worded))]
 fn worded_parts<'a>(all: &'a [&'a [u8]]) -> Option<Worded<'a>>
-    ensures { option_map parts_of result ≡ worded (words all.now) }
+    ensures { option_map worded_line_of result ≡ worded (field_texts all.now) }
 {
     let at = mark_at(all)?;
     let (front, rest) = all.split_at(at);
@@ -146,7 +146,7 @@ pub(crate) fn in_numbers<'a>(
     value: &Value,
 ) -> Result<Vec<u8>, AllocError>
     ensures { IfOk result
-        (λ text. text.items ≡ in_numbers (words before.now) signal.now value.now) }
+        (λ text. text.items ≡ in_numbers (field_texts before.now) signal.now value.now) }
 {
     let word = raw_word(alloc, value)?;
     let mut all = Vec::from_slice(alloc, before)?;
@@ -175,16 +175,18 @@ fn meant_by(expected: Expected, text: Text, values: MeantValues) -> Expected
 }
 
 /// A line that expects a value, with the values that words say in the place of this one.
-fn meant_line(said: Option<Line>, text: Text, values: MeantValues) -> Option<Line>
+fn meant_line(said: Option<ScriptLine>, text: Text, values: MeantValues) -> Option<ScriptLine>
     ensures { result ≡ meant_line text values said }
 {
     match said {
-        Some(Line::Expect(expected)) => Some(Line::Expect(meant_by(expected, text, values))),
-        Some(Line::Until(slots, expected)) => {
-            Some(Line::Until(slots, meant_by(expected, text, values)))
+        Some(ScriptLine::Expect(expected)) => Some(ScriptLine::Expect(meant_by(
+            expected, text, values,
+        ))),
+        Some(ScriptLine::Until(slots, expected)) => {
+            Some(ScriptLine::Until(slots, meant_by(expected, text, values)))
         }
-        Some(Line::While(slots, expected)) => {
-            Some(Line::While(slots, meant_by(expected, text, values)))
+        Some(ScriptLine::While(slots, expected)) => {
+            Some(ScriptLine::While(slots, meant_by(expected, text, values)))
         }
         other => other,
     }
@@ -196,9 +198,9 @@ fn with_value(
     cluster: &Cluster,
     line: &Worded<'_>,
     value: &Value,
-) -> Result<Option<Line>, LineFault>
+) -> Result<Option<ScriptLine>, LineFault>
     ensures { Gives (λ l. l) result (read_line cluster.now
-        (in_numbers (words line.now.before.now) line.now.signal.now value.now)) }
+        (in_numbers (field_texts line.now.before.now) line.now.signal.now value.now)) }
 {
     let numbers = in_numbers(alloc, line.before, line.signal, value)?;
     read_line(alloc, cluster, numbers.as_slice())
@@ -212,9 +214,9 @@ fn written_line(
     coded: &Coded,
     line: &Worded<'_>,
     said: Said<'_>,
-) -> Result<Option<Line>, LineFault>
+) -> Result<Option<ScriptLine>, LineFault>
     ensures { Gives (λ l. l) result (written_line cluster.now coded.now said.entry.signal
-        (parts_of line.now) said.entry.field.now said.entry.text.now said.entry.first.now) }
+        (worded_line_of line.now) said.entry.field.now said.entry.text.now said.entry.first.now) }
 {
     let value = only_value(alloc, coded, said)?;
     with_value(alloc, cluster, line, &value)
@@ -228,9 +230,9 @@ fn nearest_line(
     coded: &Coded,
     line: &Worded<'_>,
     said: Said<'_>,
-) -> Result<Option<Line>, LineFault>
+) -> Result<Option<ScriptLine>, LineFault>
     ensures { Gives (λ l. l) result (nearest_line cluster.now coded.now said.entry.signal
-        (parts_of line.now) said.entry.field.now said.entry.text.now said.entry.first.now) }
+        (worded_line_of line.now) said.entry.field.now said.entry.text.now said.entry.first.now) }
 {
     let value = nearest_value(alloc, coded, said)?;
     with_value(alloc, cluster, line, &value)
@@ -243,10 +245,10 @@ fn expected_line(
     coded: &Coded,
     said: Said<'_>,
     others: &[&[u8]],
-    zero: Option<Line>,
-) -> Result<Option<Line>, LineFault>
+    zero: Option<ScriptLine>,
+) -> Result<Option<ScriptLine>, LineFault>
     ensures { Gives (λ l. l) result (expected_line coded.now said.entry.signal
-        said.entry.field.now said.entry.text.now said.entry.first.now (words others.now) zero) }
+        said.entry.field.now said.entry.text.now said.entry.first.now (field_texts others.now) zero) }
 {
     let values = expected_values(alloc, coded, said, others)?;
     Ok(meant_line(zero, Text::copied(alloc, said.text)?, values))
@@ -260,10 +262,10 @@ fn by_wish(
     line: &Worded<'_>,
     said: Said<'_>,
     others: &[&[u8]],
-    zero: Option<Line>,
-) -> Result<Option<Line>, LineFault>
-    ensures { Gives (λ l. l) result (by_wish cluster.now coded.now (parts_of line.now) zero
-        said.entry.field.now said.entry.text.now said.entry.first.now (words others.now)
+    zero: Option<ScriptLine>,
+) -> Result<Option<ScriptLine>, LineFault>
+    ensures { Gives (λ l. l) result (by_wish cluster.now coded.now (worded_line_of line.now) zero
+        said.entry.field.now said.entry.text.now said.entry.first.now (field_texts others.now)
         said.entry.signal line.now.wish) }
 {
     match line.wish {
@@ -282,11 +284,11 @@ fn worded_by(
     line: &Worded<'_>,
     first: &[u8],
     others: &[&[u8]],
-    zero: Option<Line>,
+    zero: Option<ScriptLine>,
     signal: u16,
-) -> Result<Option<Line>, LineFault>
-    ensures { Gives (λ l. l) result (worded_by cluster.now coded.now (parts_of line.now) zero
-        first.now (words others.now) signal) }
+) -> Result<Option<ScriptLine>, LineFault>
+    ensures { Gives (λ l. l) result (worded_by cluster.now coded.now (worded_line_of line.now) zero
+        first.now (field_texts others.now) signal) }
 {
     let text = joined(alloc, line.words)?;
     let said = Said {
@@ -304,11 +306,11 @@ fn with_words(
     cluster: &Cluster,
     coded: &Coded,
     line: &Worded<'_>,
-    zero: Option<Line>,
+    zero: Option<ScriptLine>,
     signal: u16,
-) -> Result<Option<Line>, LineFault>
+) -> Result<Option<ScriptLine>, LineFault>
     ensures { Gives (λ l. l) result
-        (with_signal cluster.now coded.now (parts_of line.now) zero signal) }
+        (line_with_signal cluster.now coded.now (worded_line_of line.now) zero signal) }
 {
     match line.words {
         [first, others @ ..] => {
@@ -320,7 +322,7 @@ fn with_words(
 
 /// The fields after the first ones, so many.
 fn fields_after<'a>(all: &'a [&'a [u8]], n: usize) -> &'a [&'a [u8]]
-    ensures { words result.now ≡ drop n (words all.now) }
+    ensures { field_texts result.now ≡ drop n (field_texts all.now) }
 {
     if n < all.len() { &all[n..] } else { &[] }
 }
@@ -333,14 +335,14 @@ fn without_comment(
     coded: &Coded,
     line: &Worded<'_>,
     text: &[u8],
-    zero: Option<Line>,
+    zero: Option<ScriptLine>,
     signal: u16,
-) -> Result<Option<Line>, LineFault>
-    ensures { Gives (λ l. l) result (with_signal cluster.now coded.now
-        (without_comment (parts_of line.now) text.now) zero signal) }
+) -> Result<Option<ScriptLine>, LineFault>
+    ensures { Gives (λ l. l) result (line_with_signal cluster.now coded.now
+        (without_comment (worded_line_of line.now) text.now) zero signal) }
 {
     let text = untabbed(alloc, text)?;
-    let all = fields(alloc, &Numbers, text.as_slice())?;
+    let all = fields(alloc, &NumberNaming, text.as_slice())?;
     let whole = Worded {
         wish: line.wish,
         before: line.before,
@@ -359,9 +361,9 @@ fn read_worded(
     coded: &Coded,
     line: &Worded<'_>,
     text: &[u8],
-) -> Result<Option<Line>, LineFault>
+) -> Result<Option<ScriptLine>, LineFault>
     ensures { Gives (λ l. l) result
-        (worded_line cluster.now coded.now (parts_of line.now) text.now) }
+        (worded_line cluster.now coded.now (worded_line_of line.now) text.now) }
 {
     let zero = with_value(alloc, cluster, line, &Value::Scalar(0))?;
     let signal = signal_field(alloc, cluster, line.signal)?;
@@ -382,7 +384,7 @@ pub fn read_worded_line(
     cluster: &Cluster,
     coded: Option<&Coded>,
     line: &[u8],
-) -> Result<Option<Line>, LineFault>
+) -> Result<Option<ScriptLine>, LineFault>
     ensures { Gives (λ l. l) result
         (read_worded_line cluster.now (option_map (λ k. k.now) coded.entry) line.now) }
 {

@@ -9,7 +9,7 @@ use Rattle.lin_parts.specs.declared.description.Init.{Init}
 use Rattle.lin_parts.specs.declared.description.Init.TheVariants.{Scalar, Array}
 use Rattle.lin_parts.specs.declared.description.Number.{Number}
 use Rattle.lin_cluster.specs.Described.{described_nad, parts_of}
-use Rattle.lin_cluster.specs.Findings.{IsSound}
+use Rattle.lin_cluster.specs.Findings.{HasOnlyShortSlots}
 use Rattle.lin_cluster.specs.Sizes as sizes
 use Rattle.lin_cluster.specs.Fitting.{FitsInitial, FitsSignal, FitsFrame, FitsParts, HasMembers}
 use Rattle.lin_parts.specs.Rules.{AreTimes, IsCluster, IsAddress}
@@ -66,7 +66,7 @@ fits-frames d none k f lt =
       offsets = λ i p in'.
           let placed = get_or here.placed i p
           in let s = the_signal d placed
-          in let inside = ltb-false (8 * here.size.value) (placed.offset.value + s.size.value) (or_parts (nat_lt (8 * here.size.value) (placed.offset.value + s.size.value)) (sizes.is_array s.init && not (placed.offset.value % 8 == 0)) (good.placed i p in').inside).0
+          in let inside = ltb-false (8 * here.size.value) (placed.offset.value + s.size.value) (or_parts (nat_lt (8 * here.size.value) (placed.offset.value + s.size.value)) (sizes.is_array_init s.init && not (placed.offset.value % 8 == 0)) (good.placed i p in').inside).0
           in omega (arith, few, inside);
     }
 
@@ -74,7 +74,7 @@ small-nad : (o : Option ℕ) → IfSome o IsAddress → IfSome o (λ nad. nad < 
 small-nad None h = tt
 small-nad (Some a) h = omega (arith, h.1)
 
-pub numbers-fit : (d : Description) → IsSound d → FitsParts d
+pub numbers-fit : (d : Description) → HasOnlyShortSlots d → FitsParts d
 numbers-fit d sound =
     let none = nothing-else d sound
     in let limits = within-limits d none
@@ -97,7 +97,7 @@ described-times d none =
     }
 
 -- the law: where nothing is found but slots too short, what the description says is a cluster
-pub described-cluster : (d : Description) → IsSound d → HasMembers d → IsCluster (parts_of d)
+pub described-cluster : (d : Description) → HasOnlyShortSlots d → HasMembers d → IsCluster (parts_of d)
 described-cluster d sound members =
     let none = nothing-else d sound
     in record {

@@ -12,7 +12,7 @@ use Rattle.lin_parts.specs.Cluster.{signal_of}
 use Rattle.lin_parts.specs.Rules.{IsErrorSignal, is_array}
 use Rattle.lin_parts.specs.declared.parts.Signal.{Signal}
 use Rattle.lin_parts.proofs.Carrying.{kept_below}
-use Rattle.lin_cluster.specs.Described.{signals_of, frames_of, subscribes, is_concerned_by, is_error_signal, error_named, error_signal, error_signal_at, error_signals, parts_of, response_error, signal_number}
+use Rattle.lin_cluster.specs.Described.{signals_of, frames_of, subscribes, is_concerned_by, is_error_signal, error_named, error_signal, error_signal_at, error_signals, parts_of, response_error_name, signal_number}
 use Rattle.lin_cluster.proofs.Enumerated.{mapped_more}
 use Rattle.lin_cluster.proofs.KnownNames.{nodes-count}
 use Rattle.lin_cluster.proofs.NothingIn.{from-each}
@@ -55,7 +55,7 @@ error-at (x ∷ xs) n (suc s) e = let rest = error-at xs n s e in record { withi
 -- the frames and the signal of a responder that has one
 described-error : (d : Description) (k : ℕ × Name) → (1 ≤ k.0) × (k.0 ≤ length d.slaves) → IfSome (error_signal d k) (IsErrorSignal (parts_of d))
 described-error d k within =
-    elim (response_error d k.0) as (λ o. IfSome (option_map (error_signal_at d k) (option_and_then (error_named d k.0) o)) (IsErrorSignal (parts_of d))) [
+    elim (response_error_name d k.0) as (λ o. IfSome (option_map (error_signal_at d k) (option_and_then (error_named d k.0) o)) (IsErrorSignal (parts_of d))) [
       | None ↦ tt
       | Some name ↦
           elim (option_map_or (is_error_signal k.0) (slice_get (signals_of d) (signal_number d name)) false) as

@@ -57,7 +57,7 @@ lies first end p size from to =
 place-lies : (d : Description) → NothingElse d → (f : Frame) (p : PlacedSignal) (first : ℕ) → GoodPlaced d f p → first ≤ p.offset.value → lies_in first (8 * f.size.value) (described_place d p) ≡ true
 place-lies d none f p first good from =
     let s = the_signal d p
-    in let inside = inside-parts (8 * f.size.value) (p.offset.value + s.size.value) (sizes.is_array s.init && not (p.offset.value % 8 == 0)) good.inside
+    in let inside = inside-parts (8 * f.size.value) (p.offset.value + s.size.value) (sizes.is_array_init s.init && not (p.offset.value % 8 == 0)) good.inside
     in subst (λ (q : Place). lies_in first (8 * f.size.value) q ≡ true) (sym (place-is d p good.within))
     (lies first (8 * f.size.value) (placed_at p s) (good-size s.init s.size.value p.offset.value (the-signal-good d none p good.within).size inside.1) from inside.0)
 
@@ -76,7 +76,7 @@ record Apart (d : Description) (q p : PlacedSignal) : Type 0 where
   names : same_name q.signal p.signal ≡ false
   places : are_apart (described_place d q) (described_place d p) ≡ true
 
-apart-from : (d : Description) → NothingElse d → (f : Frame) (q p : PlacedSignal) → GoodPlaced d f q → GoodPlaced d f p → overlaps.meets d p (the_signal d p).size.value q ≡ false → Apart d q p
+apart-from : (d : Description) → NothingElse d → (f : Frame) (q p : PlacedSignal) → GoodPlaced d f q → GoodPlaced d f p → overlaps.overlaps_earlier d p (the_signal d p).size.value q ≡ false → Apart d q p
 apart-from d none f q p earlier good e =
     let s = the_signal d p
     in let t = the_signal d q
@@ -86,7 +86,7 @@ apart-from d none f q p earlier good e =
       names = parts.0;
       places = subst (λ (x : Place). are_apart x (described_place d p) ≡ true) (sym (place-is d q earlier.within))
           (subst (λ (y : Place). are_apart (placed_at q t) y ≡ true) (sym (place-is d p good.within))
-          (no-share p.offset.value s.size.value q.offset.value t.size.value (some-bits (sizes.is_array s.init) s.size.value (the-signal-good d none p good.within).size) (some-bits (sizes.is_array t.init) t.size.value (the-signal-good d none q earlier.within).size) shares));
+          (no-share p.offset.value s.size.value q.offset.value t.size.value (some-bits (sizes.is_array_init s.init) s.size.value (the-signal-good d none p good.within).size) (some-bits (sizes.is_array_init t.init) t.size.value (the-signal-good d none q earlier.within).size) shares));
     }
 
 pairs-apart : (d : Description) → NothingElse d → (f : Frame) → GoodFrame d f → AllPairs (Apart d) f.placed
@@ -94,9 +94,9 @@ pairs-apart d none f good i j x lt in' =
     let p = get_or f.placed j x
     in let q = get_or f.placed i x
     in let here = good.placed j x in'
-    in let overlap : list_any (overlaps.meets d p (the_signal d p).size.value) (take j f.placed) ≡ false = rw (signal-at d p here.within) at (good.apart j x in')
-    in let each = none-has (overlaps.meets d p (the_signal d p).size.value) (take j f.placed) overlap
-    in let meets : overlaps.meets d p (the_signal d p).size.value (get_or (take j f.placed) i x) ≡ false = each i x (omega (arith, length-take-le j f.placed (omega arith)))
+    in let overlap : list_any (overlaps.overlaps_earlier d p (the_signal d p).size.value) (take j f.placed) ≡ false = rw (signal-at d p here.within) at (good.apart j x in')
+    in let each = none-has (overlaps.overlaps_earlier d p (the_signal d p).size.value) (take j f.placed) overlap
+    in let meets : overlaps.overlaps_earlier d p (the_signal d p).size.value (get_or (take j f.placed) i x) ≡ false = each i x (omega (arith, length-take-le j f.placed (omega arith)))
     in apart-from d none f q p (good.placed i x (omega arith)) here (rw (get_or-take j f.placed i x lt) at meets)
 
 all-apart : (xs : List Place) → AllPairs (λ p q. are_apart p q ≡ true) xs → all_apart xs ≡ true
@@ -133,7 +133,7 @@ left-false false b e h = refl
 after : (d : Description) → NothingElse d → (p : PlacedSignal) → signal_number d p.signal < length d.signals → is_in_front d p ≡ false → 8 ≤ p.offset.value
 after d none p within front =
     let s = the_signal d p
-    in let some = some-bits (sizes.is_array s.init) s.size.value (the-signal-good d none p within).size
+    in let some = some-bits (sizes.is_array_init s.init) s.size.value (the-signal-good d none p within).size
     in let both : (nat_lt p.offset.value 8 && nat_lt 0 s.size.value) ≡ false = rw (signal-at d p within) at front
     in ltb-false p.offset.value 8 (left-false (nat_lt p.offset.value 8) (nat_lt 0 s.size.value) (lt-ltb 0 s.size.value (omega (arith, some))) both)
 

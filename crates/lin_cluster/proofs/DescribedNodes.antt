@@ -14,8 +14,8 @@ use Rattle.lin_parts.specs.declared.description.Attributes.{Attributes}
 use Rattle.lin_parts.specs.declared.description.Description.{Description}
 use Rattle.lin_parts.specs.declared.description.Name.{Name}
 use Rattle.lin_parts.specs.declared.description.Number.{Number}
-use Rattle.lin_cluster.specs.Described.{node_number, is_block_of, configured_nad, described_nad, responder, nodes_of, parts_of}
-use Rattle.lin_cluster.specs.Addresses.{address, addresses, bad_nad, nad_twice}
+use Rattle.lin_cluster.specs.Described.{node_number, is_block_of, configured_address, described_nad, responder, nodes_of, parts_of}
+use Rattle.lin_cluster.specs.Addresses.{block_address, addresses, bad_nad, nad_twice}
 use Rattle.lin_cluster.specs.FindingsNames.{is_responder, at_number}
 use Rattle.lin_cluster.specs.Fitting.{HasMembers}
 use Rattle.lin_parts.specs.Rules.{AreNodes, IsAddress, HaveOwnAddresses}
@@ -70,7 +70,7 @@ mapped-some : (o : Option Number) (a : ℕ) → option_map (λ (n : Number). n.v
 mapped-some None a e = absurd (cc)
 mapped-some (Some n) a e = (n, refl, cc)
 
-none-then : (o : Option Attributes) (a : ℕ) → is_some o ≡ false → option_and_then configured_nad o ≡ Some a → ⊥
+none-then : (o : Option Attributes) (a : ℕ) → is_some o ≡ false → option_and_then configured_address o ≡ Some a → ⊥
 none-then None a e is = cc
 none-then (Some b) a e is = cc
 
@@ -79,7 +79,7 @@ block-of d n a is =
     let p = position_or_len (is_block_of d n) d.attributes
     in elim (cases_lt p (length d.attributes)) as (λ _. BlockOf d n a) [
       | inl lt ↦
-          let there : configured_nad (block_at d p) ≡ Some a = rw (found-at (is_block_of d n) d.attributes no_block lt) at is
+          let there : configured_address (block_at d p) ≡ Some a = rw (found-at (is_block_of d n) d.attributes no_block lt) at is
           in let some = mapped-some (block_at d p).configured_nad a there
           in record { place = p; within = lt; owner = eqb-true (node_number d (block_at d p).node) n (passes_at_first (is_block_of d n) d.attributes no_block lt); number = some.0; given = some.1; value = some.2 }
       | inr le ↦ absurd (none-then (find (is_block_of d n) d.attributes) a (found-past (is_block_of d n) d.attributes le) is)
@@ -98,7 +98,7 @@ after-first p x xs d some few =
 known-responder : (d : Description) (name : Name) → 1 ≤ node_number d name → node_number d name ≤ length d.slaves → is_responder d name ≡ true
 known-responder d name some few = after-first (λ n. bytes_eq n.text name.text) d.master d.slaves no_name some few
 
-given-address : (d : Description) (n a : ℕ) → 1 ≤ n → n ≤ length d.slaves → (b : BlockOf d n a) → address d (block_at d b.place) ≡ Some b.number
+given-address : (d : Description) (n a : ℕ) → 1 ≤ n → n ≤ length d.slaves → (b : BlockOf d n a) → block_address d (block_at d b.place) ≡ Some b.number
 given-address d n a some few b =
     let is : is_responder d (block_at d b.place).node ≡ true = known-responder d (block_at d b.place).node (omega (arith, b.owner)) (omega (arith, b.owner))
     in cond-true (is_responder d (block_at d b.place).node) (block_at d b.place).configured_nad None is ∙ b.given
@@ -129,7 +129,7 @@ pub good-nad : (d : Description) → NothingElse d → (n : ℕ) → 1 ≤ n →
 good-nad d none n some few =
     if-some IsAddress (described_nad d n) (λ a is.
     let b = block-of d n a is
-    in subst IsAddress b.value (mapped-all (λ (m : Number). IsAddress m.value) (address d) d.attributes (good-addresses d none) b.place no_block b.number b.within (given-address d n a some few b)))
+    in subst IsAddress b.value (mapped-all (λ (m : Number). IsAddress m.value) (block_address d) d.attributes (good-addresses d none) b.place no_block b.number b.within (given-address d n a some few b)))
 
 one-nad : (d : Description) → NothingElse d → (m n a : ℕ) → 1 ≤ m → m < n → n ≤ length d.slaves → described_nad d m ≡ Some a → described_nad d n ≡ Some a → ⊥
 one-nad d none m n a some lt few here there =
@@ -140,8 +140,8 @@ one-nad d none m n a some lt few here there =
     in elim (cases_order b.place e.place) as (λ _. ⊥) [
       | inl same ↦ let one : m ≡ n = sym b.owner ∙ (ap (λ p. node_number d (block_at d p).node) same ∙ e.owner) in omega arith
       | inr apart ↦ elim apart as (λ _. ⊥) [
-        | inl before ↦ mapped-pairs (λ (y x : Number). y.value ≢ x.value) (address d) d.attributes (addresses-apart d none) b.place e.place no_block b.number e.number before e.within first second (b.value ∙ sym e.value)
-        | inr after ↦ mapped-pairs (λ (y x : Number). y.value ≢ x.value) (address d) d.attributes (addresses-apart d none) e.place b.place no_block e.number b.number after b.within second first (e.value ∙ sym b.value)
+        | inl before ↦ mapped-pairs (λ (y x : Number). y.value ≢ x.value) (block_address d) d.attributes (addresses-apart d none) b.place e.place no_block b.number e.number before e.within first second (b.value ∙ sym e.value)
+        | inr after ↦ mapped-pairs (λ (y x : Number). y.value ≢ x.value) (block_address d) d.attributes (addresses-apart d none) e.place b.place no_block e.number b.number after b.within second first (e.value ∙ sym b.value)
       ]
     ]
 

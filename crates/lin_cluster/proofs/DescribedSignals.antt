@@ -28,9 +28,9 @@ arrange false many whole at h e = absurd (cc)
 
 -- a place of a good size
 abbrev pub size_fits : Init → ℕ → Bool
-size_fits init size = if sizes.is_array init then nat_le 8 size && nat_le size 64 && size % 8 == 0 else nat_le 1 size && nat_le size 16
+size_fits init size = if sizes.is_array_init init then nat_le 8 size && nat_le size 64 && size % 8 == 0 else nat_le 1 size && nat_le size 16
 
-pub good-size : (init : Init) (size offset : ℕ) → size_fits init size ≡ true → (sizes.is_array init && not (offset % 8 == 0)) ≡ false → has_good_size (record { offset = offset; size = size; array = is_array (initial_of init) }) ≡ true
+pub good-size : (init : Init) (size offset : ℕ) → size_fits init size ≡ true → (sizes.is_array_init init && not (offset % 8 == 0)) ≡ false → has_good_size (record { offset = offset; size = size; array = is_array (initial_of init) }) ≡ true
 good-size (inits.Scalar n) size offset h e = h
 good-size (inits.Array place items) size offset h e = arrange (nat_le 8 size) (nat_le size 64) (size % 8 == 0) (offset % 8 == 0) h e
 
@@ -58,7 +58,7 @@ described-signals d none =
           (λ k s lt. let names = (get_or d.signals k s).subscribers in All-map (λ n. n < nodes (parts_of d)) (node_number d) names
           (λ i n in'. rw (nodes-count d) (node-within d (get_or names i n) ((good k s lt).subscribers i n in'))));
       sizes = All-map (λ (s : Signal). IsTrue (has_good_size (place_at 0 s))) (described_signal d) d.signals
-          (λ k s lt. let here = get_or d.signals k s in good-size here.init here.size.value 0 (good k s lt).size (and_right (sizes.is_array here.init) false refl));
+          (λ k s lt. let here = get_or d.signals k s in good-size here.init here.size.value 0 (good k s lt).size (and_right (sizes.is_array_init here.init) false refl));
       initials = All-map (λ (s : Signal). IsTrue (fits_place (place_at 0 s) s.initial)) (described_signal d) d.signals
           (λ k s lt. let here = get_or d.signals k s in good-initial here.init here.size.value (good k s lt).size (good k s lt).init);
     }

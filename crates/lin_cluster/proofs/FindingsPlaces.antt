@@ -7,9 +7,9 @@ use Rattle.std.proofs.lemmas.Bool.{lt-ltb, cases_lt}
 use Rattle.std.proofs.lemmas.Bool.Decides.{nat_tests}
 use Rattle.std.proofs.lemmas.List.Folds.{list_any_more}
 use Rattle.lin_cluster.specs.Described.{signal_number}
-use Rattle.lin_cluster.specs.Overlaps.{meets, share_bit}
+use Rattle.lin_cluster.specs.Overlaps.{overlaps_earlier, share_bit}
 use Rattle.lin_cluster.specs.FindingsNames.{signal_named, same_name}
-use Rattle.lin_cluster.specs.FindingsPlaces.{IsTaken, lies_in}
+use Rattle.lin_cluster.specs.FindingsPlaces.{IsTaken, has_bit_between}
 use Rattle.lin_cluster.specs.FindingsRanges.{HasBit}
 use Rattle.lin_cluster.specs.Known.{signal_facts}
 use Rattle.lin_cluster.specs.declared.findings.facts.SignalFacts.{SignalFacts}
@@ -57,7 +57,7 @@ no_bits m h = grind (arith, nat_tests)
 abbrev Shares : Description → ℕ → ℕ → List PlacedSignal → Bool → Bool
 Shares d a m xs b = list_any (λ (q : PlacedSignal). option_map_or (λ t. b && nat_lt 0 t.size.value && nat_lt a (q.offset.value + t.size.value) && nat_lt q.offset.value (a + m)) (signal_named d q.signal) false) xs
 
-bits_taken : (d : Description) (ranges : Ranges) (a m : ℕ) (xs : List PlacedSignal) → ((b e : ℕ) → b < e → HasBit ranges b e ↔ (list_any (λ q. option_map_or (λ t. lies_in b e q t.size.value) (signal_named d q.signal) false) xs ≡ true))
+bits_taken : (d : Description) (ranges : Ranges) (a m : ℕ) (xs : List PlacedSignal) → ((b e : ℕ) → b < e → HasBit ranges b e ↔ (list_any (λ q. option_map_or (λ t. has_bit_between b e q t.size.value) (signal_named d q.signal) false) xs ≡ true))
     → (list_any (λ q. option_map_or (λ t. share_bit a m q.offset.value t.size.value) (signal_named d q.signal) false) xs ≡ true) ↔ ((0 < m) × HasBit ranges a (a + m))
 bits_taken d ranges a m xs so =
     elim (cases_lt 0 m) as (λ _. (list_any (λ q. option_map_or (λ t. share_bit a m q.offset.value t.size.value) (signal_named d q.signal) false) xs ≡ true) ↔ ((0 < m) × HasBit ranges a (a + m))) [
@@ -72,12 +72,12 @@ bits_taken d ranges a m xs so =
 
 pub taken : (d : Description) (ranges : Ranges) (xs : List PlacedSignal) (p : PlacedSignal) (size : ℕ) (twice : Bool) → signal_number d p.signal < length d.signals
     → twice ≡ list_any (λ q. signal_number d q.signal == signal_number d p.signal) xs
-    → ((b e : ℕ) → b < e → HasBit ranges b e ↔ (list_any (λ q. option_map_or (λ t. lies_in b e q t.size.value) (signal_named d q.signal) false) xs ≡ true))
-    → (list_any (meets d p size) xs ≡ true) ↔ IsTaken twice ranges p size
+    → ((b e : ℕ) → b < e → HasBit ranges b e ↔ (list_any (λ q. option_map_or (λ t. has_bit_between b e q t.size.value) (signal_named d q.signal) false) xs ≡ true))
+    → (list_any (overlaps_earlier d p size) xs ≡ true) ↔ IsTaken twice ranges p size
 taken d ranges xs p size twice lt numbered so =
     let f : PlacedSignal → Bool = λ q. same_name q.signal p.signal in
     let g : PlacedSignal → Bool = λ q. option_map_or (λ t. share_bit p.offset.value size q.offset.value t.size.value) (signal_named d q.signal) false in
-    let e : list_any (meets d p size) xs ≡ (list_any f xs || list_any g xs) = any_either f g xs in
+    let e : list_any (overlaps_earlier d p size) xs ≡ (list_any f xs || list_any g xs) = any_either f g xs in
     let named : list_any f xs ≡ twice = (λ i. list_any (λ q. same-number d p q lt i) xs) ∙ sym numbered in
     let bits = bits_taken d ranges p.offset.value size xs so in (
       λ h. elim (either (list_any f xs) (list_any g xs) (sym e ∙ h)) as (λ _. IsTaken twice ranges p size) [
@@ -142,10 +142,10 @@ lies_high : (m o a b : ℕ) → (nat_lt 0 m && nat_lt a (o + m) && nat_lt o b) �
 lies_high m o a b h = grind (arith, nat_tests)
 
 pub added_bits : (p : PlacedSignal) (bits start size a b : ℕ) (old new : Type 0) → start ≡ p.offset.value → size ≡ bits → 0 < bits
-    → (new ↔ (old ⊎ ((start < b) × (a < start + size)))) → new ↔ (old ⊎ (lies_in a b p bits ≡ true))
+    → (new ↔ (old ⊎ ((start < b) × (a < start + size)))) → new ↔ (old ⊎ (has_bit_between a b p bits ≡ true))
 added_bits p bits start size a b old new at wide some same =
     let o : ℕ = p.offset.value in (
-      λ h. elim (same.0 h) as (λ _. old ⊎ (lies_in a b p bits ≡ true)) [
+      λ h. elim (same.0 h) as (λ _. old ⊎ (has_bit_between a b p bits ≡ true)) [
         | inl past ↦ inl past
         | inr now ↦ inr (lies_from bits o a b some (subst (λ x. x < b) at now.0) (subst (λ (xy : ℕ × ℕ). a < xy.0 + xy.1) (λ i. (at i, wide i)) now.1))
       ],

@@ -4,7 +4,7 @@ use Rattle.std.specs.Prelude.{◌||◌, ◌&&◌, not, flat_map, Some, None}
 use Rattle.std.specs.List.{list_any}
 use Rattle.lin_cluster.specs.FindingsNames.{at_name, carries_frame, table_named, when}
 use Rattle.lin_cluster.specs.Lint.{of_entry, off_time_base, unresolved_member}
-use Rattle.lin_cluster.specs.LintNames.{has_entry, has_event_of, has_sporadic_of, is_among, is_frame, is_resolving}
+use Rattle.lin_cluster.specs.LintNames.{has_entry, has_event_of, has_sporadic_of, is_among_names, is_frame, is_resolving}
 use Rattle.lin_cluster.specs.declared.finding.Finding.{Finding}
 use Rattle.lin_cluster.specs.declared.finding.FindingKind.TheVariants.{EventMemberBeside, SporadicMemberBeside, UnresolvedMember, ResolvingEntry}
 use Rattle.lin_parts.specs.declared.description.Description.{Description}
@@ -15,18 +15,18 @@ use Rattle.lin_parts.specs.declared.description.Table.{Table}
 use Rattle.lin_parts.specs.declared.description.TableEntry.{TableEntry}
 
 -- the members of event-triggered frames with an entry, added to none
-pub events_added : (d : Description) (t : Table) (entries : List ℕ → Bool) (none one : Bool) (vs : List EventFrame) (q : List ℕ) → ((r : List ℕ) → entries r ≡ has_entry t r) → none ≡ false → one ≡ (none || list_any (λ v. entries v.name.text && is_among v.members q) vs) → vs ≡ d.events → one ≡ has_event_of d t q
+pub events_added : (d : Description) (t : Table) (entries : List ℕ → Bool) (none one : Bool) (vs : List EventFrame) (q : List ℕ) → ((r : List ℕ) → entries r ≡ has_entry t r) → none ≡ false → one ≡ (none || list_any (λ v. entries v.name.text && is_among_names v.members q) vs) → vs ≡ d.events → one ≡ has_event_of d t q
 events_added d t entries none one vs q same empty is all =
-    is ∙ ap (λ b. b || list_any (λ (v : EventFrame). entries v.name.text && is_among v.members q) vs) empty
-    ∙ ap (list_any (λ (v : EventFrame). entries v.name.text && is_among v.members q)) all
-    ∙ (λ i. list_any (λ (v : EventFrame). same v.name.text i && is_among v.members q) d.events)
+    is ∙ ap (λ b. b || list_any (λ (v : EventFrame). entries v.name.text && is_among_names v.members q) vs) empty
+    ∙ ap (list_any (λ (v : EventFrame). entries v.name.text && is_among_names v.members q)) all
+    ∙ (λ i. list_any (λ (v : EventFrame). same v.name.text i && is_among_names v.members q) d.events)
 
 -- those of sporadic frames
-pub sporadic_added : (d : Description) (t : Table) (entries : List ℕ → Bool) (none one : Bool) (fs : List Sporadic) (q : List ℕ) → ((r : List ℕ) → entries r ≡ has_entry t r) → none ≡ false → one ≡ (none || list_any (λ f. entries f.name.text && is_among f.members q) fs) → fs ≡ d.sporadic → one ≡ has_sporadic_of d t q
+pub sporadic_added : (d : Description) (t : Table) (entries : List ℕ → Bool) (none one : Bool) (fs : List Sporadic) (q : List ℕ) → ((r : List ℕ) → entries r ≡ has_entry t r) → none ≡ false → one ≡ (none || list_any (λ f. entries f.name.text && is_among_names f.members q) fs) → fs ≡ d.sporadic → one ≡ has_sporadic_of d t q
 sporadic_added d t entries none one fs q same empty is all =
-    is ∙ ap (λ b. b || list_any (λ (f : Sporadic). entries f.name.text && is_among f.members q) fs) empty
-    ∙ ap (list_any (λ (f : Sporadic). entries f.name.text && is_among f.members q)) all
-    ∙ (λ i. list_any (λ (f : Sporadic). same f.name.text i && is_among f.members q) d.sporadic)
+    is ∙ ap (λ b. b || list_any (λ (f : Sporadic). entries f.name.text && is_among_names f.members q) fs) empty
+    ∙ ap (list_any (λ (f : Sporadic). entries f.name.text && is_among_names f.members q)) all
+    ∙ (λ i. list_any (λ (f : Sporadic). same f.name.text i && is_among_names f.members q) d.sporadic)
 
 -- what is warned of an entry, by the members
 abbrev entry_by : Description → (List ℕ → Bool) → (List ℕ → Bool) → Bool → TableEntry → List Finding

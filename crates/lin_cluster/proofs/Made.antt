@@ -9,10 +9,10 @@ use Rattle.lin_cluster.specs.Places.{wrong_publisher_at, is_outside, outside_at}
 use Rattle.lin_cluster.specs.UnknownNames.{unknown_signal}
 use Rattle.lin_cluster.specs.FindingsMembers.{is_bad_after, is_wrong_after, is_mixed_after, in_member_after}
 use Rattle.lin_cluster.specs.FindingsNames.{when, at_name, at_number, is_any_frame, signal_named, frame_named}
-use Rattle.lin_cluster.specs.FindingsNodes.{node_of, is_number, is_responder_number, are_two}
+use Rattle.lin_cluster.specs.FindingsNodes.{number_of_node, is_node_number, is_responder_number, are_two}
 use Rattle.lin_cluster.specs.FindingsPlaces.{is_outside_by, in_placed_by}
 use Rattle.lin_cluster.specs.Members.{is_in_front, is_bad_member, is_wrong_member}
-use Rattle.lin_cluster.specs.Slots.{size_of}
+use Rattle.lin_cluster.specs.Slots.{needed_size}
 use Rattle.lin_cluster.specs.Known.{signal_facts, frame_facts, size_named}
 use Rattle.lin_cluster.specs.Models.{frame_model, model_named, first_model, differ}
 use Rattle.lin_cluster.specs.declared.finding.Finding.{Finding}
@@ -54,15 +54,15 @@ value_made f x v h = ap (λ m. option_map_or (λ y. y) m v) h
 
 placed_by : (d : Description) (publisher : Option ℕ) (f : Frame) (p : PlacedSignal) (a b c : Finding) (o : Option Signal)
     → when (is_none (option_map (signal_facts d) o)) a ++ when (option_map_or (λ s. are_two s.publisher publisher) (option_map (signal_facts d) o) false) b ++ when (option_map_or (is_outside_by f p) (option_map (signal_facts d) o) false) c
-    ≡ when (is_none o) a ++ when (option_map_or (λ s. are_two (node_of d s.publisher) publisher) o false) b ++ when (option_map_or (is_outside f p) o false) c
+    ≡ when (is_none o) a ++ when (option_map_or (λ s. are_two (number_of_node d s.publisher) publisher) o false) b ++ when (option_map_or (is_outside f p) o false) c
 placed_by d publisher f p a b c (Some x) = refl
 placed_by d publisher f p a b c None = refl
 
-pub placed_same : (d : Description) (f : Frame) (p : PlacedSignal) (publisher : Option ℕ) (m : Option SignalFacts) → m ≡ option_map (signal_facts d) (signal_named d p.signal) → publisher ≡ node_of d f.publisher
+pub placed_same : (d : Description) (f : Frame) (p : PlacedSignal) (publisher : Option ℕ) (m : Option SignalFacts) → m ≡ option_map (signal_facts d) (signal_named d p.signal) → publisher ≡ number_of_node d f.publisher
     → in_placed_by f publisher p m ≡ unknown_signal d p ++ wrong_publisher_at d f p ++ outside_at d f p
 placed_same d f p publisher m here by =
     (λ i. in_placed_by f (by i) p (here i))
-    ∙ placed_by d (node_of d f.publisher) f p (at_name UnknownName p.signal) (at_name WrongPublisher p.signal) (at_number SignalOutside p.offset) (signal_named d p.signal)
+    ∙ placed_by d (number_of_node d f.publisher) f p (at_name UnknownName p.signal) (at_name WrongPublisher p.signal) (at_number SignalOutside p.offset) (signal_named d p.signal)
     ∙ (λ i. unknown_signal d p ++ wrong-by d f i p ++ outside_at d f p)
 
 -- tests of its size
@@ -109,8 +109,8 @@ member_same d members i n first m published known is here there so =
     ∙ (λ j. when (not (is_any_frame d n)) (at_name UnknownName n) ++ when (wrong_same d members (take i members) published n so j) (at_name BadEventFrame n) ++ when (mixed_by d members (frame_named d n) j) (at_name MixedChecksum n))
 
 -- the publisher of a member
-pub publisher_same : (d : Description) (q : ℕ) (n : Name) (m : Option FrameFacts) → m ≡ option_map (frame_facts d) (frame_named d n) → option_map_or (λ f. is_number q f.publisher) m false ≡ option_map_or (λ g. is_number q (node_of d g.publisher)) (frame_named d n) false
-publisher_same d q n m here = ap (λ o. option_map_or (λ f. is_number q f.publisher) o false) here ∙ knows_made (frame_facts d) (λ f. is_number q f.publisher) (frame_named d n)
+pub publisher_same : (d : Description) (q : ℕ) (n : Name) (m : Option FrameFacts) → m ≡ option_map (frame_facts d) (frame_named d n) → option_map_or (λ f. is_node_number q f.publisher) m false ≡ option_map_or (λ g. is_node_number q (number_of_node d g.publisher)) (frame_named d n) false
+publisher_same d q n m here = ap (λ o. option_map_or (λ f. is_node_number q f.publisher) o false) here ∙ knows_made (frame_facts d) (λ f. is_node_number q f.publisher) (frame_named d n)
 
 -- ---- members of sporadic frames
 
@@ -137,8 +137,8 @@ sized_by_none f g h None (Some y) c e = absurd (cc)
 sized_by_none f g h None None (Some z) e = absurd (cc)
 sized_by_none f g h None None None e = (refl, refl)
 
-pub sized_some : (d : Description) (n : Name) (v : Option ℕ) → Some v ≡ size_named d n → (is_any_frame d n ≡ true) × (v ≡ size_of d n)
+pub sized_some : (d : Description) (n : Name) (v : Option ℕ) → Some v ≡ size_named d n → (is_any_frame d n ≡ true) × (v ≡ needed_size d n)
 sized_some d n v e = sized_by_some _ _ _ _ _ _ v e
 
-pub sized_none : (d : Description) (n : Name) → None ≡ size_named d n → (is_any_frame d n ≡ false) × (None ≡ size_of d n)
+pub sized_none : (d : Description) (n : Name) → None ≡ size_named d n → (is_any_frame d n ≡ false) × (None ≡ needed_size d n)
 sized_none d n e = sized_by_none _ _ _ _ _ _ e

@@ -4,7 +4,7 @@ use Rattle.std.proofs.Common.{◌≡◌, List, [], ◌∷◌, ◌++◌, get_or, 
 use Rattle.std.specs.Prelude.{All}
 use Rattle.std.specs.List.{flat_map}
 use Rattle.std.proofs.lemmas.List.Elements.{All-nil, All-head, All-same}
-use Rattle.lin_cluster.specs.Findings.{IsFree, IsSound, candidates, beside_ids, in_declarations, in_signal, in_frames, in_frame, in_sporadic, in_event, in_attributes, in_table, in_entry}
+use Rattle.lin_cluster.specs.Findings.{IsFree, HasOnlyShortSlots, candidates, beside_ids, in_declarations, in_signal, in_frames, in_frame, in_sporadic, in_event, in_attributes, in_table, in_entry}
 use Rattle.lin_cluster.specs.Addresses.{bad_nads, nads_twice}
 use Rattle.lin_cluster.specs.Identifiers.{bad_ids, ids_twice}
 use Rattle.lin_cluster.specs.Limits.{limits_passed, long_delay, long_table}
@@ -56,12 +56,12 @@ of-each-part P d all =
 abbrev pub NothingElse : Description → Type 0
 NothingElse d = OfEachPart IsShort d
 
-pub nothing-else : (d : Description) → IsSound d → NothingElse d
+pub nothing-else : (d : Description) → HasOnlyShortSlots d → NothingElse d
 nothing-else d sound = of-each-part IsShort d sound
 
 -- ---- where nothing is found at all
 
-pub free-is-sound : (d : Description) → IsFree d → IsSound d
+pub free-is-sound : (d : Description) → IsFree d → HasOnlyShortSlots d
 free-is-sound d free = All-same IsShort (candidates d) [] free (All-nil IsShort)
 
 never-nil : {X : Type 0} (xs : List X) → All (λ _. ⊥) xs → xs ≡ []

@@ -12,11 +12,11 @@ use Rattle.lin_parts.specs.declared.description.Number.{Number}
 -- ---- 11 BadNad, 12 NadTwice
 
 -- the address of a responder's block
-abbrev pub address : Description → Attributes → Option Number
-address d a = if is_responder d a.node then a.configured_nad else None
+abbrev pub block_address : Description → Attributes → Option Number
+block_address d a = if is_responder d a.node then a.configured_nad else None
 
 abbrev pub addresses : Description → List Number
-addresses d = filter_map (address d) d.attributes
+addresses d = filter_map (block_address d) d.attributes
 
 abbrev pub bad_nad : Number → List Finding
 bad_nad n = when (not (nat_le 1 n.value && nat_le n.value 125)) (at_number BadNad n)

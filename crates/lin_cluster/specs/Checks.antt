@@ -8,8 +8,8 @@ use Rattle.lin_parts.specs.declared.description.Description.{Description}
 
 -- all that is found, which is something, and no other list is that; out of memory says nothing of
 -- the description
-abbrev pub IsFaultOf : Description → CheckFault → Type 0
-IsFaultOf d (Findings found) =
+abbrev pub IsCheckFault : Description → CheckFault → Type 0
+IsCheckFault d (Findings found) =
     AreFindings d found × (candidates d ≢ [])
     × ((other : List Finding) → AreFindings d other → other ≡ found)
-IsFaultOf d OutOfMemory = Unit {0}
+IsCheckFault d OutOfMemory = Unit {0}

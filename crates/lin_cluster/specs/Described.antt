@@ -70,12 +70,12 @@ table_number d name = position_or_len (λ t. bytes_eq t.name.text name.text) d.t
 abbrev pub is_block_of : Description → ℕ → Attributes → Bool
 is_block_of d n block = node_number d block.node == n
 
-abbrev pub configured_nad : Attributes → Option ℕ
-configured_nad block = option_map (λ n. n.value) block.configured_nad
+abbrev pub configured_address : Attributes → Option ℕ
+configured_address block = option_map (λ n. n.value) block.configured_nad
 
 -- the configured NAD in the block of a responder's attributes
 abbrev pub described_nad : Description → ℕ → Option ℕ
-described_nad d n = option_and_then configured_nad (find (is_block_of d n) d.attributes)
+described_nad d n = option_and_then configured_address (find (is_block_of d n) d.attributes)
 
 abbrev pub responder : Description → ℕ × Name → Node
 responder d slave = record { name = slave.1.text; nad = described_nad d slave.0 }
@@ -193,8 +193,8 @@ tables_of d = map (described_table d) d.tables
 -- ---- signals that tell errors in responses (section 9.2.2.2)
 
 -- the response_error in the block of a responder's attributes
-abbrev pub response_error : Description → ℕ → Option Name
-response_error d n =
+abbrev pub response_error_name : Description → ℕ → Option Name
+response_error_name d n =
     option_and_then (λ block. block.response_error) (find (is_block_of d n) d.attributes)
 
 -- whether it is a scalar signal that the node publishes
@@ -208,7 +208,7 @@ error_named d n name =
     then Some (signal_number d name) else None
 
 abbrev pub error_number : Description → ℕ → Option ℕ
-error_number d n = option_and_then (error_named d n) (response_error d n)
+error_number d n = option_and_then (error_named d n) (response_error_name d n)
 
 -- whether the node with this name subscribes the signal
 abbrev pub subscribes : Name → declared_signal.Signal → Bool

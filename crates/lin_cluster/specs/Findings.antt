@@ -96,8 +96,8 @@ abbrev pub IsFree : Description → Type 0
 IsFree d = candidates d ≡ []
 
 -- a description in which nothing is found but slots that are too short (9)
-abbrev pub IsSound : Description → Type 0
-IsSound d = All (λ f. f.number ≡ 9) (candidates d)
+abbrev pub HasOnlyShortSlots : Description → Type 0
+HasOnlyShortSlots d = All (λ f. f.number ≡ 9) (candidates d)
 
 -- by line, then by column, then by number
 abbrev pub finding_cmp : Finding → Finding → Ordering

@@ -3,7 +3,7 @@
 use Rattle.std.specs.Prelude.{ℕ, List, ◌++◌, Option, Bool, true, not, ◌==◌, ◌&&◌, ◌||◌, false}
 use Rattle.std.specs.Option.{option_map_or}
 use Rattle.lin_cluster.specs.FindingsNames.{at_name, when}
-use Rattle.lin_cluster.specs.FindingsNodes.{is_number}
+use Rattle.lin_cluster.specs.FindingsNodes.{is_node_number}
 use Rattle.lin_cluster.specs.Models.{differ}
 use Rattle.lin_cluster.specs.declared.finding.Finding.{Finding}
 use Rattle.lin_cluster.specs.declared.finding.FindingKind.TheVariants.{UnknownName, BadEventFrame}
@@ -14,7 +14,7 @@ use Rattle.lin_parts.specs.declared.description.Name.{Name}
 -- by the first member where that is a frame, and whether a node has published a member before it
 abbrev pub is_bad_after : Option FrameFacts → (ℕ → Bool) → FrameFacts → Bool
 is_bad_after first published f =
-    is_number 0 f.publisher
+    is_node_number 0 f.publisher
     || option_map_or published f.publisher false
     || option_map_or (λ g. not (g.size == f.size)) first false
     || f.has_front

@@ -16,7 +16,7 @@ use Rattle.lin_parts.specs.declared.description.Signal.{Signal}
 use Rattle.lin_parts.specs.declared.description.Sporadic.{Sporadic}
 use Rattle.lin_parts.specs.declared.description.Table.{Table}
 use Rattle.lin_parts.specs.declared.description.TableEntry.{TableEntry}
-use Rattle.lin_parts.specs.declared.place.Place.{Place}
+use Rattle.lin_parts.specs.declared.place.Location.{Location}
 
 -- ---- findings at places
 
@@ -26,7 +26,7 @@ at_name kind n = finding_at kind n.line n.column
 abbrev pub at_number : FindingKind → Number → Finding
 at_number kind n = finding_at kind n.line n.column
 
-abbrev pub at_place : FindingKind → Place → Finding
+abbrev pub at_place : FindingKind → Location → Finding
 at_place kind p = finding_at kind p.line p.column
 
 -- the finding, where the condition holds

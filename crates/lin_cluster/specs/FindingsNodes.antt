@@ -11,11 +11,11 @@ use Rattle.lin_parts.specs.declared.description.Name.{Name}
 use Rattle.lin_parts.specs.declared.description.PlacedSignal.{PlacedSignal}
 
 -- the number of the node with this name, where there is one: the commander's is 0
-abbrev pub node_of : Description → Name → Option ℕ
-node_of d n = if is_node d n then Some (node_number d n) else None
+abbrev pub number_of_node : Description → Name → Option ℕ
+number_of_node d n = if is_node d n then Some (node_number d n) else None
 
-abbrev pub is_number : ℕ → Option ℕ → Bool
-is_number k o = option_map_or (λ n. n == k) o false
+abbrev pub is_node_number : ℕ → Option ℕ → Bool
+is_node_number k o = option_map_or (λ n. n == k) o false
 
 abbrev pub is_responder_number : Option ℕ → Bool
 is_responder_number o = option_map_or (λ n. nat_lt 0 n) o false
@@ -28,5 +28,5 @@ are_two a b = option_map_or (λ n. option_map_or (λ k. not (n == k)) b false) a
 abbrev pub wrong_publisher_by : Description → Option ℕ → PlacedSignal → List Finding
 wrong_publisher_by d publisher p =
     when (option_map_or
-    (λ s. are_two (node_of d s.publisher) publisher) (signal_named d p.signal) false)
+    (λ s. are_two (number_of_node d s.publisher) publisher) (signal_named d p.signal) false)
     (at_name WrongPublisher p.signal)

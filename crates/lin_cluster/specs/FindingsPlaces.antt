@@ -11,13 +11,13 @@ use Rattle.lin_cluster.specs.declared.finding.Finding.{Finding}
 use Rattle.lin_cluster.specs.declared.finding.FindingKind.TheVariants.{UnknownName, WrongPublisher}
 use Rattle.lin_cluster.specs.declared.finding.FindingKind.TheVariants.{SignalOutside}
 use Rattle.lin_cluster.specs.declared.findings.facts.SignalFacts.{SignalFacts}
-use Rattle.lin_cluster.specs.declared.findings.numbers.Numbers.{Numbers}
+use Rattle.lin_cluster.specs.declared.findings.numbers.NumberSet.{NumberSet}
 use Rattle.lin_cluster.specs.declared.findings.ranges.Ranges.{Ranges}
 use Rattle.lin_parts.specs.declared.description.Frame.{Frame}
 use Rattle.lin_parts.specs.declared.description.PlacedSignal.{PlacedSignal}
 
 -- whether a number is in the set
-abbrev pub has_number : Numbers → ℕ → Bool
+abbrev pub has_number : NumberSet → ℕ → Bool
 has_number s q = if nat_lt q 1024 then get_or s.few q false else contains nat_eq s.others q
 
 -- a signal of so many bits that is there already, or of which a bit is
@@ -26,8 +26,8 @@ IsTaken twice ranges p size =
     (twice ≡ true) ⊎ ((0 < size) × HasBit ranges p.offset.value (p.offset.value + size))
 
 -- whether a signal of so many bits has one of the range from a to b
-abbrev pub lies_in : ℕ → ℕ → PlacedSignal → ℕ → Bool
-lies_in a b q size = nat_lt 0 size && nat_lt a (q.offset.value + size) && nat_lt q.offset.value b
+abbrev pub has_bit_between : ℕ → ℕ → PlacedSignal → ℕ → Bool
+has_bit_between a b q size = nat_lt 0 size && nat_lt a (q.offset.value + size) && nat_lt q.offset.value b
 
 -- what is wrong with a signal in a frame, by what is known of the signal and by the number of the
 -- frame's publisher

@@ -7,8 +7,8 @@ use Rattle.lin_parts.specs.declared.parts.Signal as cluster
 use Rattle.lin_cluster.specs.Described.{signals_of}
 use Rattle.lin_cluster.specs.FindingsNames.{frame_named, sporadic_named, event_named}
 use Rattle.lin_cluster.specs.FindingsNames.{is_event_entry}
-use Rattle.lin_cluster.specs.FindingsNodes.{node_of}
-use Rattle.lin_cluster.specs.Sizes.{is_array}
+use Rattle.lin_cluster.specs.FindingsNodes.{number_of_node}
+use Rattle.lin_cluster.specs.Sizes.{is_array_init}
 use Rattle.lin_cluster.specs.Members.{is_in_front}
 use Rattle.lin_cluster.specs.Slots.{good_size, greatest_size, first_size}
 use Rattle.lin_cluster.specs.Models.{has_version_1, has_lin_1, frame_model}
@@ -58,8 +58,8 @@ AreNumberedSignals d signals numbers =
 abbrev pub signal_facts : Description → Signal → SignalFacts
 signal_facts d s = record {
   size = s.size.value;
-  is_array = is_array s.init;
-  publisher = node_of d s.publisher;
+  is_array = is_array_init s.init;
+  publisher = number_of_node d s.publisher;
   is_read_by_lin_1 = has_lin_1 d s;
 }
 
@@ -70,7 +70,7 @@ AreSignalFacts d facts = facts ≡ map (signal_facts d) d.signals
 abbrev pub frame_facts : Description → Frame → FrameFacts
 frame_facts d f = record {
   size = f.size.value;
-  publisher = node_of d f.publisher;
+  publisher = number_of_node d f.publisher;
   has_front = list_any (is_in_front d) f.placed;
   model = frame_model d f;
 }

@@ -8,7 +8,7 @@ use Rattle.std.specs.Option.{option_map_or}
 use Rattle.lin_cluster.specs.Findings.{finding_cmp}
 use Rattle.lin_cluster.specs.FindingsNames.{at_name, at_number, when, same_name, is_node}
 use Rattle.lin_cluster.specs.FindingsNames.{carries_frame, signal_named, table_named}
-use Rattle.lin_cluster.specs.LintNames.{is_placed, is_listed, is_scheduled, is_of_text}
+use Rattle.lin_cluster.specs.LintNames.{is_placed, is_member_name, is_scheduled, is_of_text}
 use Rattle.lin_cluster.specs.LintNames.{has_diagnostics, is_addressed, processes, has_entry, is_frame}
 use Rattle.lin_cluster.specs.LintNames.{has_event_of, has_sporadic_of, is_resolving}
 use Rattle.lin_cluster.specs.declared.finding.Finding.{Finding}
@@ -43,18 +43,18 @@ unplaced_signal placed s = when (not (placed s.name.text)) (at_name UnplacedSign
 
 abbrev pub unused_frame : Description → Frame → List Finding
 unused_frame d f =
-    when (not (is_scheduled d f.name.text || is_listed d f.name.text)) (at_name UnusedFrame f.name)
+    when (not (is_scheduled d f.name.text || is_member_name d f.name.text)) (at_name UnusedFrame f.name)
 
 -- ---- 53 UnscheduledFrame: no table has the sporadic or event-triggered frame (section 9.2.5)
 
-abbrev pub unscheduled : Description → Name → List Finding
-unscheduled d n = when (not (is_scheduled d n.text)) (at_name UnscheduledFrame n)
+abbrev pub unscheduled_frame : Description → Name → List Finding
+unscheduled_frame d n = when (not (is_scheduled d n.text)) (at_name UnscheduledFrame n)
 
 abbrev pub unscheduled_sporadic : Description → Sporadic → List Finding
-unscheduled_sporadic d f = unscheduled d f.name
+unscheduled_sporadic d f = unscheduled_frame d f.name
 
 abbrev pub unscheduled_event : Description → EventFrame → List Finding
-unscheduled_event d e = unscheduled d e.name
+unscheduled_event d e = unscheduled_frame d e.name
 
 -- ---- 54 NoSubscriber, 55 OwnSubscriber: a subscriber that publishes the signal itself (section
 -- 9.2.3)

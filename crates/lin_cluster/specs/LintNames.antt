@@ -18,8 +18,8 @@ abbrev pub has_text : {V S : Type 0} → IndexMap (Bor (List ℕ)) V S → List 
 has_text names q = is_some (get_by (λ k. bytes_eq q k.now) names)
 
 -- some of these names are this text
-abbrev pub is_among : List Name → List ℕ → Bool
-is_among names q = list_any (λ n. bytes_eq n.text q) names
+abbrev pub is_among_names : List Name → List ℕ → Bool
+is_among_names names q = list_any (λ n. bytes_eq n.text q) names
 
 -- ---- signals and frames of this name (LIN 2.2A, section 9.2.4)
 
@@ -28,12 +28,12 @@ is_among names q = list_any (λ n. bytes_eq n.text q) names
 abbrev pub is_placed : Description → List Name → List ℕ → Bool
 is_placed d elsewhere q =
     list_any (λ f. list_any (λ p. bytes_eq p.signal.text q) f.placed) d.frames
-    || is_among elsewhere q
+    || is_among_names elsewhere q
 
 -- a sporadic or an event-triggered frame lists the frame
-abbrev pub is_listed : Description → List ℕ → Bool
-is_listed d q =
-    list_any (λ f. is_among f.members q) d.sporadic || list_any (λ e. is_among e.members q) d.events
+abbrev pub is_member_name : Description → List ℕ → Bool
+is_member_name d q =
+    list_any (λ f. is_among_names f.members q) d.sporadic || list_any (λ e. is_among_names e.members q) d.events
 
 -- ---- schedule tables (section 9.2.5)
 
@@ -69,10 +69,10 @@ has_entry t q = list_any (is_entry_for q) t.entries
 
 -- it has an entry for an event-triggered frame, or a sporadic one, that lists the frame
 abbrev pub has_event_of : Description → Table → List ℕ → Bool
-has_event_of d t q = list_any (λ v. has_entry t v.name.text && is_among v.members q) d.events
+has_event_of d t q = list_any (λ v. has_entry t v.name.text && is_among_names v.members q) d.events
 
 abbrev pub has_sporadic_of : Description → Table → List ℕ → Bool
-has_sporadic_of d t q = list_any (λ f. has_entry t f.name.text && is_among f.members q) d.sporadic
+has_sporadic_of d t q = list_any (λ f. has_entry t f.name.text && is_among_names f.members q) d.sporadic
 
 -- it resolves the collisions of an event-triggered frame
 abbrev pub is_resolving : Description → Table → Bool
@@ -123,7 +123,7 @@ pub record AreUses {T U V W X Y Z : Type 0} (d : Description)
     (scheduled : IndexMap (Bor (List ℕ)) X U) (addressed : IndexMap (Bor (List ℕ)) X V)
     (signals : IndexMap (Bor (List ℕ)) ℕ W) (frames : IndexMap (Bor (List ℕ)) X Y)
     (tables : IndexMap (Bor (List ℕ)) ℕ Z) (diagnostics : Bool) : Type 0 where
-  pub listed_names : (q : List ℕ) → has_text listed q ≡ is_listed d q
+  pub listed_names : (q : List ℕ) → has_text listed q ≡ is_member_name d q
   pub scheduled_names : (q : List ℕ) → has_text scheduled q ≡ is_scheduled d q
   pub addressed_names : (q : List ℕ) → has_text addressed q ≡ is_addressed d q
   pub signal_numbers : NumbersFirst (λ s. s.name) d.signals signals

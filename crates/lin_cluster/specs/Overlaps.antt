@@ -15,15 +15,15 @@ abbrev pub share_bit : ℕ → ℕ → ℕ → ℕ → Bool
 share_bit a m b n = nat_lt 0 m && nat_lt 0 n && nat_lt a (b + n) && nat_lt b (a + m)
 
 -- an earlier signal of the frame is the same, or shares a bit with this one of so many bits
-abbrev pub meets : Description → PlacedSignal → ℕ → PlacedSignal → Bool
-meets d p size q =
+abbrev pub overlaps_earlier : Description → PlacedSignal → ℕ → PlacedSignal → Bool
+overlaps_earlier d p size q =
     same_name q.signal p.signal
     || option_map_or
     (λ t. share_bit p.offset.value size q.offset.value t.size.value) (signal_named d q.signal) false
 
 abbrev pub is_overlapping : Description → List PlacedSignal → PlacedSignal → Bool
 is_overlapping d earlier p =
-    option_map_or (λ s. list_any (meets d p s.size.value) earlier) (signal_named d p.signal) false
+    option_map_or (λ s. list_any (overlaps_earlier d p s.size.value) earlier) (signal_named d p.signal) false
 
 -- the signal with this number in a frame
 abbrev pub overlap_at : Description → List PlacedSignal → ℕ × PlacedSignal → List Finding

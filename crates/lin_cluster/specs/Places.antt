@@ -4,7 +4,7 @@ use Rattle.std.specs.Prelude.{◌+◌, ◌*◌, ◌%◌, List, Bool, not, ◌==�
 use Rattle.std.specs.Option.{option_map_or}
 use Rattle.lin_cluster.specs.FindingsNames.{at_name, at_number, when, same_name, is_node}
 use Rattle.lin_cluster.specs.FindingsNames.{signal_named}
-use Rattle.lin_cluster.specs.Sizes.{is_array}
+use Rattle.lin_cluster.specs.Sizes.{is_array_init}
 use Rattle.lin_cluster.specs.declared.finding.FindingKind.TheVariants.{WrongPublisher}
 use Rattle.lin_cluster.specs.declared.finding.FindingKind.TheVariants.{SignalOutside}
 use Rattle.lin_cluster.specs.declared.finding.Finding.{Finding}
@@ -30,7 +30,7 @@ wrong_publisher_at d f p =
 abbrev pub is_outside : Frame → PlacedSignal → Signal → Bool
 is_outside f p s =
     nat_lt (8 * f.size.value) (p.offset.value + s.size.value)
-    || (is_array s.init && not (p.offset.value % 8 == 0))
+    || (is_array_init s.init && not (p.offset.value % 8 == 0))
 
 abbrev pub outside_at : Description → Frame → PlacedSignal → List Finding
 outside_at d f p =

@@ -9,18 +9,18 @@ use Rattle.lin_parts.specs.declared.description.Frame.{Frame}
 use Rattle.lin_parts.specs.declared.description.Init.{Init}
 use Rattle.lin_parts.specs.declared.description.Init.TheVariants.{Scalar, Array}
 use Rattle.lin_parts.specs.declared.description.Signal.{Signal}
-use Rattle.lin_parts.specs.declared.place.Place.{Place}
+use Rattle.lin_parts.specs.declared.place.Location.{Location}
 
 -- ---- 5 BadSize
 
-abbrev pub is_array : Init → Bool
-is_array (Scalar n) = false
-is_array (Array place items) = true
+abbrev pub is_array_init : Init → Bool
+is_array_init (Scalar n) = false
+is_array_init (Array place items) = true
 
 -- 1 to 16 bits; for an array 8, 16, .. 64
 abbrev pub is_good_size : Signal → Bool
 is_good_size s =
-    if is_array s.init then nat_le 8 s.size.value && nat_le s.size.value 64 && s.size.value % 8 == 0
+    if is_array_init s.init then nat_le 8 s.size.value && nat_le s.size.value 64 && s.size.value % 8 == 0
     else nat_le 1 s.size.value && nat_le s.size.value 16
 
 abbrev pub bad_signal_size : Signal → List Finding
@@ -42,7 +42,7 @@ is_good_init size (Array place items) =
     length items == size / 8 && not (list_any (λ n. nat_lt 255 n.value) items)
 
 -- the first token of an initial value
-abbrev pub init_place : Init → Place
+abbrev pub init_place : Init → Location
 init_place (Scalar n) = record { line = n.line; column = n.column }
 init_place (Array place items) = place
 

@@ -43,8 +43,8 @@ abbrev pub first_size : Description → List Name → Option ℕ
 first_size d members = option_and_then (frame_size d) (slice_get members 0)
 
 -- the data bytes that a slot for what this name names has to hold
-abbrev pub size_of : Description → Name → Option ℕ
-size_of d n =
+abbrev pub needed_size : Description → Name → Option ℕ
+needed_size d n =
     if is_some (frame_named d n) then frame_size d n
     else if is_some (sporadic_named d n)
     then option_and_then (λ f. greatest_size d f.members) (sporadic_named d n)
@@ -52,7 +52,7 @@ size_of d n =
 
 -- diagnostic and configuration entries have 8 data bytes
 abbrev pub slot_size : Description → TableEntry → Option ℕ
-slot_size d e = if carries_frame e then size_of d e.name else Some 8
+slot_size d e = if carries_frame e then needed_size d e.name else Some 8
 
 abbrev pub short_slot : ℕ → ℕ → TableEntry → Option ℕ → List Finding
 short_slot jitter speed e None = []

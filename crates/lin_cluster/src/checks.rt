@@ -1,9 +1,9 @@
 //! The check of a description: the cluster that it says, or all that is wrong with it.
 
 ghost use Rattle.std.specs.Prelude.{◌≡◌, map, IfErr, IfOk};
-ghost use Rattle.lin_cluster.specs.Checks.{IsFaultOf};
+ghost use Rattle.lin_cluster.specs.Checks.{IsCheckFault};
 ghost use Rattle.lin_cluster.specs.Described.{parts_of};
-ghost use Rattle.lin_cluster.specs.Findings.{AreFindings, IsFree, IsSound};
+ghost use Rattle.lin_cluster.specs.Findings.{AreFindings, IsFree, HasOnlyShortSlots};
 ghost use Rattle.lin_cluster.specs.Models.{frame_model};
 ghost use Rattle.lin_cluster.specs.SlotTimes.{NoSlotIsShort};
 ghost use Rattle.lin_cluster.specs.declared.finding.CheckFault.TheVariants.{OutOfMemory};
@@ -32,7 +32,7 @@ pub fn cluster_of(
     description: &Description,
     models: &[SumKind],
 ) -> Result<Cluster, AllocError>
-    requires sound { IsSound description.now }
+    requires sound { HasOnlyShortSlots description.now }
     requires models { models.now ≡ map (frame_model description.now) description.now.frames }
     ensures cluster { IfOk result (λ cluster. cluster ≡ parts_of description.now) }
     ensures slots { IfOk result (λ cluster. IsFree description.now → NoSlotIsShort cluster) }
@@ -51,7 +51,7 @@ fn answer_to(
     requires models { models.now ≡ map (frame_model description.now) description.now.frames }
     ensures ok { IfOk result (λ cluster. IsFree description.now × (cluster ≡ parts_of description.now)) }
     ensures slots { IfOk result NoSlotIsShort }
-    ensures findings { IfErr result (IsFaultOf description.now) }
+    ensures findings { IfErr result (IsCheckFault description.now) }
 {
     if found.as_slice().is_empty() {
         return Ok(cluster_of(alloc, description, models)?);
@@ -68,7 +68,7 @@ fn answer_to(
 pub fn check(alloc: Global, description: Description) -> Result<Cluster, CheckFault>
     ensures ok { IfOk result (λ cluster. IsFree description × (cluster ≡ parts_of description)) }
     ensures slots { IfOk result NoSlotIsShort }
-    ensures findings { IfErr result (IsFaultOf description) }
+    ensures findings { IfErr result (IsCheckFault description) }
 {
     let Examined { found, models } = examine(alloc, &description)?;
     answer_to(alloc, &description, found, models.as_slice())

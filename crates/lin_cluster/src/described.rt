@@ -14,14 +14,14 @@ use lin_text::Many;
 use signals::NumberedSignals;
 use std::alloc::{AllocError, Global};
 
-mod errors;
+mod error_signals;
 mod frames;
 mod nodes;
 mod numbers;
 mod signals;
 mod tables;
 
-pub(crate) use errors::subscribes;
+pub(crate) use error_signals::subscribes;
 
 /// The parts of the cluster that a description says; an error means out of memory. With them its
 /// caller knows that no list of names is empty.
@@ -37,7 +37,7 @@ pub(crate) fn parts_of(
 {
     let signals = NumberedSignals::new(alloc, d)?;
     let frames = frames::frames_of(alloc, d, &signals, models, d.frames())?;
-    let errors = errors::error_signals(alloc, d, &signals, frames.as_slice())?;
+    let errors = error_signals::error_signals(alloc, d, &signals, frames.as_slice())?;
     Ok(Parts {
         nodes: nodes::nodes_of(alloc, d, d.slaves())?,
         signals: signals.into_signals(),

@@ -3,7 +3,7 @@
 ghost use Rattle.std.specs.Prelude.{◌≡◌};
 ghost use Rattle.lin_cluster.specs.Kinds.{finding_at, finding_name, number_of};
 
-use lin_parts::Place;
+use lin_parts::Location;
 use lin_text::Many;
 
 /// The kinds of findings, in the order of their numbers, 1 to 27, 31 to 41, 51 to 65 and 68 to 78. 19 to 26
@@ -166,7 +166,7 @@ pub struct Finding {
 
 impl Finding {
     /// The finding of this kind at a place.
-    pub fn new(kind: FindingKind, place: Place) -> Finding
+    pub fn new(kind: FindingKind, place: Location) -> Finding
         ensures { result ≡ finding_at kind place.line place.column }
     {
         Finding {

@@ -27,7 +27,7 @@ use crate::finding::Finding;
 use addresses::bad_addresses;
 use declarations::in_declarations;
 use identifiers::bad_identifiers;
-pub(crate) use judged::Judged;
+pub(crate) use judged::DeclarationFacts;
 pub(crate) use known::{carries_frame, is_diagnostic};
 use limits::limits_passed;
 use lin_frame::SumKind;
@@ -47,7 +47,11 @@ pub struct Examined {
     pub models: Vec<SumKind>,
 }
 
-fn gather(alloc: Global, found: &mut Vec<Finding>, judged: &Judged) -> Result<(), AllocError>
+fn gather(
+    alloc: Global,
+    found: &mut Vec<Finding>,
+    judged: &DeclarationFacts,
+) -> Result<(), AllocError>
     ensures { OnOk result (found.new.items ≡ found.old.items ++ beside_ids judged.now) }
 {
     let known = &judged.signals.known;
@@ -65,7 +69,7 @@ fn unordered(alloc: Global, description: &Description) -> Result<Examined, Alloc
     let mut found = Vec::new(alloc);
     // first, so that the list of identifiers is gone where names are kept
     bad_identifiers(alloc, &mut found, description)?;
-    let judged = Judged::new(alloc, description)?;
+    let judged = DeclarationFacts::new(alloc, description)?;
     gather(alloc, &mut found, &judged)?;
     let models = judged.models(alloc)?;
     Ok(Examined { found, models })

@@ -4,14 +4,14 @@ ghost use Rattle.std.specs.Prelude.{◌≡◌, is_some, IfOk};
 ghost use Rattle.lin_cluster.specs.FindingsNames.{frame_named};
 ghost use Rattle.lin_cluster.specs.Slots.{slot_size};
 
-use crate::findings::Judged;
+use crate::findings::DeclarationFacts;
 use lin_parts::description::{Description, Name, TableEntry};
 use std::alloc::{AllocError, Global};
 use std::marker::Model;
 
 /// What the names of a description name, for the sizes of slots. Contracts see the description.
 pub struct SlotSizes<'a> {
-    judged: Judged<'a>,
+    judged: DeclarationFacts<'a>,
 }
 
 // Written out, so that what owns one lets it go in one step.
@@ -35,7 +35,7 @@ impl<'a> SlotSizes<'a> {
         ensures { IfOk result (λ s. s ≡ description.now) }
     {
         Ok(SlotSizes {
-            judged: Judged::new(alloc, description)?,
+            judged: DeclarationFacts::new(alloc, description)?,
         })
     }
 

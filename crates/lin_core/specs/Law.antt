@@ -2,7 +2,7 @@
 use Rattle.std.specs.Prelude.{◌≡◌, ℕ, ◌==◌, ⊤, Bool, true, false, ◌&&◌, ◌||◌, not, List, [], ◌∷◌}
 use Rattle.std.specs.Prelude.{◌++◌, map, filter}
 use Rattle.lin_core.specs.History.{did, is_host_closed, is_sleep_mark, LogEntry, Step, Parts}
-use Rattle.lin_core.specs.Links.{Link, goes_over, host_of, Sign, Fate, fate, is_waiting, frames_of}
+use Rattle.lin_core.specs.Links.{Link, goes_over, host_of, Sign, Fate, fate, is_waiting, block_frames}
 use Rattle.lin_core.specs.Links.{Message, Sending, sendings, fate_of, reading, waiting}
 use Rattle.lin_core.specs.Links.{accepted_messages, blocks, frames_to, messages_on}
 use Rattle.lin_core.specs.Links.Fate.{Waiting, Sent, Lost}
@@ -31,9 +31,9 @@ IsPrefix xs ys = (zs : List (List ℕ)) × (ys ≡ xs ++ zs)
 abbrev pub InOrder : List (List (List ℕ)) → List (List Sign) → Type 0
 InOrder fss [] = ⊤
 InOrder [] (b ∷ bs) = ⊥
-InOrder (fs ∷ fss) (b ∷ []) = IsPrefix (frames_of b) fs
+InOrder (fs ∷ fss) (b ∷ []) = IsPrefix (block_frames b) fs
 InOrder (fs ∷ fss) (b ∷ d ∷ bs) =
-    IsPrefix (frames_of b) fs × (is_waiting (fate fs b) ≡ false) × InOrder fss (d ∷ bs)
+    IsPrefix (block_frames b) fs × (is_waiting (fate fs b) ≡ false) × InOrder fss (d ∷ bs)
 
 -- the fates of messages with these frames, by the blocks at their places
 abbrev pub fates_in : List (List (List ℕ)) → List (List Sign) → List Fate

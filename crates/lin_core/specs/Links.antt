@@ -7,7 +7,7 @@ use Rattle.std.specs.List.{list_any, list_all, cons_option}
 use Rattle.std.specs.Cmp.Lexicographic.{pointwise}
 use Rattle.std.specs.Option.{option_map_or, unwrap_or}
 use Rattle.lin_transport.specs.Words.{with_last}
-use Rattle.lin_transport.specs.Transport.{frames, begins, functional, Ear, Heard, looks_at, messages_to}
+use Rattle.lin_transport.specs.Transport.{frames, begins_message, functional, Ear, Heard, looks_at, messages_to}
 use Rattle.lin_transport.specs.Transport.Heard.{Frame, Reset}
 use Rattle.lin_frame.specs.Words.{numbers}
 use Rattle.lin_parts.specs.Cluster.{nad, nodes}
@@ -119,8 +119,8 @@ is_timeout_of l (Timeout node dir) = same_link l (record { node = node; dir = di
 is_timeout_of l step = false
 
 -- the mark that an entry leaves on a link
-abbrev pub mark : Link → LogEntry → List LogEntry → Option Sign
-mark l e past =
+abbrev pub link_mark : Link → LogEntry → List LogEntry → Option Sign
+link_mark l e past =
     if is_sleep_mark e past then Some (Mark Slept) else if did (is_timeout_of l) e
     then Some (Mark TimedOut) else None
 
@@ -131,7 +131,7 @@ put_signs c l how s = reverse (map (λ f. Put f how) (put_on c l s))
 -- what an entry adds to a link: the frames of the slot that it finishes, and then its mark
 abbrev pub signs_at : Parts → Link → LogEntry → List LogEntry → List Sign
 signs_at c l e past =
-    cons_option (mark l e past)
+    cons_option (link_mark l e past)
     (option_map_or (λ s. put_signs c l (Some (seen_of s)) s) (finished_slot e past) [])
 
 -- what happened on a link in finished slots, the newest first
@@ -154,17 +154,17 @@ in_last s (b ∷ d ∷ bs) = b ∷ in_last s (d ∷ bs)
 abbrev pub blocks_of : List Sign → List (List Sign)
 blocks_of [] = []
 blocks_of (Put f how ∷ earlier) =
-    if begins f then blocks_of earlier ++ (Put f how ∷ []) ∷ []
+    if begins_message f then blocks_of earlier ++ (Put f how ∷ []) ∷ []
     else in_last (Put f how) (blocks_of earlier)
 blocks_of (Mark cause ∷ earlier) = with_last (λ b. b ++ Mark cause ∷ []) (blocks_of earlier)
 
 abbrev pub blocks : Parts → List LogEntry → Link → List (List Sign)
 blocks c past l = blocks_of (all_signs c past l)
 
-abbrev pub frames_of : List Sign → List (List ℕ)
-frames_of [] = []
-frames_of (Put f how ∷ b) = f ∷ frames_of b
-frames_of (Mark cause ∷ b) = frames_of b
+abbrev pub block_frames : List Sign → List (List ℕ)
+block_frames [] = []
+block_frames (Put f how ∷ b) = f ∷ block_frames b
+block_frames (Mark cause ∷ b) = block_frames b
 
 -- the part of a block before its first mark, and that mark
 abbrev pub before_mark : List Sign → List Sign
@@ -181,13 +181,13 @@ abbrev pub is_damaged : Sign → Bool
 is_damaged (Put f (Some SeenDamaged)) = true
 is_damaged sign = false
 
-abbrev pub is_good : Sign → Bool
-is_good (Put f (Some (Good bytes))) = true
-is_good sign = false
+abbrev pub is_good_sign : Sign → Bool
+is_good_sign (Put f (Some (Good bytes))) = true
+is_good_sign sign = false
 
 abbrev pub begins_good : List Sign → Bool
 begins_good [] = false
-begins_good (s ∷ b) = is_good s
+begins_good (s ∷ b) = is_good_sign s
 
 abbrev pub same_frames : List (List ℕ) → List (List ℕ) → Bool
 same_frames = pointwise (pointwise eqb)
@@ -201,7 +201,7 @@ pub data Fate : Type 0 where
 abbrev pub fate : List (List ℕ) → List Sign → Fate
 fate fs b =
     if list_any is_damaged b then Lost Damaged
-    else if list_all is_good (before_mark b) && same_frames (frames_of (before_mark b)) fs then Sent
+    else if list_all is_good_sign (before_mark b) && same_frames (block_frames (before_mark b)) fs then Sent
     else option_map_or
     (λ cause. if begins_good b then Lost cause else Waiting) (first_mark b) Waiting
 
@@ -228,11 +228,11 @@ abbrev pub home : Parts → Link → Link
 home c to = if is_to_all to then record { node = first_addressed c; dir = Down } else to
 
 -- the address in the frames of a message that goes here
-abbrev pub address : Parts → Link → ℕ
-address c to = if is_to_all to then functional else nad_on c to
+abbrev pub link_address : Parts → Link → ℕ
+link_address c to = if is_to_all to then functional else nad_on c to
 
 abbrev pub frames_to : Parts → Message → List (List ℕ)
-frames_to c m = frames (address c m.link) m.bytes
+frames_to c m = frames (link_address c m.link) m.bytes
 
 -- the messages of a host with their numbers and blocks: a message has the place among the blocks of
 -- its home link that it has among the messages of that link. `before` is the messages that were
@@ -290,7 +290,7 @@ message_under h s = if s.service then None else good_under h s
 
 abbrev pub heard_at : Parts → Link → LogEntry → List LogEntry → List Heard
 heard_at c l e past =
-    (if is_some (mark l e past) then Reset ∷ [] else [])
+    (if is_some (link_mark l e past) then Reset ∷ [] else [])
     ++ option_map_or (heard_good (ear_on c l))
     (option_map_or (message_under (diagnostic_header l.dir)) (finished_slot e past) None) []
 

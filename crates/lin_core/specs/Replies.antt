@@ -49,20 +49,20 @@ may (Node n) (Leave node) = node == n
 may (Node n) step = false
 
 -- whether a responder has an address
-abbrev pub is_addressed : Parts → Bool
-is_addressed c = list_any (λ n. is_some (nad c n)) (numbers (nodes c))
+abbrev pub has_responder_address : Parts → Bool
+has_responder_address c = list_any (λ n. is_some (nad c n)) (numbers (nodes c))
 
 -- exactly one of sender and receiver is host 0, and the other one has an address; or host 0 sends to
 -- all responders, and one of them has an address
-abbrev pub has_address : Parts → ℕ → ℕ → Bool
-has_address c from to =
-    if to == functional then from == 0 && is_addressed c
+abbrev pub has_route : Parts → ℕ → ℕ → Bool
+has_route c from to =
+    if to == functional then from == 0 && has_responder_address c
     else (from == 0 && not (to == 0) && is_some (nad c to))
     || (to == 0 && not (from == 0) && is_some (nad c from))
 
 -- the most bytes of a message to a receiver: to all responders those of a single frame
-abbrev pub longest : ℕ → ℕ
-longest to = if to == functional then 6 else 4095
+abbrev pub most_message_bytes : ℕ → ℕ
+most_message_bytes to = if to == functional then 6 else 4095
 
 abbrev pub is_open : List LogEntry → Bool
 is_open past = is_some (open_slot past)
@@ -101,8 +101,8 @@ response_refusals c past allowed node =
 abbrev pub refusals : Parts → ℕ → List LogEntry → PortId → Step → List (Refusal × Bool)
 refusals c capacity past port (Send from to message) =
     (NoSuchNode, nat_le (nodes c) from || (nat_le (nodes c) to && not (to == functional)))
-    ∷ (NoAddress, not (has_address c from to))
-    ∷ (BadLength, length message == 0 || nat_lt (longest to) (length message))
+    ∷ (NoAddress, not (has_route c from to))
+    ∷ (BadLength, length message == 0 || nat_lt (most_message_bytes to) (length message))
     ∷ (Closed, is_host_closed past from)
     ∷ (QueueFull, nat_le capacity (length (waiting c past from)))
     ∷ (NotYours, not (may port (Send from to message)))

@@ -19,7 +19,7 @@ use Rattle.lin_schedule.specs.Schedule.{Move, standing, due}
 use Rattle.lin_schedule.specs.Schedule.Move.{Slot as SlotMove, Switch as SwitchMove, Restart}
 use Rattle.lin_core.specs.History.{Slot, is_sleep_asked, done, finished_slot, good_under, is_clash}
 use Rattle.lin_core.specs.History.{is_sleep_mark, header_is, LogEntry, Step, Parts}
-use Rattle.lin_core.specs.Links.{Sending, waiting, begun_sending, frames_of, address}
+use Rattle.lin_core.specs.Links.{Sending, waiting, begun_sending, block_frames, link_address}
 use Rattle.lin_core.specs.Signals.{is_pending, signal_bytes}
 use Rattle.lin_core.specs.declared.step.Step.TheVariants.{Switch, Wake}
 
@@ -131,15 +131,15 @@ abbrev pub is_service : Parts → List LogEntry → Entry → Bool
 is_service c past entry = nat_lt 0 (length (served_nodes c past entry))
 
 -- the bytes of a node among responses; those of a node without a response are FF
-abbrev pub bytes_of : List (ℕ × List ℕ) → ℕ → List ℕ
-bytes_of ready n =
+abbrev pub ready_bytes : List (ℕ × List ℕ) → ℕ → List ℕ
+ready_bytes ready n =
     option_map_or
     (λ (r : ℕ × List ℕ). r.1) (find (λ (r : ℕ × List ℕ). r.0 == n) ready) (replicate 8 255)
 
 -- the data bytes that a node puts in a slot for a service, where these responses are ready
 abbrev pub service_bytes : List (ℕ × List ℕ) → Entry → ℕ → List ℕ
 service_bytes ready (Fixed request) n = request
-service_bytes ready entry n = bytes_of ready n
+service_bytes ready entry n = ready_bytes ready n
 
 -- == who is due in a slot for an entry, by rising number
 abbrev pub plain_nodes : Parts → List LogEntry → Entry → List ℕ
@@ -151,7 +151,7 @@ due_nodes c past entry =
 
 -- the frame of a sending with this index
 abbrev pub frame_at : Parts → Sending → ℕ → List ℕ
-frame_at c s k = frame (address c s.message.link) s.message.bytes k
+frame_at c s k = frame (link_address c s.message.link) s.message.bytes k
 
 -- the frame that puts the cluster to sleep
 abbrev pub sleep_frame : List ℕ
@@ -166,7 +166,7 @@ first_frame c (s ∷ ss) = frame_at c s 0
 abbrev pub next_frame : Parts → List LogEntry → ℕ → Bool → List ℕ
 next_frame c past h sleeping =
     option_map_or
-    (λ s. frame_at c s (length (frames_of s.block)))
+    (λ s. frame_at c s (length (block_frames s.block)))
     (begun_sending c past h)
     (if sleeping then sleep_frame else first_frame c (waiting c past h))
 
@@ -183,22 +183,22 @@ abbrev pub member_of : Parts → ℕ → ℕ → ℕ
 member_of c e n = unwrap_or (find (λ f. n == (frame_of c f).publisher) (event_of c e).frames) 0
 
 -- what a node puts in a slot for an entry under its header, data and checksum
-abbrev pub put : Parts → List LogEntry → Entry → ℕ → ℕ → List ℕ
-put c past (Frame f) h n = answer_of (frame_of c f).model h (signal_bytes c past f)
-put c past (Sporadic k) h n =
+abbrev pub put_bytes : Parts → List LogEntry → Entry → ℕ → ℕ → List ℕ
+put_bytes c past (Frame f) h n = answer_of (frame_of c f).model h (signal_bytes c past f)
+put_bytes c past (Sporadic k) h n =
     answer_of (frame_of c (member_under c k h)).model h (signal_bytes c past (member_under c k h))
-put c past (Event e) h n = answer_of (event_of c e).model h (signal_bytes c past (member_of c e n))
-put c past MasterReq h n = with_classic (next_frame c past 0 (is_sleep_asked past))
-put c past SlaveResp h n = with_classic (next_frame c past n false)
-put c past (Fixed request) h n = []
-put c past Quiet h n = []
+put_bytes c past (Event e) h n = answer_of (event_of c e).model h (signal_bytes c past (member_of c e n))
+put_bytes c past MasterReq h n = with_classic (next_frame c past 0 (is_sleep_asked past))
+put_bytes c past SlaveResp h n = with_classic (next_frame c past n false)
+put_bytes c past (Fixed request) h n = []
+put_bytes c past Quiet h n = []
 
 -- what a node puts in a slot
 abbrev pub put_by : Parts → List LogEntry → Slot → ℕ → ℕ → List ℕ
 put_by c past s h n =
     if s.service
     then with_classic (service_bytes (ready_responses c past) (line_of c s.table s.entry).entry n)
-    else put c past (line_of c s.table s.entry).entry h n
+    else put_bytes c past (line_of c s.table s.entry).entry h n
 
 -- the checksum model of the responses in a slot for an entry under its header
 abbrev pub model_of : Parts → Entry → ℕ → SumKind

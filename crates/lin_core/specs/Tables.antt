@@ -14,11 +14,11 @@ use Rattle.lin_core.specs.declared.event.Seen.{Seen}
 use Rattle.lin_core.specs.declared.event.Seen.TheVariants as seen
 
 -- the first value in a table with a word, and with a number
-abbrev pub named : {A : Type 0} → (A → List ℕ) → List A → List ℕ → Option A
-named word_of all word = find (λ x. bytes_eq (word_of x) word) all
+abbrev pub first_with_word : {A : Type 0} → (A → List ℕ) → List A → List ℕ → Option A
+first_with_word word_of all word = find (λ x. bytes_eq (word_of x) word) all
 
-abbrev pub numbered : {A : Type 0} → (A → ℕ) → List A → ℕ → Option A
-numbered number_of all number = find (λ x. number_of x == number) all
+abbrev pub first_with_number : {A : Type 0} → (A → ℕ) → List A → ℕ → Option A
+first_with_number number_of all number = find (λ x. number_of x == number) all
 
 -- ---- the refusals, in the order in which they are judged
 abbrev pub refusals : List Refusal

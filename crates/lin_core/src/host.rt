@@ -2,9 +2,9 @@
 
 ghost use Rattle.std.specs.Prelude.{◌≡◌, ◌<◌, ◌+◌, ◌^◌, ◌≤◌, ℕ, IfOk, All, IsTrue, ◌↔◌, length};
 ghost use Rattle.std.specs.Prelude.{slice_get, is_some, nat_lt, if◌then◌else◌, None, Some, false};
-ghost use Rattle.lin_core.specs.kept.Hosts.{fresh, host_after_frame, host_after_send, sent_of};
-ghost use Rattle.lin_core.specs.kept.Hosts.{host_after_settling, size_of};
-ghost use Rattle.lin_transport.specs.Sender.{Sending};
+ghost use Rattle.lin_core.specs.kept.Hosts.{new_host, host_after_frame, host_after_send, sent_of};
+ghost use Rattle.lin_core.specs.kept.Hosts.{host_after_settling, sending_size};
+ghost use Rattle.lin_transport.specs.Sender.{SenderData};
 ghost use Rattle.lin_transport.specs.Transport.{frame_count};
 ghost use Rattle.lin_core.specs.declared.host.Host.{Host};
 
@@ -51,7 +51,7 @@ impl Host {
     pub(crate) fn go_on(&mut self, address: u8, len: usize)
         requires some { 1 ≤ len }
         requires few { len ≤ 4095 }
-        requires more { (s : Sending) → self.old.sender ≡ Some s → s.sent < frame_count s.size }
+        requires more { (s : SenderData) → self.old.sender ≡ Some s → s.sent < frame_count s.size }
         ensures { self.new ≡ host_after_frame self.old address len }
     {
         let mut sender = match self.sender.take() {
@@ -64,7 +64,7 @@ impl Host {
 
     /// Whether the frame of the next message that comes next, of this length in bytes, is its last.
     pub(crate) fn is_last(&self, len: usize) -> bool
-        ensures { IsTrue result ↔ (sent_of self.now + 1 ≡ frame_count (size_of self.now len)) }
+        ensures { IsTrue result ↔ (sent_of self.now + 1 ≡ frame_count (sending_size self.now len)) }
     {
         match &self.sender {
             Some(sender) => sender.is_last(),
@@ -87,7 +87,7 @@ impl Host {
 pub(crate) fn hosts(alloc: Global, count: usize, capacity: usize) -> Result<Vec<Host>, AllocError>
     requires { count ≤ 16 }
     ensures count { IfOk result (λ hosts. length hosts.items ≡ count) }
-    ensures fresh { IfOk result (λ hosts. All (λ host. host ≡ fresh capacity) hosts.items) }
+    ensures fresh { IfOk result (λ hosts. All (λ host. host ≡ new_host capacity) hosts.items) }
 {
     let mut hosts = Vec::new(alloc);
     for _ in 0..count {

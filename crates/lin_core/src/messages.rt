@@ -4,7 +4,7 @@ ghost use Rattle.std.specs.Prelude.{◌≡◌, ◌<◌, ◌⊎◌, Some, is_some
 ghost use Rattle.std.specs.Option.{unwrap_or};
 ghost use Rattle.lin_parts.specs.Cluster.{nad, nodes};
 ghost use Rattle.lin_core.specs.kept.Hosts.{message_at, bytes_next, HasNext};
-ghost use Rattle.lin_core.specs.Links.{address, is_to_all};
+ghost use Rattle.lin_core.specs.Links.{link_address, is_to_all};
 
 use crate::host::Host;
 use crate::link::Link;
@@ -35,7 +35,7 @@ pub(crate) fn address_of(cluster: &Cluster, node: u8) -> u8
 /// The address in the frames of a message that goes to a place; 0 where that has none.
 fn address_to(cluster: &Cluster, to: Link) -> u8
     ensures { (is_to_all to ≡ true) ⊎ (to.node < nodes cluster.now)
-        → result ≡ address cluster.now to }
+        → result ≡ link_address cluster.now to }
 {
     if to.is_to_all() {
         return FUNCTIONAL;
@@ -49,7 +49,7 @@ pub(crate) fn message_at<'a>(cluster: &Cluster, log: &'a Log, place: usize) -> M
     ensures message { message_at log.now.entries place
         ≡ Some (record { link = result.link; bytes = result.bytes.now }) }
     ensures address { (is_to_all result.link ≡ true) ⊎ (result.link.node < nodes cluster.now)
-        → result.address ≡ address cluster.now result.link }
+        → result.address ≡ link_address cluster.now result.link }
 {
     match &log.entry(place).step {
         Step::Send { from, to, message } => {

@@ -5,7 +5,7 @@ ghost use Rattle.std.specs.Prelude.{nat_lt, not};
 ghost use Rattle.lin_frame.specs.Words.{numbers};
 ghost use Rattle.lin_parts.specs.Cluster.{line_of, nodes, responses};
 ghost use Rattle.lin_core.specs.History.{header_is};
-ghost use Rattle.lin_core.specs.Slots.{bytes_of, has_put, responses_after, responses_to};
+ghost use Rattle.lin_core.specs.Slots.{ready_bytes, has_put, responses_after, responses_to};
 ghost use Rattle.lin_core.specs.Slots.{service_bytes};
 ghost use Rattle.lin_core.specs.kept.Ready.{node_in, response_in};
 ghost use Rattle.lin_core.specs.kept.Slots.{is_due_of, served_by, slot_in, HasDue};
@@ -188,7 +188,7 @@ fn response_of(ready: &[Response], node: u8) -> Option<Response>
 
 /// The bytes of a node among responses; those of a node without a response are FF.
 fn bytes_of(ready: &[Response], node: u8) -> [u8; 8]
-    ensures { result ≡ bytes_of (map response_in ready.now) node }
+    ensures { result ≡ ready_bytes (map response_in ready.now) node }
 {
     match response_of(ready, node) {
         Some(response) => response.bytes,

@@ -5,7 +5,7 @@ ghost use Rattle.std.specs.Prelude.{◌≡◌, ◌<◌, ℕ, [], List, length, o
 ghost use Rattle.std.specs.Prelude.{IfOk, OnErr, OnOk};
 ghost use Rattle.lin_transport.specs.Receiver.{HasHeard, Reads};
 ghost use Rattle.lin_transport.specs.Transport.{Heard};
-ghost use Rattle.lin_core.specs.kept.Receivers.{opposite, receiver_in, AreAlike, AreReset, HaveRoom, HearsOn, IsReset};
+ghost use Rattle.lin_core.specs.kept.Receivers.{opposite, receiver_in, HaveHeardAlike, AreReset, HaveRoom, HearsOn, IsReset};
 ghost use Rattle.lin_core.specs.kept.Receivers.{KeepsHeard};
 ghost use Rattle.lin_core.specs.declared.receivers.Receivers.{Receivers};
 
@@ -114,7 +114,7 @@ pub(crate) fn reset_all(receivers: &mut Vec<Receivers>)
 /// Each receiver of the messages to a node has room for the message of a single frame. An error
 /// means out of memory. In both cases what was heard stays.
 pub(crate) fn make_room_in_all(receivers: &mut Vec<Receivers>) -> Result<(), AllocError>
-    ensures alike { AreAlike receivers.old.items receivers.new.items }
+    ensures alike { HaveHeardAlike receivers.old.items receivers.new.items }
     ensures room { OnOk result (HaveRoom receivers.new.items) }
 {
     for node in 0..receivers.len() {

@@ -3,9 +3,9 @@
 ghost use Rattle.std.specs.Prelude.{◌≡◌, ℕ, List};
 ghost use Rattle.lin_core.specs.Replies.{may};
 
-pub(crate) mod cluster;
+pub(crate) mod cluster_steps;
 pub(crate) mod messages;
-pub(crate) mod slots;
+pub(crate) mod slot_steps;
 
 use crate::port::PortId;
 use crate::step::Step;

@@ -3,7 +3,7 @@
 ghost use Rattle.std.specs.Prelude.{◌≡◌, ◌==◌, ◌<◌, List, All, find, length, IfSome, Some};
 ghost use Rattle.lin_parts.specs.Cluster.{frame_of};
 ghost use Rattle.lin_parts.specs.Rules.{IsEntry};
-ghost use Rattle.lin_core.specs.kept.Slots.{frame_by, frame_answered, frame_model, slot_in, IsOpen};
+ghost use Rattle.lin_core.specs.kept.Slots.{frame_by, frame_answered, response_model, slot_in, IsOpen};
 ghost use Rattle.lin_core.specs.History.{open_slot};
 ghost use Rattle.lin_core.specs.Slots.{model_of};
 ghost use Rattle.lin_core.specs.declared.log.LogEntry.{LogEntry};
@@ -68,7 +68,7 @@ impl OpenSlot {
     pub(crate) fn frame_model(&self, cluster: &Cluster, frame: u16) -> SumKind
         requires slot { IsOpen cluster.now self.now }
         requires frame { frame < length cluster.now.frames }
-        ensures { result ≡ frame_model cluster.now self.now.kind frame }
+        ensures { result ≡ response_model cluster.now self.now.kind frame }
     {
         match self.kind {
             Entry::Event(event) => cluster.event_model(event),

@@ -27,7 +27,7 @@ use Rattle.lin_core.specs.declared.step.Step.{Step}
 use Rattle.lin_core.specs.declared.step.Step.TheVariants.{Send, Write, Open, Answer, Leave, Hurt, Finish, Timeout, Switch, AskSleep, Wake, Close}
 use Rattle.lin_core.proofs.slots.ClusterFrames.{all-cons}
 use Rattle.lin_export.specs.Captured.{IsCaptured, NeverFall, Packet, good_answer, packet_bytes, seen_answer, seen_answers, time_in, word_in}
-use Rattle.lin_export.specs.Pcap.{bus_event, file_header, filled_data, finish_packets, frame_body, framing, bad_checksum, goes_to_sleep, model_number, no_response, packet, packets, seen_packet, wakes, word}
+use Rattle.lin_export.specs.Pcap.{bus_event, file_header, filled_data, finish_packets, frame_body, framing, bad_checksum, goes_to_sleep, model_number, no_response, packet, packets, seen_packet, wakes, word_bytes}
 use Rattle.lin_export.specs.Shown.{checksum_in, data_of}
 use Rattle.lin_export.specs.Telling.{each_entry}
 use Rattle.lin_export.proofs.Tellings.{each-append}
@@ -251,12 +251,12 @@ history-captured c opening capacity (s ∷ earlier) =
     rw (each-newest (packets c) e past, answers-newest e past) (captured-more (history-captured c opening capacity earlier) (entry-captured c opening capacity s earlier))
 
 -- times, as they stand in the bytes of packets
-word-read : (n : ℕ) → n < 2 ^ 32 → word_in (word n) ≡ n
+word-read : (n : ℕ) → n < 2 ^ 32 → word_in (word_bytes n) ≡ n
 word-read n h = omega arith
 
 time-read : (at : ℕ) (body : List ℕ) → at < 2 ^ 32 * 1000000 → time_in (packet at body) ≡ at
 time-read at body h =
-    ap (λ n. 1000000 * n + word_in (word (at % 1000000))) (word-read (at / 1000000) (omega arith))
+    ap (λ n. 1000000 * n + word_in (word_bytes (at % 1000000))) (word-read (at / 1000000) (omega arith))
     ∙ ap (λ n. 1000000 * (at / 1000000) + n) (word-read (at % 1000000) (omega arith))
     ∙ omega arith
 

@@ -37,8 +37,8 @@ use Rattle.lin_core.proofs.slots.ClusterFrames.{all-cons, index-past, no_frame, 
 use Rattle.lin_export.specs.Dumped.{IsDigit, IsDumped, IsLine, Line, last_value, line_bytes, value_for}
 use Rattle.lin_export.specs.Dumped.Line.{Change, Real, Time, Unknown}
 use Rattle.lin_export.specs.Telling.{each_entry}
-use Rattle.lin_export.specs.Track.{slots_in}
-use Rattle.lin_export.specs.Vcd.{Group, binary, code, declarations, digits, entry_changes, event_group, first_decimals, first_heard, first_physical, first_waiting, first_written, frame_changes, frame_decimals, header_change, heard_change, heard_changes, heard_group, heard_number, last_time, latest, number_change, physical_number, physical_change, real_change, real_value, shown_at, slot_changes, slot_groups, stamp, step_groups, text_line, timed_groups, unknown, waiting_change, waiting_number, waits, written_change, written_number}
+use Rattle.lin_export.specs.Track.{finished_slot_count}
+use Rattle.lin_export.specs.Vcd.{Group, binary, code, declarations, digits, entry_changes, event_group, first_decimals, first_heard, first_physical, first_waiting, first_written, frame_changes, frame_decimals, header_change, heard_change, heard_changes, heard_group, heard_number, end_stamp, latest, number_change, physical_number, physical_change, real_change, real_value, shown_at, slot_changes, slot_groups, stamp, step_groups, text_line, timed_groups, unknown, waiting_change, waiting_number, waiting_count, written_change, written_number}
 use Rattle.lin_export.specs.WhereTold.{where_told}
 use Rattle.lin_values.specs.Coded.{CodedData, has_range}
 use Rattle.lin_values.specs.Meaning.{meaning}
@@ -574,7 +574,7 @@ step-told c k rules o n past port (Leave node) None is = nothing-told c k [] (qu
 step-told c k rules o n past port (Hurt bytes) None is = nothing-told c k [] (quiet-groups c k)
 step-told c k rules o n past port Finish None is =
     let e : LogEntry = record { port = port; step = Finish; reply = given c o past port Finish None } in
-    finish-told c k rules (slots_in past) (time c past) (time c (e ∷ past)) (open_slot past)
+    finish-told c k rules (finished_slot_count past) (time c past) (time c (e ∷ past)) (open_slot past)
 step-told c k rules o n past port (Timeout node dir) None is = nothing-told c k [] (quiet-groups c k)
 step-told c k rules o n past port (Switch table) None is = nothing-told c k [] (quiet-groups c k)
 step-told c k rules o n past port AskSleep None is = nothing-told c k [] (quiet-groups c k)
@@ -588,9 +588,9 @@ entry-told : (c : Parts) (k : Option CodedData) (rules : IsCluster c) (opening c
 unfolding reply
 entry-told c k rules opening capacity s past =
     let e : LogEntry = entry_of c opening capacity past s in
-    groups-last c k (both (heard_now c e past) (written_now e)) (own_groups c k e past) (flat_map (event_group c (time c (e ∷ past)) (waits (e ∷ past))) (events e))
+    groups-last c k (both (heard_now c e past) (written_now e)) (own_groups c k e past) (flat_map (event_group c (time c (e ∷ past)) (waiting_count (e ∷ past))) (events e))
     (step-told c k rules opening capacity past s.0 s.1 (refusal c capacity past s.0 s.1) refl)
-    (events-told c k (time c (e ∷ past)) (waits (e ∷ past)) (events e) (done-hosts c opening capacity past s.0 s.1 (refusal c capacity past s.0 s.1) refl)) (shown_at c k past)
+    (events-told c k (time c (e ∷ past)) (waiting_count (e ∷ past)) (events e) (done-hosts c opening capacity past s.0 s.1 (refusal c capacity past s.0 s.1) refl)) (shown_at c k past)
 
 -- == what a history changes
 abbrev heard_since : Parts → List LogEntry → ℕ → Option Value
@@ -722,7 +722,7 @@ or-some f (Some x) v w e = ap (λ (y : Value). Some (f y)) (sym e)
 pub history-dumped : (c : Parts) → IsCluster c → (k : Option CodedData) (opening capacity : ℕ) (steps : List (PortId × Step)) → IsDumped c k (history c opening capacity steps)
 history-dumped c rules k opening capacity steps =
     let past : List LogEntry = history c opening capacity steps in
-    let rest : List ℕ = each_entry (entry_changes c k) [] (reverse past) ++ last_time c k (reverse (reverse past)) in
+    let rest : List ℕ = each_entry (entry_changes c k) [] (reverse past) ++ end_stamp c k (reverse (reverse past)) in
     let since : Gives = both (heard_since c past) (written_since past) in
     let f = first-told c k rules in
     let t : Told c k since rest =

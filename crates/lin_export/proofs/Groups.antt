@@ -17,8 +17,8 @@ use Rattle.lin_text.specs.Written.{Grows}
 use Rattle.lin_text.specs.declared.buffered.TextWriter.{TextWriter}
 use Rattle.lin_text.proofs.Growing.{grows-more, grows-nothing, same-growth}
 use Rattle.lin_export.specs.PutsGroups.{PutsGroups}
-use Rattle.lin_export.specs.Track.{shown_slot, slots_in}
-use Rattle.lin_export.specs.Vcd.{Group, binary, counted_all, event_group, groups, heard_changes, heard_group, later, latest, number_change, slot_changes, slot_groups, stamp, step_groups, timed_groups, waits, written_change}
+use Rattle.lin_export.specs.Track.{shown_slot, finished_slot_count}
+use Rattle.lin_export.specs.Vcd.{Group, binary, counted_all, event_group, groups, heard_changes, heard_group, later, latest, number_change, slot_changes, slot_groups, stamp, step_groups, timed_groups, waiting_count, written_change}
 use Rattle.lin_values.specs.Coded.{CodedData}
 use Rattle.lin_export.proofs.Rows.{carried-shown}
 
@@ -78,7 +78,7 @@ pub write-groups : (c : Parts) (k : Option CodedData) (past : List LogEntry) (en
 write-groups c k past end at by signal v step is below same = rw (is, below, same) refl
 
 pub finish-groups : (c : Parts) (k : Option CodedData) (past : List LogEntry) (end : ℕ) (step : Step) (s : Slot) → step ≡ Finish → open_slot past ≡ Some s
-    → step_groups c k past end step ≡ slot_groups c k (slots_in past) (time c past) end s
+    → step_groups c k past end step ≡ slot_groups c k (finished_slot_count past) (time c past) end s
 finish-groups c k past end step s is o = rw (is, o) refl
 
 pub wake-groups : (c : Parts) (k : Option CodedData) (past : List LogEntry) (end : ℕ) (step : Step) (at : ℕ) → step ≡ Wake → at ≡ time c past
@@ -87,14 +87,14 @@ wake-groups c k past end step at is same = rw (is, same) refl
 
 -- what an entry changes that was done
 groups-of : (c : Parts) (k : Option CodedData) (e : LogEntry) (past : List LogEntry) (reply : Reply) (es : List Event) → reply ≡ Done es
-    → option_map_or (step_groups c k past (time c (e ∷ past))) (done_step reply e.step) [] ++ flat_map (event_group c (time c (e ∷ past)) (waits (e ∷ past))) (reply_events reply)
-    ≡ step_groups c k past (time c (e ∷ past)) e.step ++ flat_map (event_group c (time c (e ∷ past)) (waits (e ∷ past))) es
+    → option_map_or (step_groups c k past (time c (e ∷ past))) (done_step reply e.step) [] ++ flat_map (event_group c (time c (e ∷ past)) (waiting_count (e ∷ past))) (reply_events reply)
+    ≡ step_groups c k past (time c (e ∷ past)) e.step ++ flat_map (event_group c (time c (e ∷ past)) (waiting_count (e ∷ past))) es
 groups-of c k e past reply es r = rw r refl
 
 pub groups-done : (c : Parts) (k : Option CodedData) (e : LogEntry) (past : List LogEntry) (es : List Event) (end : ℕ) → e.reply ≡ Done es → end ≡ time c (e ∷ past)
-    → groups c k e past ≡ step_groups c k past end e.step ++ flat_map (event_group c end (waits (e ∷ past))) es
+    → groups c k e past ≡ step_groups c k past end e.step ++ flat_map (event_group c end (waiting_count (e ∷ past))) es
 groups-done c k e past es end r is =
-    groups-of c k e past e.reply es r ∙ ap (λ n. step_groups c k past n e.step ++ flat_map (event_group c n (waits (e ∷ past))) es) (sym is)
+    groups-of c k e past e.reply es r ∙ ap (λ n. step_groups c k past n e.step ++ flat_map (event_group c n (waiting_count (e ∷ past))) es) (sym is)
 
-pub counts-done : (e : LogEntry) (past : List LogEntry) (es : List Event) (h : ℕ) → e.reply ≡ Done es → counted_all h es (waits past h) ≡ waits (e ∷ past) h
-counts-done e past es h r = ap (λ (reply : Reply). counted_all h (reply_events reply) (waits past h)) (sym r)
+pub counts-done : (e : LogEntry) (past : List LogEntry) (es : List Event) (h : ℕ) → e.reply ≡ Done es → counted_all h es (waiting_count past h) ≡ waiting_count (e ∷ past) h
+counts-done e past es h r = ap (λ (reply : Reply). counted_all h (reply_events reply) (waiting_count past h)) (sym r)

@@ -4,17 +4,17 @@ use Rattle.std.specs.Prelude.{Some, slice_get, slice_set}
 use Rattle.std.proofs.Math.ListN.{length-set}
 use Rattle.lin_core.proofs.kept.SignalKeeping.{set-at}
 use Rattle.lin_values.specs.Coded.{CodedData}
-use Rattle.lin_export.specs.KeptCells.{AreKept, IsKept}
+use Rattle.lin_export.specs.KeptCells.{AreKept, AreCellsOf}
 use Rattle.lin_export.specs.declared.kept_cells.KeptCells.{KeptCells}
 use Rattle.lin_export.proofs.Slots.{some-same}
 
 -- those at a place are new
-pub kept-set : (k : CodedData) (count : ℕ) (xs : List KeptCells) (i : ℕ) (new : KeptCells) → AreKept k count xs → IsKept k i new → AreKept k count (slice_set xs i new)
+pub kept-set : (k : CodedData) (count : ℕ) (xs : List KeptCells) (i : ℕ) (new : KeptCells) → AreKept k count xs → AreCellsOf k i new → AreKept k count (slice_set xs i new)
 kept-set k count xs i new h is = record {
   number = length-set xs i new ∙ h.number;
   each = λ s cells at.
       elim (set-at xs i s new cells at) [
-        | inl own ↦ subst (λ (x : ℕ). IsKept k x cells) own.0 (subst (λ (y : KeptCells). IsKept k i y) (sym own.1) is)
+        | inl own ↦ subst (λ (x : ℕ). AreCellsOf k x cells) own.0 (subst (λ (y : KeptCells). AreCellsOf k i y) (sym own.1) is)
         | inr other ↦ h.each s cells other.1
       ];
 }
@@ -30,13 +30,13 @@ get-pushed (a ∷ xs) x y (suc s) e =
     ]
 
 -- those of the next signal
-pub kept-pushed : (k : CodedData) (i : ℕ) (xs : List KeptCells) (new : KeptCells) → AreKept k i xs → IsKept k i new → AreKept k (i + 1) (xs ++ new ∷ [])
+pub kept-pushed : (k : CodedData) (i : ℕ) (xs : List KeptCells) (new : KeptCells) → AreKept k i xs → AreCellsOf k i new → AreKept k (i + 1) (xs ++ new ∷ [])
 kept-pushed k i xs new h is = record {
   number = length-append xs (new ∷ []) ∙ ap (λ n. n + 1) h.number;
   each = λ s cells at.
       elim (get-pushed xs new cells s at) [
         | inl own ↦ h.each s cells own
-        | inr last ↦ subst (λ (x : ℕ). IsKept k x cells) (sym (last.0 ∙ h.number)) (subst (λ (y : KeptCells). IsKept k i y) last.1 is)
+        | inr last ↦ subst (λ (x : ℕ). AreCellsOf k x cells) (sym (last.0 ∙ h.number)) (subst (λ (y : KeptCells). AreCellsOf k i y) last.1 is)
       ];
 }
 

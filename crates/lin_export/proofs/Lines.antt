@@ -8,14 +8,14 @@ use Rattle.lin_core.specs.History.{Slot}
 use Rattle.lin_core.specs.declared.event.Event.{Event}
 use Rattle.lin_core.specs.declared.event.Event.TheVariants as event
 use Rattle.lin_core.specs.declared.event.Seen.TheVariants as seen
-use Rattle.lin_export.specs.Named.{behind, event_lines, frame_values, frame_words, good_words, named_event, reply_lines, seen_values, slot_values, transport}
+use Rattle.lin_export.specs.Named.{words_after_event, event_lines, frame_values, frame_words, good_words, named_event, reply_lines, seen_values, slot_values, transport}
 use Rattle.lin_export.specs.NamedWords.{event_text, line_or_none, named_entry}
 use Rattle.lin_export.specs.Telling.{each_entry}
 use Rattle.lin_export.specs.Track.{shown_slot}
 use Rattle.lin_export.specs.WhereTold.{where_told}
 use Rattle.lin_values.specs.Coded.{CodedData}
 use Rattle.lin_core.specs.declared.log.LogEntry.{LogEntry}
-use Rattle.lin_log.specs.Language.{named}
+use Rattle.lin_log.specs.Language.{named_language}
 use Rattle.lin_log.specs.Words.{line_tail, log_text, reply_line, spaced_word, step_line}
 use Rattle.std.proofs.lemmas.Slice.Zip.{get_or-zip, length-zip}
 use Rattle.lin_export.proofs.Rows.{flat-append, frame-shown}
@@ -33,7 +33,7 @@ behind-good : (c : Parts) (o : Option Slot) (answer : List ℕ)
 behind-good c None answer = refl
 behind-good c (Some s) answer = good-shown c answer s
 
-behind-shown : (c : Parts) (o : Option Slot) (e : Event) → behind c (option_map shown_slot o) e ≡ behind c o e
+behind-shown : (c : Parts) (o : Option Slot) (e : Event) → words_after_event c (option_map shown_slot o) e ≡ words_after_event c o e
 behind-shown c o (event.Accepted host number) = refl
 behind-shown c o (event.Slot table entry header) = refl
 behind-shown c o event.Service = refl
@@ -87,7 +87,7 @@ lines-shown c k o es =
     flat-same (event_text c k (option_map shown_slot o)) (event_text c k o) es
     (λ e.
     ap (λ (b : Option (List (List ℕ))). reply_line (named_event c e) ++ (line_or_none b ++ flat_map reply_line (values_told c k (option_map shown_slot o) e))) (behind-shown c o e)
-    ∙ ap (λ (ls : List (List (List ℕ))). reply_line (named_event c e) ++ (line_or_none (behind c o e) ++ flat_map reply_line ls)) (told-shown c k o e))
+    ∙ ap (λ (ls : List (List (List ℕ))). reply_line (named_event c e) ++ (line_or_none (words_after_event c o e) ++ flat_map reply_line ls)) (told-shown c k o e))
 
 -- lines, one after another
 pub one-line : (o : Option (List (List ℕ))) → line_or_none o ≡ flat_map reply_line (option_to_list o)
@@ -97,7 +97,7 @@ one-line (Some ws) = sym (append-nil (reply_line ws))
 event-joined : (c : Parts) (k : Option CodedData) (o : Option Slot) (e : Event) → event_text c k o e ≡ flat_map reply_line (event_lines c k o e)
 event-joined c k o e =
     let first = reply_line (named_event c e) in
-    let b = behind c o e in
+    let b = words_after_event c o e in
     let values = values_told c k o e in
     ap (λ l. first ++ (l ++ flat_map reply_line values)) (one-line b) ∙ ap (λ l. first ++ l) (sym (flat-append reply_line (option_to_list b) values))
 
@@ -114,11 +114,11 @@ lines-joined c k o (e ∷ es) t =
 
 -- a log, entry by entry
 pub log-entries : (c : Parts) (k : Option CodedData) (past log : List LogEntry)
-    → each_entry (named_entry c k) past log ≡ log_text (named c) (reply_lines c k) past log
+    → each_entry (named_entry c k) past log ≡ log_text (named_language c) (reply_lines c k) past log
 log-entries c k past [] = refl
 log-entries c k past (e ∷ es) =
-    append_assoc (step_line (named c) e.port e.step) (flat_map reply_line (reply_lines c k e past)) (each_entry (named_entry c k) (e ∷ past) es)
-    ∙ ap (λ t. step_line (named c) e.port e.step ++ (flat_map reply_line (reply_lines c k e past) ++ t)) (log-entries c k (e ∷ past) es)
+    append_assoc (step_line (named_language c) e.port e.step) (flat_map reply_line (reply_lines c k e past)) (each_entry (named_entry c k) (e ∷ past) es)
+    ∙ ap (λ t. step_line (named_language c) e.port e.step ++ (flat_map reply_line (reply_lines c k e past) ++ t)) (log-entries c k (e ∷ past) es)
 
 pub zip-at : {X Y : Type 0} (xs : List X) (ys : List Y) (i : ℕ) (x : X) (y : Y) → i < length xs → i < length ys → get_or (zip xs ys) i (x, y) ≡ (get_or xs i x, get_or ys i y)
 zip-at xs ys i x y h k = get_or-zip xs ys i (x, y) h k

@@ -13,20 +13,20 @@ use Rattle.lin_frame.specs.declared.layout.Layout.{Layout}
 use Rattle.lin_frame.specs.declared.layout.Place.{Place}
 use Rattle.lin_frame.proofs.PlacedBits.{good-parts, list_all-at, outside, outside-apart, outside-lies_in}
 use Rattle.lin_export.proofs.ListedLines.{no_place}
-use Rattle.lin_export.specs.Marks.{bit_mark, mark, TellsPlaces}
+use Rattle.lin_export.specs.Marks.{bit_mark, signal_mark, TellsPlaces}
 
 -- ---- marks
 
-mark-dot : (k : ℕ) → (mark k == 46) ≡ false
+mark-dot : (k : ℕ) → (signal_mark k == 46) ≡ false
 mark-dot k = grind (arith, nat_tests)
 
-dot-mark : (k : ℕ) → (46 == mark k) ≡ false
+dot-mark : (k : ℕ) → (46 == signal_mark k) ≡ false
 dot-mark k = grind (arith, nat_tests)
 
-own-mark : (k : ℕ) → (61 == mark k) ≡ false
+own-mark : (k : ℕ) → (61 == signal_mark k) ≡ false
 own-mark k = grind (arith, nat_tests)
 
-mark-other : (j k : ℕ) → j < 64 → k < 64 → j ≢ k → (mark j == mark k) ≡ false
+mark-other : (j k : ℕ) → j < 64 → k < 64 → j ≢ k → (signal_mark j == signal_mark k) ≡ false
 mark-other j k h l n = grind (arith, nat_tests)
 
 -- ---- the place that has a bit
@@ -190,12 +190,12 @@ sizes-some first end (p ∷ ps) h =
 
 -- the mark of a bit that the protected identifier has, and of any other
 own-bit : (layout : Layout) (b : ℕ) → nat_lt b (first_bit layout) ≡ true → bit_mark layout b ≡ 61
-own-bit layout b h = cond-true (nat_lt b (first_bit layout)) 61 (option_map_or mark (position (has b) layout.places) 46) h
+own-bit layout b h = cond-true (nat_lt b (first_bit layout)) 61 (option_map_or signal_mark (position (has b) layout.places) 46) h
 
-pub placed-bit : (layout : Layout) (b : ℕ) (o : Option ℕ) → nat_lt b (first_bit layout) ≡ false → position (has b) layout.places ≡ o → bit_mark layout b ≡ option_map_or mark o 46
+pub placed-bit : (layout : Layout) (b : ℕ) (o : Option ℕ) → nat_lt b (first_bit layout) ≡ false → position (has b) layout.places ≡ o → bit_mark layout b ≡ option_map_or signal_mark o 46
 placed-bit layout b o h e =
-    cond-false (nat_lt b (first_bit layout)) 61 (option_map_or mark (position (has b) layout.places) 46) h
-    ∙ ap (λ (x : Option ℕ). option_map_or mark x 46) e
+    cond-false (nat_lt b (first_bit layout)) 61 (option_map_or signal_mark (position (has b) layout.places) 46) h
+    ∙ ap (λ (x : Option ℕ). option_map_or signal_mark x 46) e
 
 outside-at : (ps : List Place) (b k : ℕ) (p : Place) → outside ps b ≡ true → k < length ps → p ≡ get_or ps k p → covers p b ≡ false
 outside-at ps b k p h l e =
@@ -280,23 +280,23 @@ few-places layout is =
     omega arith
 
 first-told : (layout : Layout) → IsLaid layout → (k : ℕ) (p : Place) → k < length layout.places → p ≡ get_or layout.places k p
-    → (b i : ℕ) → IsFirst layout.places b i → length layout.places ≤ 64 → (mark i == mark k) ≡ covers p b
+    → (b i : ℕ) → IsFirst layout.places b i → length layout.places ≤ 64 → (signal_mark i == signal_mark k) ≡ covers p b
 first-told layout is k p l e b i f few =
     elim (cases_eq i k) [
-      | inl s ↦ eq-eqb (mark i) (mark k) (ap mark s) ∙ sym (ap (has b) e ∙ ap (λ j. covers (get_or layout.places j p) b) (sym s) ∙ f.has_bit p)
+      | inl s ↦ eq-eqb (signal_mark i) (signal_mark k) (ap signal_mark s) ∙ sym (ap (has b) e ∙ ap (λ j. covers (get_or layout.places j p) b) (sym s) ∙ f.has_bit p)
       | inr n ↦ mark-other i k (let t = f.there in omega arith) (omega arith) n
           ∙ sym (false_from_ne_true (covers p b) (λ h. n (same-place layout.places b i k p is.apart f.there l (f.has_bit p) (sym (ap (has b) e) ∙ h))))
     ]
 
 mark-told : (layout : Layout) → IsLaid layout → (k : ℕ) (p : Place) → k < length layout.places → p ≡ get_or layout.places k p
-    → (b : ℕ) → (bit_mark layout b == mark k) ≡ covers p b
+    → (b : ℕ) → (bit_mark layout b == signal_mark k) ≡ covers p b
 mark-told layout is k p l e b =
     let few = few-places layout is in
     elim (cases_Bool (nat_lt b (first_bit layout))) [
-      | inl h ↦ ap (λ m. m == mark k) (own-bit layout b h) ∙ own-mark k ∙ sym (outside-at layout.places b k p (own-outside layout b is h) l e)
+      | inl h ↦ ap (λ m. m == signal_mark k) (own-bit layout b h) ∙ own-mark k ∙ sym (outside-at layout.places b k p (own-outside layout b is h) l e)
       | inr h ↦ elim (first-or-none layout.places b) [
-        | inl f ↦ ap (λ m. m == mark k) (placed-bit layout b (Some f.0) h f.1.at) ∙ first-told layout is k p l e b f.0 f.1 few
-        | inr n ↦ ap (λ m. m == mark k) (placed-bit layout b None h n.at) ∙ dot-mark k ∙ sym (outside-at layout.places b k p n.none l e)
+        | inl f ↦ ap (λ m. m == signal_mark k) (placed-bit layout b (Some f.0) h f.1.at) ∙ first-told layout is k p l e b f.0 f.1 few
+        | inr n ↦ ap (λ m. m == signal_mark k) (placed-bit layout b None h n.at) ∙ dot-mark k ∙ sym (outside-at layout.places b k p n.none l e)
       ]
     ]
 

@@ -19,42 +19,42 @@ use Rattle.lin_core.specs.declared.reply.Reply.{Reply}
 use Rattle.lin_core.specs.declared.reply.Reply.TheVariants.{Done, Refused}
 use Rattle.lin_core.specs.declared.step.Step.{Step}
 use Rattle.lin_core.specs.declared.step.Step.TheVariants.{Finish, Wake}
-use Rattle.lin_export.specs.ClusterObject.{numbered}
-use Rattle.lin_export.specs.Csv.{comma}
-use Rattle.lin_export.specs.Jsonl.{answers_member, due_member, frame_meanings, frame_member, frame_signals, frame_value, header_member, host_member, hurt_member, is_message_frame, meaning_members, meaning_text, message_member, message_value, number_member, physical_member, response_members, settled, settled_all, signals_member, slot_line, step_object, time_member}
-use Rattle.lin_export.specs.Track.{hurt_in, shown_slot, slots_in}
+use Rattle.lin_export.specs.ClusterObject.{numbered_values}
+use Rattle.lin_export.specs.Csv.{after_comma}
+use Rattle.lin_export.specs.Jsonl.{answers_member, due_member, frame_meanings, frame_member, frame_signals, frame_value, header_member, host_member, hurt_member, is_message_frame, meaning_members, meaning_text, message_member, message_value, number_member, physical_member, response_members, settled_count, settled_all, signals_member, slot_line, step_object, time_member}
+use Rattle.lin_export.specs.Track.{hurt_in, shown_slot, finished_slot_count}
 use Rattle.lin_export.specs.WhereTold.{where_told}
 use Rattle.lin_values.specs.Coded.{CodedData}
 use Rattle.lin_values.specs.Meaning.{meaning}
 use Rattle.lin_values.specs.Meant.{Meant}
 use Rattle.lin_frame.specs.declared.value.Value.{Value}
-use Rattle.lin_export.specs.Json.{array, joined, member, object, object_line, quoted}
+use Rattle.lin_export.specs.Json.{json_array, with_commas, member, object, object_line, quoted_text}
 use Rattle.lin_export.proofs.Rows.{Shows, carried-shown, flat-append, frame-shown}
 
 -- a key, and a value after it
 pub keyed : (key value : List ℕ) → member key [] ++ value ≡ member key value
-keyed key value = append_assoc (quoted key) (58 ∷ []) value
+keyed key value = append_assoc (quoted_text key) (58 ∷ []) value
 
 pub grows-member : {W : Type 0} {contents : W → Option (List ℕ)} {x y z : TextWriter W} {value : List ℕ} (key : List ℕ)
-    → Grows contents x y (comma (member key [])) → Grows contents y z value → Grows contents x z (comma (member key value))
-grows-member {value = value} key h k = same-growth (ap comma (keyed key value)) (grows-more h k)
+    → Grows contents x y (after_comma (member key [])) → Grows contents y z value → Grows contents x z (after_comma (member key value))
+grows-member {value = value} key h k = same-growth (ap after_comma (keyed key value)) (grows-more h k)
 
 -- what stands before a value that isn't the first
-later-comma : (n : ℕ) → (if suc n == 0 then [] else comma []) ≡ comma []
-later-comma n = ap (λ b. if b then [] else comma []) (eqb-suc-zero n)
+later-comma : (n : ℕ) → (if suc n == 0 then [] else after_comma []) ≡ after_comma []
+later-comma n = ap (λ b. if b then [] else after_comma []) (eqb-suc-zero n)
 
 -- a value more after those before it
 joined-one : (n : ℕ) (ts : List (List ℕ)) (t : List ℕ) → n ≡ length ts
-    → joined (ts ++ t ∷ []) ≡ joined ts ++ ((if n == 0 then [] else comma []) ++ t)
+    → with_commas (ts ++ t ∷ []) ≡ with_commas ts ++ ((if n == 0 then [] else after_comma []) ++ t)
 joined-one n [] t e = rw e (append-nil t)
 joined-one n (s ∷ ss) t e =
-    ap (λ l. s ++ l) (flat-append comma ss (t ∷ []) ∙ ap (λ l. flat_map comma ss ++ l) (append-nil (comma t))) ∙ sym (append_assoc s (flat_map comma ss) (comma t))
-    ∙ ap (λ l. (s ++ flat_map comma ss) ++ (l ++ t)) (sym (ap (λ k. if k == 0 then [] else comma []) e ∙ later-comma (length ss)))
+    ap (λ l. s ++ l) (flat-append after_comma ss (t ∷ []) ∙ ap (λ l. flat_map after_comma ss ++ l) (append-nil (after_comma t))) ∙ sym (append_assoc s (flat_map after_comma ss) (after_comma t))
+    ∙ ap (λ l. (s ++ flat_map after_comma ss) ++ (l ++ t)) (sym (ap (λ k. if k == 0 then [] else after_comma []) e ∙ later-comma (length ss)))
 
 pub joined-more : {X : Type 0} (f : X → List ℕ) (xs : List X) (i : ℕ) (d : X) → i < length xs
-    → joined (map f (take (i + 1) xs)) ≡ joined (map f (take i xs)) ++ ((if i == 0 then [] else comma []) ++ f (get_or xs i d))
+    → with_commas (map f (take (i + 1) xs)) ≡ with_commas (map f (take i xs)) ++ ((if i == 0 then [] else after_comma []) ++ f (get_or xs i d))
 joined-more f xs i d h =
-    ap (λ l. joined (map f l)) (take_more xs i d h) ∙ ap joined (map-append f (take i xs) (get_or xs i d ∷ []))
+    ap (λ l. with_commas (map f l)) (take_more xs i d h) ∙ ap with_commas (map-append f (take i xs) (get_or xs i d ∷ []))
     ∙ joined-one i (map f (take i xs)) (f (get_or xs i d)) (sym (length-map (take i xs) f ∙ length-take-le i xs (omega arith)))
 
 length-end : {X : Type 0} (xs : List X) (x : X) → length (xs ++ x ∷ []) ≡ suc (length xs)
@@ -66,47 +66,47 @@ length-numbers zero = refl
 length-numbers (suc n) = length-end (numbers n) n ∙ ap suc (length-numbers n)
 
 pub joined-numbers : (f : ℕ → List ℕ) (n : ℕ)
-    → joined (map f (numbers (n + 1))) ≡ joined (map f (numbers n)) ++ ((if n == 0 then [] else comma []) ++ f n)
+    → with_commas (map f (numbers (n + 1))) ≡ with_commas (map f (numbers n)) ++ ((if n == 0 then [] else after_comma []) ++ f n)
 joined-numbers f n =
-    ap (λ k. joined (map f (numbers k))) (add-one n) ∙ ap joined (map-append f (numbers n) (n ∷ []))
+    ap (λ k. with_commas (map f (numbers k))) (add-one n) ∙ ap with_commas (map-append f (numbers n) (n ∷ []))
     ∙ joined-one n (map f (numbers n)) (f n) (sym (length-map (numbers n) f ∙ length-numbers n))
 
 numbered-next : {X : Type 0} (f : ℕ → X → List ℕ) (n : ℕ) (xs : List X) (i : ℕ) (d : X) → i < length xs
-    → numbered f n (take (suc i) xs) ≡ numbered f n (take i xs) ++ f (n + i) (get_or xs i d) ∷ []
+    → numbered_values f n (take (suc i) xs) ≡ numbered_values f n (take i xs) ++ f (n + i) (get_or xs i d) ∷ []
 numbered-next f n [] i d h = absurd (omega arith)
 numbered-next f n (x ∷ xs) zero d h =
     let same : n ≡ n + 0 = omega arith in
     ap (λ k. f k x ∷ []) same
 numbered-next f n (x ∷ xs) (suc i) d h =
     let same : n + 1 + i ≡ n + suc i = omega arith in
-    ap (λ l. f n x ∷ l) (numbered-next f (n + 1) xs i d (omega arith) ∙ ap (λ k. numbered f (n + 1) (take i xs) ++ f k (get_or xs i d) ∷ []) same)
+    ap (λ l. f n x ∷ l) (numbered-next f (n + 1) xs i d (omega arith) ∙ ap (λ k. numbered_values f (n + 1) (take i xs) ++ f k (get_or xs i d) ∷ []) same)
 
-length-numbered : {X : Type 0} (f : ℕ → X → List ℕ) (n : ℕ) (xs : List X) → length (numbered f n xs) ≡ length xs
+length-numbered : {X : Type 0} (f : ℕ → X → List ℕ) (n : ℕ) (xs : List X) → length (numbered_values f n xs) ≡ length xs
 length-numbered f n [] = refl
 length-numbered f n (x ∷ xs) = ap suc (length-numbered f (n + 1) xs)
 
 pub joined-numbered : {X : Type 0} (f : ℕ → X → List ℕ) (xs : List X) (i : ℕ) (d : X) → i < length xs
-    → joined (numbered f 0 (take (i + 1) xs)) ≡ joined (numbered f 0 (take i xs)) ++ ((if i == 0 then [] else comma []) ++ f i (get_or xs i d))
+    → with_commas (numbered_values f 0 (take (i + 1) xs)) ≡ with_commas (numbered_values f 0 (take i xs)) ++ ((if i == 0 then [] else after_comma []) ++ f i (get_or xs i d))
 joined-numbered f xs i d h =
     let same : 0 + i ≡ i = omega arith in
-    ap (λ k. joined (numbered f 0 (take k xs))) (add-one i) ∙ ap joined (numbered-next f 0 xs i d h)
-    ∙ ap (λ k. joined (numbered f 0 (take i xs) ++ f k (get_or xs i d) ∷ [])) same
-    ∙ joined-one i (numbered f 0 (take i xs)) (f i (get_or xs i d)) (sym (length-numbered f 0 (take i xs) ∙ length-take-le i xs (omega arith)))
+    ap (λ k. with_commas (numbered_values f 0 (take k xs))) (add-one i) ∙ ap with_commas (numbered-next f 0 xs i d h)
+    ∙ ap (λ k. with_commas (numbered_values f 0 (take i xs) ++ f k (get_or xs i d) ∷ [])) same
+    ∙ joined-one i (numbered_values f 0 (take i xs)) (f i (get_or xs i d)) (sym (length-numbered f 0 (take i xs) ∙ length-take-le i xs (omega arith)))
 
 -- what a value means, where it means something, after so many members
 abbrev separated : ℕ → List (List ℕ) → List ℕ
-separated n ms = flat_map (λ m. (if n == 0 then [] else comma []) ++ m) ms
+separated n ms = flat_map (λ m. (if n == 0 then [] else after_comma []) ++ m) ms
 
-joined-none : (n : ℕ) (ts : List (List ℕ)) → joined (ts ++ []) ≡ joined ts ++ separated n []
-joined-none n ts = ap joined (append-nil ts) ∙ sym (append-nil (joined ts))
+joined-none : (n : ℕ) (ts : List (List ℕ)) → with_commas (ts ++ []) ≡ with_commas ts ++ separated n []
+joined-none n ts = ap with_commas (append-nil ts) ∙ sym (append-nil (with_commas ts))
 
 joined-by : (n : ℕ) (ts : List (List ℕ)) (o : Option Meant) (says : Meant → List ℕ) → n ≡ length ts
-    → joined (ts ++ option_map_or (λ m. says m ∷ []) o []) ≡ joined ts ++ separated n (option_map_or (λ m. says m ∷ []) o [])
+    → with_commas (ts ++ option_map_or (λ m. says m ∷ []) o []) ≡ with_commas ts ++ separated n (option_map_or (λ m. says m ∷ []) o [])
 joined-by n ts None says e = joined-none n ts
-joined-by n ts (Some m) says e = joined-one n ts (says m) e ∙ ap (λ l. joined ts ++ l) (sym (append-nil ((if n == 0 then [] else comma []) ++ says m)))
+joined-by n ts (Some m) says e = joined-one n ts (says m) e ∙ ap (λ l. with_commas ts ++ l) (sym (append-nil ((if n == 0 then [] else after_comma []) ++ says m)))
 
 pub joined-meaning : (c : Parts) (k : CodedData) (s : ℕ) (v : Value) (ts : List (List ℕ)) (n : ℕ) → n ≡ length ts
-    → joined (ts ++ meaning_members c k s v) ≡ joined ts ++ flat_map (λ m. (if n == 0 then [] else comma []) ++ m) (meaning_members c k s v)
+    → with_commas (ts ++ meaning_members c k s v) ≡ with_commas ts ++ flat_map (λ m. (if n == 0 then [] else after_comma []) ++ m) (meaning_members c k s v)
 joined-meaning c k s v ts n e = joined-by n ts (meaning k s v) (λ m. member (signal_of c s).name (meaning_text m)) e
 
 one-at_most : (o : Option Meant) (says : Meant → List ℕ) → length (option_map_or (λ m. says m ∷ []) o []) ≤ 1
@@ -118,46 +118,46 @@ meaning-one c k s v = one-at_most (meaning k s v) (λ m. member (signal_of c s).
 
 -- members, each after a comma
 pub record PutsMembers {W : Type 0} (contents : W → Option (List ℕ)) (old new : TextWriter W) (members : List (List ℕ)) : Type 0 where
-  pub text : Grows contents old new (flat_map comma members)
+  pub text : Grows contents old new (flat_map after_comma members)
 
 pub puts-one : {W : Type 0} {contents : W → Option (List ℕ)} {x y : TextWriter W} (m : List ℕ)
-    → Grows contents x y (comma m) → PutsMembers contents x y (m ∷ [])
-puts-one m h = record { text = same-growth (sym (append-nil (comma m))) h }
+    → Grows contents x y (after_comma m) → PutsMembers contents x y (m ∷ [])
+puts-one m h = record { text = same-growth (sym (append-nil (after_comma m))) h }
 
 pub puts-all : {W : Type 0} {contents : W → Option (List ℕ)} {x y : TextWriter W} (ms : List (List ℕ))
-    → Grows contents x y (flat_map comma ms) → PutsMembers contents x y ms
+    → Grows contents x y (flat_map after_comma ms) → PutsMembers contents x y ms
 puts-all ms h = record { text = h }
 
 pub puts-more : {W : Type 0} {contents : W → Option (List ℕ)} {x y z : TextWriter W} {ms ns : List (List ℕ)}
     → PutsMembers contents x y ms → PutsMembers contents y z ns → PutsMembers contents x z (ms ++ ns)
-puts-more {ms = ms} {ns = ns} h k = record { text = same-growth (sym (flat-append comma ms ns)) (grows-more h.text k.text) }
+puts-more {ms = ms} {ns = ns} h k = record { text = same-growth (sym (flat-append after_comma ms ns)) (grows-more h.text k.text) }
 
 -- a line of members
 pub grows-object : {W : Type 0} {contents : W → Option (List ℕ)} {x y z w : TextWriter W} {ms : List (List ℕ)} (kind : List ℕ)
-    → Grows contents x y (123 ∷ member (codes "type") (quoted kind)) → PutsMembers contents y z ms → Grows contents z w (125 ∷ 10 ∷ [])
+    → Grows contents x y (123 ∷ member (codes "type") (quoted_text kind)) → PutsMembers contents y z ms → Grows contents z w (125 ∷ 10 ∷ [])
     → Grows contents x w (object_line kind ms)
 grows-object kind h k l = grows-more h (grows-more k.text l)
 
 -- an object of two members
 pub grows-two : {W : Type 0} {contents : W → Option (List ℕ)} {x y z w : TextWriter W} {m n : List ℕ}
-    → Grows contents x y (123 ∷ m) → Grows contents y z (comma n) → Grows contents z w (125 ∷ []) → Grows contents x w (object (m ∷ n ∷ []))
+    → Grows contents x y (123 ∷ m) → Grows contents y z (after_comma n) → Grows contents z w (125 ∷ []) → Grows contents x w (object (m ∷ n ∷ []))
 grows-two {m = m} {n = n} h k l =
     same-growth
-    (ap (λ t. 123 ∷ t) (ap (λ t. m ++ (t ++ 125 ∷ [])) (sym (append-nil (comma n))) ∙ sym (append_assoc m (comma n ++ []) (125 ∷ []))))
+    (ap (λ t. 123 ∷ t) (ap (λ t. m ++ (t ++ 125 ∷ [])) (sym (append-nil (after_comma n))) ∙ sym (append_assoc m (after_comma n ++ []) (125 ∷ []))))
     (grows-more h (grows-more k l))
 
 -- an object of members
 pub grows-values : {W : Type 0} {contents : W → Option (List ℕ)} {x y z w : TextWriter W} {ms : List (List ℕ)} (m : List ℕ)
     → Grows contents x y (123 ∷ m) → PutsMembers contents y z ms → Grows contents z w (125 ∷ []) → Grows contents x w (object (m ∷ ms))
 grows-values {ms = ms} m h k l =
-    same-growth (ap (λ t. 123 ∷ t) (sym (append_assoc m (flat_map comma ms) (125 ∷ [])))) (grows-more h (grows-more k.text l))
+    same-growth (ap (λ t. 123 ∷ t) (sym (append_assoc m (flat_map after_comma ms) (125 ∷ [])))) (grows-more h (grows-more k.text l))
 
 -- a member that is a list
 pub grows-list : {W : Type 0} {contents : W → Option (List ℕ)} {x y z w : TextWriter W} (key : List ℕ) (values : List (List ℕ))
-    → Grows contents x y (comma (member key (91 ∷ []))) → Grows contents y z (joined values) → Grows contents z w (93 ∷ [])
-    → Grows contents x w (comma (member key (array values)))
+    → Grows contents x y (after_comma (member key (91 ∷ []))) → Grows contents y z (with_commas values) → Grows contents z w (93 ∷ [])
+    → Grows contents x w (after_comma (member key (json_array values)))
 grows-list key values h k l =
-    same-growth (ap comma (append_assoc (quoted key) (58 ∷ 91 ∷ []) (joined values ++ 93 ∷ []))) (grows-more h (grows-more k l))
+    same-growth (ap after_comma (append_assoc (quoted_text key) (58 ∷ 91 ∷ []) (with_commas values ++ 93 ∷ []))) (grows-more h (grows-more k l))
 
 -- the message of a response
 pub is-message : (c : Parts) (last : ℕ → ℕ) (header : Option ℕ) (put : ℕ × List ℕ) → is_message_frame header put.1 ≡ true
@@ -193,8 +193,8 @@ abbrev line_with : Parts → ℕ → ℕ → List ℕ → (ℕ → ℕ) → Slot
 line_with c n at bytes last s frame signals physical =
     object_line (codes "slot")
     (member (codes "slot") (decimal n) ∷ time_member at ∷ member (codes "delay_us") (decimal (line_of c s.table s.entry).delay_us)
-    ∷ member (codes "table") (quoted (named_table c s.table).name) ∷ member (codes "entry") (decimal s.entry)
-    ∷ member (codes "kind") (quoted (entry_kind (line_of c s.table s.entry).entry)) ∷ frame ∷ header_member s.header
+    ∷ member (codes "table") (quoted_text (named_table c s.table).name) ∷ member (codes "entry") (decimal s.entry)
+    ∷ member (codes "kind") (quoted_text (entry_kind (line_of c s.table s.entry).entry)) ∷ frame ∷ header_member s.header
     ∷ due_member c s.due ∷ answers_member c s.puts ∷ hurt_member s.hurt bytes ∷ (response_members (seen_of s) ++ signals ∷ message_member c last s ∷ physical))
 
 pub object-shown : (c : Parts) (k : Option CodedData) (n at : ℕ) (bytes : List ℕ) (last : ℕ → ℕ) (s : Slot) → slot_line c k n at bytes last (shown_slot s) ≡ slot_line c k n at bytes last s
@@ -206,10 +206,10 @@ object-shown c k n at bytes last s =
 
 -- what a finish says
 pub finish-object : (c : Parts) (k : Option CodedData) (last : ℕ → ℕ) (past : List LogEntry) (step : Step) (t : Slot) → Shows (open_slot past) t → step ≡ Finish
-    → slot_line c k (slots_in past) (time c past) (hurt_in past) last t ≡ step_object c k last past step
+    → slot_line c k (finished_slot_count past) (time c past) (hurt_in past) last t ≡ step_object c k last past step
 finish-object c k last past step t o e =
     rw (e, o.is_open)
-    (ap (λ (s : Slot). slot_line c k (slots_in past) (time c past) (hurt_in past) last s) o.same ∙ object-shown c k (slots_in past) (time c past) (hurt_in past) last o.slot)
+    (ap (λ (s : Slot). slot_line c k (finished_slot_count past) (time c past) (hurt_in past) last s) o.same ∙ object-shown c k (finished_slot_count past) (time c past) (hurt_in past) last o.slot)
 
 none-open : (o : Option Slot) → None ≡ option_map shown_slot o → o ≡ None
 none-open None e = refl
@@ -220,11 +220,11 @@ pub finish-none : (c : Parts) (k : Option CodedData) (last : ℕ → ℕ) (past 
 finish-none c k last past step o e = rw (e, none-open (open_slot past) o) refl
 
 -- the numbers of the last messages after an entry
-pub settled-done : (e : LogEntry) (past : List LogEntry) (es : List Event) (h : ℕ) → e.reply ≡ Done es → settled_all h es (settled past h) ≡ settled (e ∷ past) h
-settled-done e past es h r = ap (λ (reply : Reply). settled_all h (reply_events reply) (settled past h)) (sym r)
+pub settled-done : (e : LogEntry) (past : List LogEntry) (es : List Event) (h : ℕ) → e.reply ≡ Done es → settled_all h es (settled_count past h) ≡ settled_count (e ∷ past) h
+settled-done e past es h r = ap (λ (reply : Reply). settled_all h (reply_events reply) (settled_count past h)) (sym r)
 
-pub settled-refused : (e : LogEntry) (past : List LogEntry) (why : Refusal) (h : ℕ) → e.reply ≡ Refused why → settled past h ≡ settled (e ∷ past) h
-settled-refused e past why h r = ap (λ (reply : Reply). settled_all h (reply_events reply) (settled past h)) (sym r)
+pub settled-refused : (e : LogEntry) (past : List LogEntry) (why : Refusal) (h : ℕ) → e.reply ≡ Refused why → settled_count past h ≡ settled_count (e ∷ past) h
+settled-refused e past why h r = ap (λ (reply : Reply). settled_all h (reply_events reply) (settled_count past h)) (sym r)
 
 pub wake-object : (c : Parts) (k : Option CodedData) (last : ℕ → ℕ) (past : List LogEntry) (step : Step) (t : ℕ) → t ≡ time c past → step ≡ Wake
     → object_line (codes "awake") (time_member t ∷ []) ≡ step_object c k last past step

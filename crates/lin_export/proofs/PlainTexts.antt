@@ -12,7 +12,7 @@ use Rattle.lin_values.specs.Value.{IsReadable}
 use Rattle.lin_values.specs.declared.decimals.Decimal.{Decimal}
 use Rattle.lin_values.proofs.Powers.{first-digit, rest-below, ten-below}
 use Rattle.lin_export.specs.Csv.{needs_quotes, text_cell}
-use Rattle.lin_export.specs.Json.{escaped, escaped_byte}
+use Rattle.lin_export.specs.Json.{escaped_bytes, escaped_byte}
 
 -- a digit, a point or a minus
 abbrev IsPlain : ℕ → Type 0
@@ -68,9 +68,9 @@ not-control b false h e = refl
 byte-plain : (b : ℕ) → IsPlain b → escaped_byte b ≡ b ∷ []
 byte-plain b h = if-false (b == 34 || b == 92) _ _ (not-marked b (b == 34 || b == 92) h refl) ∙ if-false (nat_lt b 32) _ _ (not-control b (nat_lt b 32) h refl)
 
-pub escaped-plain : (text : List ℕ) → ArePlain text → escaped text ≡ text
+pub escaped-plain : (text : List ℕ) → ArePlain text → escaped_bytes text ≡ text
 escaped-plain [] h = refl
-escaped-plain (b ∷ bs) h = ap (λ l. l ++ escaped bs) (byte-plain b h.0) ∙ ap (λ l. b ∷ l) (escaped-plain bs h.1)
+escaped-plain (b ∷ bs) h = ap (λ l. l ++ escaped_bytes bs) (byte-plain b h.0) ∙ ap (λ l. b ∷ l) (escaped-plain bs h.1)
 
 not-quoted : (b : ℕ) (t : Bool) → IsPlain b → (b == 44 || b == 34) ≡ t → t ≡ false
 not-quoted b true h e = absurd (grind (arith, nat_tests, e, h))

@@ -14,7 +14,7 @@ use Rattle.lin_parts.specs.declared.parts.Entry.TheVariants as entries
 use Rattle.lin_core.specs.History.{Slot, finished_slot, good, is_sleep_slot}
 use Rattle.lin_core.specs.Signals.{carried_frame, carried_by, heard_value, place_in, value_in}
 use Rattle.lin_core.specs.declared.log.LogEntry.{LogEntry}
-use Rattle.lin_export.specs.Csv.{comma, csv_line, node_name, nodes_cell, slot_line, spaced_name}
+use Rattle.lin_export.specs.Csv.{after_comma, csv_line, node_name, nodes_cell, slot_line, spaced_name}
 use Rattle.lin_export.specs.FirstSlots.{slot_row}
 use Rattle.lin_export.specs.Pcap.{bus_event, finish_packets, goes_to_sleep, packet, slot_packet}
 use Rattle.lin_export.specs.Shown.{slot_frame}
@@ -76,17 +76,17 @@ flat-append f (x ∷ xs) ys = ap (λ l. f x ++ l) (flat-append f xs ys) ∙ sym 
 
 -- the parts of a line
 pub line-parts : (first : List ℕ) (xs zs : List (List ℕ))
-    → first ++ (flat_map comma xs ++ (flat_map comma zs ++ 10 ∷ [])) ≡ csv_line (first ∷ (xs ++ zs))
+    → first ++ (flat_map after_comma xs ++ (flat_map after_comma zs ++ 10 ∷ [])) ≡ csv_line (first ∷ (xs ++ zs))
 line-parts first xs zs =
-    ap (λ l. first ++ l) (sym (append_assoc (flat_map comma xs) (flat_map comma zs) (10 ∷ [])) ∙ ap (λ l. l ++ 10 ∷ []) (sym (flat-append comma xs zs)))
+    ap (λ l. first ++ l) (sym (append_assoc (flat_map after_comma xs) (flat_map after_comma zs) (10 ∷ [])) ∙ ap (λ l. l ++ 10 ∷ []) (sym (flat-append after_comma xs zs)))
 
 -- the texts of one number more, and the cells
 pub numbers-more : {A : Type 0} (f : ℕ → List A) (n : ℕ) → flat_map f (numbers (n + 1)) ≡ flat_map f (numbers n) ++ f n
 numbers-more f n =
     ap (λ k. flat_map f (numbers k)) (add-one n) ∙ flat-append f (numbers n) (n ∷ []) ∙ ap (λ l. flat_map f (numbers n) ++ l) (append-nil (f n))
 
-pub cells-more : (f : ℕ → List (List ℕ)) (n : ℕ) → flat_map comma (flat_map f (numbers (n + 1))) ≡ flat_map comma (flat_map f (numbers n)) ++ flat_map comma (f n)
-cells-more f n = ap (flat_map comma) (numbers-more f n) ∙ flat-append comma (flat_map f (numbers n)) (f n)
+pub cells-more : (f : ℕ → List (List ℕ)) (n : ℕ) → flat_map after_comma (flat_map f (numbers (n + 1))) ≡ flat_map after_comma (flat_map f (numbers n)) ++ flat_map after_comma (f n)
+cells-more f n = ap (flat_map after_comma) (numbers-more f n) ∙ flat-append after_comma (flat_map f (numbers n)) (f n)
 
 -- a slot that puts the cluster to sleep
 pub finish-asleep : (c : Parts) (at end : ℕ) (s : Slot) → is_sleep_slot s ≡ true → end ≡ at + (line_of c s.table s.entry).delay_us

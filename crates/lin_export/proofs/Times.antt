@@ -13,7 +13,7 @@ use Rattle.lin_parts.specs.declared.parts.Parts.{Parts}
 use Rattle.lin_parts.specs.declared.parts.Table.{Table}
 use Rattle.lin_core.specs.History.{Slot, finished_slot, time}
 use Rattle.lin_core.specs.declared.log.LogEntry.{LogEntry}
-use Rattle.lin_export.specs.Track.{TrackData, slots_in, track_of}
+use Rattle.lin_export.specs.Track.{TrackData, finished_slot_count, track_of}
 
 delay-few : (c : Parts) → IsCluster c → (t e : ℕ) → (line_of c t e).delay_us ≤ 1000000000
 delay-few c is t e =
@@ -35,9 +35,9 @@ slots-more : (o : Option Slot) (before n : ℕ) → before ≤ n → option_map_
 slots-more None before n h = omega arith
 slots-more (Some s) before n h = omega arith
 
-pub slots-few : (past : List LogEntry) → slots_in past ≤ length past
+pub slots-few : (past : List LogEntry) → finished_slot_count past ≤ length past
 slots-few [] = omega arith
-slots-few (e ∷ past) = slots-more (finished_slot e past) (slots_in past) (length past) (slots-few past)
+slots-few (e ∷ past) = slots-more (finished_slot e past) (finished_slot_count past) (length past) (slots-few past)
 
 -- what is kept of entries of a log
 pub early : (c : Parts) → IsCluster c → (es : List LogEntry) (i : ℕ) (t : TrackData) → t ≡ track_of c (reverse (take i es)) → length es < 2 ^ 32
@@ -46,7 +46,7 @@ early c is es i t e few =
     let past : List LogEntry = reverse (take i es) in
     let short : length past ≤ length es = omega (arith, length-reverse (take i es), length-take i es) in
     let a : t.time ≡ time c past = ap (λ (d : TrackData). d.time) e in
-    let b : t.slots ≡ slots_in past = ap (λ (d : TrackData). d.slots) e in
+    let b : t.slots ≡ finished_slot_count past = ap (λ (d : TrackData). d.slots) e in
     let f = time-few c is past in
     let g = slots-few past in
     (omega arith, omega arith)

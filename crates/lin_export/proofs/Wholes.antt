@@ -8,7 +8,7 @@ use Rattle.lin_parts.specs.declared.parts.Entry.TheVariants.{Frame, Sporadic, Ev
 use Rattle.lin_parts.specs.declared.parts.Parts.{Parts}
 use Rattle.lin_parts.specs.Cluster.{line_of}
 use Rattle.lin_core.specs.History.{Slot, slot_after_hurt, leave, open_slot, slot_after_events}
-use Rattle.lin_core.specs.Slots.{due_nodes, header, is_service, next_due, put, put_by, ready_responses, service_bytes}
+use Rattle.lin_core.specs.Slots.{due_nodes, header, is_service, next_due, put_bytes, put_by, ready_responses, service_bytes}
 use Rattle.lin_core.specs.Replies.{done_events, put_event, refusal, reply}
 use Rattle.lin_core.specs.Runs.{history}
 use Rattle.lin_core.specs.declared.event.Event.TheVariants.{Put}
@@ -55,7 +55,7 @@ SlotWhole c (Some s) = IsWhole c s
 one-more : (xs : List ℕ) (n : ℕ) → 1 ≤ length (xs ++ n ∷ [])
 one-more xs n = simp length-append (omega arith)
 
-put-whole : (c : Parts) (past : List LogEntry) (entry : Entry) (h n : ℕ) → IsPut entry → 1 ≤ length (put c past entry h n)
+put-whole : (c : Parts) (past : List LogEntry) (entry : Entry) (h n : ℕ) → IsPut entry → 1 ≤ length (put_bytes c past entry h n)
 put-whole c past (Frame f) h n i = one-more _ _
 put-whole c past (Sporadic k) h n i = one-more _ _
 put-whole c past (Event e) h n i = one-more _ _

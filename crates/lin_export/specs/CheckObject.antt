@@ -9,11 +9,11 @@ use Rattle.lin_parts.specs.declared.description.Description.{Description}
 use Rattle.lin_parts.specs.declared.parts.Parts.{Parts}
 use Rattle.lin_log.specs.Words.{spaced_word}
 use Rattle.lin_values.specs.Coded.{CodedData}
-use Rattle.lin_values.specs.declared.items.CodingType.{CodingType}
+use Rattle.lin_values.specs.declared.codings.CodingType.{CodingType}
 use Rattle.lin_export.specs.ClusterObject.{count_member, encoding_object, event_object, frame_object}
 use Rattle.lin_export.specs.ClusterObject.{node_object, signal_object, sporadic_object, table_object}
 use Rattle.lin_export.specs.ClusterObject.{text_value}
-use Rattle.lin_export.specs.Json.{array, escaped_text, member, null, object, quoted}
+use Rattle.lin_export.specs.Json.{json_array, escaped_text, member, null, object, quoted_text}
 
 -- ---- reported problems
 
@@ -39,9 +39,9 @@ place_members place =
 abbrev pub problem_object : ProblemData → List ℕ
 problem_object t =
     object
-    (member (codes "kind") (quoted t.kind)
+    (member (codes "kind") (quoted_text t.kind)
     ∷ member (codes "number") (count_or_null t.number)
-    ∷ member (codes "name") (quoted t.name)
+    ∷ member (codes "name") (quoted_text t.name)
     ∷ member (codes "needed_us") (count_or_null t.needed)
     ∷ (place_members t.place ++ member (codes "token") (option_map_or escaped_text t.token null) ∷ []))
 
@@ -82,7 +82,7 @@ header_value found =
 
 -- a member that is a list
 abbrev pub list_member : List ℕ → List (List ℕ) → List ℕ
-list_member key values = member key (array values)
+list_member key values = member key (json_array values)
 
 abbrev pub cluster_members : FoundData → List (List ℕ)
 cluster_members found =
@@ -108,7 +108,7 @@ empty_members =
 -- the encodings, if they are read
 abbrev pub encodings_member : Option (List CodingType) → List ℕ
 encodings_member types =
-    member (codes "encodings") (option_map_or (λ ts. array (map encoding_object ts)) types null)
+    member (codes "encodings") (option_map_or (λ ts. json_array (map encoding_object ts)) types null)
 
 -- ---- the whole
 

@@ -16,10 +16,10 @@ use Rattle.lin_parts.specs.declared.parts.Parts.{Parts}
 use Rattle.lin_cluster.specs.SlotTimes.{slot_bytes, slot_need}
 use Rattle.lin_values.specs.Coded.{CodedData, encoding_of}
 use Rattle.lin_values.specs.Shown.{decimal_shown}
-use Rattle.lin_values.specs.declared.items.CodingType.{CodingType}
-use Rattle.lin_values.specs.declared.items.Item.{Item}
-use Rattle.lin_values.specs.declared.items.Item.TheVariants.{Logical, Physical, Bcd, Ascii}
-use Rattle.lin_export.specs.Json.{array, escaped_text, member, null, object, quoted}
+use Rattle.lin_values.specs.declared.codings.CodingType.{CodingType}
+use Rattle.lin_values.specs.declared.codings.Item.{Item}
+use Rattle.lin_values.specs.declared.codings.Item.TheVariants.{Logical, Physical, Bcd, Ascii}
+use Rattle.lin_export.specs.Json.{json_array, escaped_text, member, null, object, quoted_text}
 use Rattle.lin_export.specs.Jsonl.{nad_value, node_text, number_member, signal_value}
 use Rattle.lin_export.specs.ListedFrames.{model_word, places}
 use Rattle.lin_export.specs.ListedSlots.{bits_of, delay_of, permille, slack}
@@ -27,7 +27,7 @@ use Rattle.lin_export.specs.ListedSlots.{bits_of, delay_of, permille, slack}
 -- ---- places
 
 abbrev pub place_value : Name → List ℕ
-place_value name = array (decimal name.line ∷ decimal name.column ∷ [])
+place_value name = json_array (decimal name.line ∷ decimal name.column ∷ [])
 
 -- the place of a declaration's name; null if the LDF has no such declaration
 abbrev pub place_member : Option Name → List ℕ
@@ -36,7 +36,7 @@ place_member name = member (codes "place") (option_map_or place_value name null)
 -- ---- words that several objects have
 
 abbrev pub name_member : List ℕ → List ℕ
-name_member name = member (codes "name") (quoted name)
+name_member name = member (codes "name") (quoted_text name)
 
 abbrev pub count_member : List ℕ → ℕ → List ℕ
 count_member key n = member key (decimal n)
@@ -71,7 +71,7 @@ subscribers d s = option_map_or (λ x. x.subscribers) (slice_get d.signals s) []
 -- the encoding that a signal has, if encodings are read
 abbrev pub encoding_value : Option CodedData → ℕ → List ℕ
 encoding_value None s = null
-encoding_value (Some k) s = option_map_or (λ t. quoted t.name.text) (encoding_of k s) null
+encoding_value (Some k) s = option_map_or (λ t. quoted_text t.name.text) (encoding_of k s) null
 
 abbrev pub signal_object : Parts → Description → Option CodedData → ℕ → List ℕ
 signal_object c d k s =
@@ -82,7 +82,7 @@ signal_object c d k s =
     ∷ member (codes "array") (truth (is_array (signal_of c s).initial))
     ∷ member (codes "initial") (signal_value (signal_of c s).initial)
     ∷ member (codes "publisher") (node_text c (signal_of c s).publisher)
-    ∷ member (codes "subscribers") (array (map (λ n. quoted n.text) (subscribers d s)))
+    ∷ member (codes "subscribers") (json_array (map (λ n. quoted_text n.text) (subscribers d s)))
     ∷ member (codes "encoding") (encoding_value k s)
     ∷ place_member (option_map (λ x. x.name) (slice_get d.signals s))
     ∷ [])
@@ -99,16 +99,16 @@ placed_declared d f i =
 abbrev pub placed_object : Parts → Description → ℕ → ℕ → ℕ × Place → List ℕ
 placed_object c d f i p =
     object
-    (member (codes "signal") (quoted (signal_of c p.0).name)
+    (member (codes "signal") (quoted_text (signal_of c p.0).name)
     ∷ count_member (codes "offset") p.1.offset
     ∷ count_member (codes "bits") p.1.size
     ∷ place_member (placed_declared d f i)
     ∷ [])
 
 -- values of things that are numbered from n on
-abbrev pub numbered : {X : Type 0} → (ℕ → X → List ℕ) → ℕ → List X → List (List ℕ)
-numbered f n [] = []
-numbered f n (x ∷ xs) = f n x ∷ numbered f (n + 1) xs
+abbrev pub numbered_values : {X : Type 0} → (ℕ → X → List ℕ) → ℕ → List X → List (List ℕ)
+numbered_values f n [] = []
+numbered_values f n (x ∷ xs) = f n x ∷ numbered_values f (n + 1) xs
 
 abbrev pub frame_object : Parts → Description → ℕ → List ℕ
 frame_object c d f =
@@ -119,14 +119,14 @@ frame_object c d f =
     ∷ count_member (codes "pid") (frame_of c f).pid
     ∷ count_member (codes "bytes") (frame_of c f).layout.len
     ∷ member (codes "publisher") (node_text c (frame_of c f).publisher)
-    ∷ member (codes "model") (quoted (model_word (frame_of c f).model))
-    ∷ member (codes "places") (array (numbered (placed_object c d f) 0 (places (frame_of c f))))
+    ∷ member (codes "model") (quoted_text (model_word (frame_of c f).model))
+    ∷ member (codes "places") (json_array (numbered_values (placed_object c d f) 0 (places (frame_of c f))))
     ∷ place_member (option_map (λ x. x.name) (slice_get d.frames f))
     ∷ [])
 
 -- the names of frames
 abbrev pub frames_member : Parts → List ℕ → List ℕ
-frames_member c fs = member (codes "frames") (array (map (λ f. quoted (frame_name c f)) fs))
+frames_member c fs = member (codes "frames") (json_array (map (λ f. quoted_text (frame_name c f)) fs))
 
 abbrev pub sporadic_object : Parts → Description → ℕ → List ℕ
 sporadic_object c d k =
@@ -141,7 +141,7 @@ event_object c d e =
     ∷ name_member (event_name c e)
     ∷ count_member (codes "id") ((event_of c e).pid % 64)
     ∷ count_member (codes "pid") (event_of c e).pid
-    ∷ member (codes "table") (quoted (named_table c (event_of c e).table).name)
+    ∷ member (codes "table") (quoted_text (named_table c (event_of c e).table).name)
     ∷ frames_member c (event_of c e).frames
     ∷ place_member (option_map (λ x. x.name) (slice_get d.events e))
     ∷ [])
@@ -159,7 +159,7 @@ entry_object c d t i =
     in let delay = (line_of c t i).delay_us
     in object
     (name_member (entry_name c entry)
-    ∷ member (codes "kind") (quoted (entry_kind entry))
+    ∷ member (codes "kind") (quoted_text (entry_kind entry))
     ∷ count_member (codes "bytes") (slot_bytes c entry)
     ∷ count_member (codes "delay_us") delay
     ∷ count_member (codes "needed_us") (slot_need c entry)
@@ -177,13 +177,13 @@ table_object c d t =
     ∷ count_member (codes "load") (permille (bits_of c t) c.speed (delay_of c t))
     ∷ place_member (option_map (λ x. x.name) (slice_get d.tables t))
     ∷ member (codes "entries")
-    (array (map (entry_object c d t) (numbers (length (table_of c t)))))
+    (json_array (map (entry_object c d t) (numbers (length (table_of c t)))))
     ∷ [])
 
 -- ---- encodings
 
 abbrev pub kind_member : List ℕ → List ℕ
-kind_member word = member (codes "kind") (quoted word)
+kind_member word = member (codes "kind") (quoted_text word)
 
 abbrev pub item_object : Item → List ℕ
 item_object (Logical v text) =
@@ -195,8 +195,8 @@ item_object (Physical from to scale offset unit) =
     (kind_member (codes "physical")
     ∷ count_member (codes "low") from
     ∷ count_member (codes "high") to
-    ∷ member (codes "scale") (quoted (decimal_shown scale))
-    ∷ member (codes "offset") (quoted (decimal_shown offset))
+    ∷ member (codes "scale") (quoted_text (decimal_shown scale))
+    ∷ member (codes "offset") (quoted_text (decimal_shown offset))
     ∷ member (codes "unit") (text_value unit)
     ∷ [])
 item_object Bcd = object (kind_member (codes "bcd") ∷ [])
@@ -205,5 +205,5 @@ item_object Ascii = object (kind_member (codes "ascii") ∷ [])
 abbrev pub encoding_object : CodingType → List ℕ
 encoding_object t =
     object
-    (name_member t.name.text ∷ member (codes "items") (array (map (λ p. item_object p.item) t.items))
+    (name_member t.name.text ∷ member (codes "items") (json_array (map (λ p. item_object p.item) t.items))
     ∷ place_member (Some t.name) ∷ [])

@@ -21,20 +21,20 @@ use Rattle.lin_values.specs.Meaning.{meaning}
 use Rattle.lin_values.specs.Shown.{plain_shown}
 use Rattle.lin_export.specs.Shown.{checksum_in, data_of, slot_name}
 use Rattle.lin_export.specs.Telling.{each_entry}
-use Rattle.lin_export.specs.Track.{slots_in}
+use Rattle.lin_export.specs.Track.{finished_slot_count}
 use Rattle.lin_export.specs.WhereTold.{where_told}
 
 -- a cell after the mark that stands before it
-abbrev pub marked : List ℕ → List ℕ → List ℕ
-marked mark cell = mark ++ cell
+abbrev pub marked_cell : List ℕ → List ℕ → List ℕ
+marked_cell mark cell = mark ++ cell
 
 -- a line: its cells with a comma between two, and LF
-abbrev pub comma : List ℕ → List ℕ
-comma cell = 44 ∷ cell
+abbrev pub after_comma : List ℕ → List ℕ
+after_comma cell = 44 ∷ cell
 
 abbrev pub csv_line : List (List ℕ) → List ℕ
 csv_line [] = 10 ∷ []
-csv_line (cell ∷ cells) = cell ++ (flat_map comma cells ++ 10 ∷ [])
+csv_line (cell ∷ cells) = cell ++ (flat_map after_comma cells ++ 10 ∷ [])
 
 -- bytes in upper-case digits after `0x`, since spreadsheets make numbers of bare digits
 abbrev pub hex_cell : List ℕ → List ℕ
@@ -60,11 +60,11 @@ nodes_cell c (put ∷ puts) = node_name c put ++ flat_map (spaced_name c) puts
 abbrev pub needs_quotes : List ℕ → Bool
 needs_quotes text = list_any (λ b. b == 44 || b == 34) text
 
-abbrev pub doubled : ℕ → List ℕ
-doubled b = if b == 34 then 34 ∷ 34 ∷ [] else b ∷ []
+abbrev pub doubled_quote : ℕ → List ℕ
+doubled_quote b = if b == 34 then 34 ∷ 34 ∷ [] else b ∷ []
 
 abbrev pub text_cell : List ℕ → List ℕ
-text_cell text = if needs_quotes text then 34 ∷ (flat_map doubled text ++ 34 ∷ []) else text
+text_cell text = if needs_quotes text then 34 ∷ (flat_map doubled_quote text ++ 34 ∷ []) else text
 
 -- a signal that has an encoding has one column more, whose name has the unit, where all its ranges
 -- have one
@@ -97,7 +97,7 @@ signal_cells k values s =
 abbrev pub head_line : Parts → Option CodedData → List ℕ
 head_line c k =
     codes "slot,time_us,delay_us,table,entry,kind,frame,header,nodes,seen,data,checksum"
-    ++ (flat_map comma (flat_map (signal_names c k) (numbers (length c.signals))) ++ 10 ∷ [])
+    ++ (flat_map after_comma (flat_map (signal_names c k) (numbers (length c.signals))) ++ 10 ∷ [])
 
 -- a slot at a time: its delay, its entry, what that is for, and its header
 abbrev pub schedule_cells : Parts → ℕ → Slot → List (List ℕ)
@@ -133,12 +133,12 @@ slot_line c k number at s values =
     ∷ (slot_cells c at s ++ flat_map (signal_cells k values) (numbers (length c.signals))))
 
 -- what an entry says on those before it: the line of the slot that it finishes
-abbrev pub row : Parts → Option CodedData → LogEntry → List LogEntry → List ℕ
-row c k e past =
+abbrev pub csv_row : Parts → Option CodedData → LogEntry → List LogEntry → List ℕ
+csv_row c k e past =
     option_map_or
-    (λ s. slot_line c k (slots_in past) (time c past) s (heard_value c (e ∷ past)))
+    (λ s. slot_line c k (finished_slot_count past) (time c past) s (heard_value c (e ∷ past)))
     (finished_slot e past) []
 
 -- the table of a log, the oldest entry first
 abbrev pub csv : Parts → Option CodedData → List LogEntry → List ℕ
-csv c k log = head_line c k ++ each_entry (row c k) [] log
+csv c k log = head_line c k ++ each_entry (csv_row c k) [] log

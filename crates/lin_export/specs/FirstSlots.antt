@@ -6,9 +6,9 @@ use Rattle.std.specs.Option.{option_map_or}
 use Rattle.lin_parts.specs.declared.parts.Parts.{Parts}
 use Rattle.lin_core.specs.History.{Slot, finished_slot, time}
 use Rattle.lin_core.specs.declared.log.LogEntry.{LogEntry}
-use Rattle.lin_export.specs.Csv.{marked, slot_cells}
+use Rattle.lin_export.specs.Csv.{marked_cell, slot_cells}
 use Rattle.lin_export.specs.Telling.{each_entry}
-use Rattle.lin_export.specs.Track.{slots_in}
+use Rattle.lin_export.specs.Track.{finished_slot_count}
 
 -- the beginning of the table: the names of the columns
 abbrev pub table_head : List ℕ
@@ -20,13 +20,13 @@ table_head =
 abbrev pub slot_row : Parts → ℕ → ℕ → Slot → List ℕ
 slot_row c number at s =
     codes "<tr>"
-    ++ (flat_map (marked (codes "<td>")) (decimal number ∷ slot_cells c at s) ++ 10 ∷ [])
+    ++ (flat_map (marked_cell (codes "<td>")) (decimal number ∷ slot_cells c at s) ++ 10 ∷ [])
 
 -- what an entry says on those before it: the row of the slot that it finishes, one of the first
 abbrev pub first_row : Parts → LogEntry → List LogEntry → List ℕ
 first_row c e past =
     option_map_or
-    (λ s. if nat_lt (slots_in past) 200 then slot_row c (slots_in past) (time c past) s else [])
+    (λ s. if nat_lt (finished_slot_count past) 200 then slot_row c (finished_slot_count past) (time c past) s else [])
     (finished_slot e past) []
 
 -- the table of a log, the oldest entry first

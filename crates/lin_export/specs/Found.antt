@@ -1,8 +1,8 @@
 -- What contracts see of the code's types of an object.
 use Rattle.std.specs.Prelude.{ℕ, Option, option_map}
-use Rattle.lin_parts.specs.declared.place.Place.{Place}
+use Rattle.lin_parts.specs.declared.place.Location.{Location}
 use Rattle.lin_export.specs.CheckObject.{FoundData, ProblemData}
-use Rattle.lin_export.specs.WhereTold.{told}
+use Rattle.lin_export.specs.WhereTold.{given_coding}
 use Rattle.lin_export.specs.declared.object.Found.{Found}
 use Rattle.lin_export.specs.declared.object.problems.Problem.{Problem}
 
@@ -11,12 +11,12 @@ found_data f =
     record {
       cluster = f.cluster.now;
       description = f.description.now;
-      coded = told f.coded;
+      coded = given_coding f.coded;
       protocol = f.protocol.now;
       language = f.language.now;
     }
 
-abbrev pub place_data : Option Place → Option (ℕ × ℕ)
+abbrev pub place_data : Option Location → Option (ℕ × ℕ)
 place_data place = option_map (λ p. (p.line, p.column)) place
 
 abbrev pub problem_data : Problem → ProblemData

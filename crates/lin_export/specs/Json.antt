@@ -3,14 +3,14 @@
 -- escape.
 use Rattle.std.specs.Prelude.{ℕ, ◌==◌, ◌||◌, nat_lt, if◌then◌else◌, List, [], ◌∷◌, ◌++◌, flat_map, codes}
 use Rattle.hex.specs.Hex.{encode_upper}
-use Rattle.lin_export.specs.Csv.{comma}
+use Rattle.lin_export.specs.Csv.{after_comma}
 
 abbrev pub null : List ℕ
 null = codes "null"
 
 -- a text between quotes, and bytes as one of upper-case digits
-abbrev pub quoted : List ℕ → List ℕ
-quoted text = 34 ∷ (text ++ 34 ∷ [])
+abbrev pub quoted_text : List ℕ → List ℕ
+quoted_text text = 34 ∷ (text ++ 34 ∷ [])
 
 -- the bytes of a text: a quote and a backslash after a backslash, and a control character as `\u00` and
 -- two digits
@@ -19,31 +19,31 @@ escaped_byte b =
     if b == 34 || b == 92 then 92 ∷ b ∷ []
     else (if nat_lt b 32 then 92 ∷ 117 ∷ 48 ∷ 48 ∷ encode_upper (b ∷ []) else b ∷ [])
 
-abbrev pub escaped : List ℕ → List ℕ
-escaped text = flat_map escaped_byte text
+abbrev pub escaped_bytes : List ℕ → List ℕ
+escaped_bytes text = flat_map escaped_byte text
 
 abbrev pub escaped_text : List ℕ → List ℕ
-escaped_text text = quoted (escaped text)
+escaped_text text = quoted_text (escaped_bytes text)
 
 abbrev pub hex_text : List ℕ → List ℕ
-hex_text bytes = quoted (encode_upper bytes)
+hex_text bytes = quoted_text (encode_upper bytes)
 
 -- a member of an object: its key, and its value after a colon
 abbrev pub member : List ℕ → List ℕ → List ℕ
-member key value = quoted key ++ 58 ∷ value
+member key value = quoted_text key ++ 58 ∷ value
 
 -- values or members with a comma between two
-abbrev pub joined : List (List ℕ) → List ℕ
-joined [] = []
-joined (text ∷ texts) = text ++ flat_map comma texts
+abbrev pub with_commas : List (List ℕ) → List ℕ
+with_commas [] = []
+with_commas (text ∷ texts) = text ++ flat_map after_comma texts
 
-abbrev pub array : List (List ℕ) → List ℕ
-array values = 91 ∷ (joined values ++ 93 ∷ [])
+abbrev pub json_array : List (List ℕ) → List ℕ
+json_array values = 91 ∷ (with_commas values ++ 93 ∷ [])
 
 abbrev pub object : List (List ℕ) → List ℕ
-object members = 123 ∷ (joined members ++ 125 ∷ [])
+object members = 123 ∷ (with_commas members ++ 125 ∷ [])
 
 -- a line: an object whose first member is its type, and LF
 abbrev pub object_line : List ℕ → List (List ℕ) → List ℕ
 object_line kind members =
-    123 ∷ (member (codes "type") (quoted kind) ++ (flat_map comma members ++ 125 ∷ 10 ∷ []))
+    123 ∷ (member (codes "type") (quoted_text kind) ++ (flat_map after_comma members ++ 125 ∷ 10 ∷ []))

@@ -30,21 +30,21 @@ use Rattle.lin_core.specs.declared.reply.Reply.{Reply}
 use Rattle.lin_core.specs.declared.reply.Reply.TheVariants.{Done, Refused}
 use Rattle.lin_core.specs.declared.step.Step.{Step}
 use Rattle.lin_core.specs.declared.step.Step.TheVariants.{Send, Finish, Wake}
-use Rattle.lin_log.specs.Language.{named}
+use Rattle.lin_log.specs.Language.{named_language}
 use Rattle.lin_log.specs.Words.{port_word, spaced_word, step_words, value_word}
 use Rattle.lin_values.specs.Coded.{CodedData}
 use Rattle.lin_values.specs.Meaning.{meaning}
 use Rattle.lin_values.specs.Meant.{Meant}
 use Rattle.lin_values.specs.Shown.{shown}
-use Rattle.lin_export.specs.Json.{array, escaped, hex_text, member, null, object, object_line, quoted}
+use Rattle.lin_export.specs.Json.{json_array, escaped_bytes, hex_text, member, null, object, object_line, quoted_text}
 use Rattle.lin_export.specs.Shown.{checksum_in, data_of, slot_name}
 use Rattle.lin_export.specs.Telling.{each_entry}
-use Rattle.lin_export.specs.Track.{hurt_in, slots_in}
+use Rattle.lin_export.specs.Track.{hurt_in, finished_slot_count}
 use Rattle.lin_export.specs.WhereTold.{where_told}
 
 -- ---- values
 abbrev pub node_text : Parts → ℕ → List ℕ
-node_text c n = quoted (node_of c n).name
+node_text c n = quoted_text (node_of c n).name
 
 -- the diagnostic address of a node
 abbrev pub nad_value : Parts → ℕ → List ℕ
@@ -53,7 +53,7 @@ nad_value c n = option_map_or decimal (nad c n) null
 -- a scalar's number, or `x` and an array's bytes
 abbrev pub signal_value : Value → List ℕ
 signal_value (Scalar n) = decimal n
-signal_value (Bytes bytes) = quoted (value_word (Bytes bytes))
+signal_value (Bytes bytes) = quoted_text (value_word (Bytes bytes))
 
 -- ---- members that several objects have
 abbrev pub time_member : ℕ → List ℕ
@@ -73,17 +73,17 @@ abbrev pub run_line : Parts → ℕ → ℕ → List ℕ
 run_line c opening capacity =
     object_line (codes "run")
     (member (codes "version") (decimal 1)
-    ∷ member (codes "table") (quoted (named_table c opening).name)
+    ∷ member (codes "table") (quoted_text (named_table c opening).name)
     ∷ member (codes "capacity") (decimal capacity)
-    ∷ member (codes "nodes") (array (map (node_text c) (numbers (nodes c))))
-    ∷ member (codes "nads") (array (map (nad_value c) (numbers (nodes c))))
+    ∷ member (codes "nodes") (json_array (map (node_text c) (numbers (nodes c))))
+    ∷ member (codes "nads") (json_array (map (nad_value c) (numbers (nodes c))))
     ∷ [])
 
 -- ---- a slot
 -- what it is for; a configuration entry has no frame
 abbrev pub frame_value : Entry → List ℕ → List ℕ
 frame_value Quiet name = null
-frame_value entry name = quoted name
+frame_value entry name = quoted_text name
 
 abbrev pub frame_member : Parts → Slot → List ℕ
 frame_member c s =
@@ -98,22 +98,22 @@ schedule_members c number at s =
     member (codes "slot") (decimal number)
     ∷ time_member at
     ∷ member (codes "delay_us") (decimal (line_of c s.table s.entry).delay_us)
-    ∷ member (codes "table") (quoted (named_table c s.table).name)
+    ∷ member (codes "table") (quoted_text (named_table c s.table).name)
     ∷ member (codes "entry") (decimal s.entry)
-    ∷ member (codes "kind") (quoted (entry_kind (line_of c s.table s.entry).entry))
+    ∷ member (codes "kind") (quoted_text (entry_kind (line_of c s.table s.entry).entry))
     ∷ frame_member c s
     ∷ header_member s.header
     ∷ []
 
 -- the nodes that were due, and those that answered, with data and checksum
 abbrev pub due_member : Parts → List ℕ → List ℕ
-due_member c due = member (codes "due") (array (map (node_text c) due))
+due_member c due = member (codes "due") (json_array (map (node_text c) due))
 
 abbrev pub answer_value : Parts → ℕ × List ℕ → List ℕ
 answer_value c put = object (member (codes "node") (node_text c put.0) ∷ bytes_member put.1 ∷ [])
 
 abbrev pub answers_member : Parts → List (ℕ × List ℕ) → List ℕ
-answers_member c puts = member (codes "answers") (array (map (answer_value c) puts))
+answers_member c puts = member (codes "answers") (json_array (map (answer_value c) puts))
 
 -- the bytes that the nodes saw in place of a disturbed response
 abbrev pub hurt_member : Bool → List ℕ → List ℕ
@@ -122,7 +122,7 @@ hurt_member hurt bytes = member (codes "hurt") (if hurt then hex_text bytes else
 -- how it was seen, with the data bytes and the checksum of a good response
 abbrev pub response_members : Seen → List (List ℕ)
 response_members how =
-    member (codes "seen") (quoted (look_word (look_of how)))
+    member (codes "seen") (quoted_text (look_word (look_of how)))
     ∷ member (codes "data")
     (option_map_or (λ answer. hex_text (data_of answer)) (good_bytes how) null)
     ∷ member (codes "checksum")
@@ -169,7 +169,7 @@ message_member c last s =
 
 -- what these signals mean, those that mean something
 abbrev pub meaning_text : Meant → List ℕ
-meaning_text m = quoted (escaped (shown m))
+meaning_text m = quoted_text (escaped_bytes (shown m))
 
 abbrev pub meaning_members : Parts → CodedData → ℕ → Value → List (List ℕ)
 meaning_members c k s v =
@@ -214,9 +214,9 @@ abbrev pub settled_all : ℕ → List Event → ℕ → ℕ
 settled_all h [] n = n
 settled_all h (e ∷ es) n = settled_all h es (settled_after h e n)
 
-abbrev pub settled : List LogEntry → ℕ → ℕ
-settled [] h = 0
-settled (e ∷ past) h = settled_all h (events e) (settled past h)
+abbrev pub settled_count : List LogEntry → ℕ → ℕ
+settled_count [] h = 0
+settled_count (e ∷ past) h = settled_all h (events e) (settled_count past h)
 
 -- ---- events, at a time
 -- a message that was accepted, by its step; null where it goes to all responders (ISO 17987-2,
@@ -255,7 +255,7 @@ abbrev pub lost_line : Parts → ℕ → ℕ → ℕ → Cause → List ℕ
 lost_line c at host number why =
     object_line (codes "lost")
     (time_member at ∷ host_member c host ∷ number_member number
-    ∷ member (codes "cause") (quoted (cause_word why)) ∷ [])
+    ∷ member (codes "cause") (quoted_text (cause_word why)) ∷ [])
 
 -- an event of a step, at the end of a slot where it is one of a finish
 abbrev pub event_line : Parts → Step → ℕ → ℕ → Event → List ℕ
@@ -272,14 +272,14 @@ event_line c step slot at event = []
 abbrev pub step_object : Parts → Option CodedData → (ℕ → ℕ) → List LogEntry → Step → List ℕ
 step_object c k last past Finish =
     option_map_or
-    (slot_line c k (slots_in past) (time c past) (hurt_in past) last) (open_slot past) []
+    (slot_line c k (finished_slot_count past) (time c past) (hurt_in past) last) (open_slot past) []
 step_object c k last past Wake = object_line (codes "awake") (time_member (time c past) ∷ [])
 step_object c k last past step = []
 
 -- a step that was refused: its line with names, and the refusal's number and name
 abbrev pub step_text : Parts → PortId → Step → List ℕ
 step_text c port step =
-    quoted (port_word (named c) port ++ flat_map spaced_word (step_words (named c) step))
+    quoted_text (port_word (named_language c) port ++ flat_map spaced_word (step_words (named_language c) step))
 
 abbrev pub refused_line : Parts → ℕ → PortId → Step → Refusal → List ℕ
 refused_line c at port step why =
@@ -287,14 +287,14 @@ refused_line c at port step why =
     (time_member at
     ∷ member (codes "step") (step_text c port step)
     ∷ number_member (refusal_number why)
-    ∷ member (codes "name") (quoted (refusal_word why))
+    ∷ member (codes "name") (quoted_text (refusal_word why))
     ∷ [])
 
 -- what an entry with this reply says on those before it; its events come at the time after it
 abbrev pub reply_objects : Parts → Option CodedData → LogEntry → List LogEntry → Reply → List ℕ
 reply_objects c k e past (Done es) =
-    step_object c k (settled past) past e.step
-    ++ flat_map (event_line c e.step (slots_in past) (time c (e ∷ past))) es
+    step_object c k (settled_count past) past e.step
+    ++ flat_map (event_line c e.step (finished_slot_count past) (time c (e ∷ past))) es
 reply_objects c k e past (Refused why) = refused_line c (time c past) e.port e.step why
 
 abbrev pub entry_objects : Parts → Option CodedData → LogEntry → List LogEntry → List ℕ

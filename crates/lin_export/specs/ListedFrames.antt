@@ -67,8 +67,8 @@ event_line c e =
     ∷ map (frame_name c) (event_of c e).frames)
 
 -- the frames of each kind, by their numbers
-abbrev pub frames : Parts → List ℕ
-frames c =
+abbrev pub frame_listing : Parts → List ℕ
+frame_listing c =
     flat_map (frame_lines c) (numbers (length c.frames))
     ++ flat_map (sporadic_line c) (numbers (length c.sporadic))
     ++ flat_map (event_line c) (numbers (length c.events))

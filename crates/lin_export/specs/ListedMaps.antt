@@ -9,7 +9,7 @@ use Rattle.lin_parts.specs.declared.parts.Parts.{Parts}
 use Rattle.lin_log.specs.Words.{line}
 use Rattle.lin_export.specs.ListedFrames.{identifier_word, places}
 use Rattle.lin_export.specs.Listing.{numbered_lines}
-use Rattle.lin_export.specs.Marks.{bit_mark, free_bits, mark}
+use Rattle.lin_export.specs.Marks.{bit_mark, free_bits, signal_mark}
 
 -- number, name, identifier, data bytes and free bits of an unconditional frame
 abbrev pub map_line : Parts → ℕ → List ℕ
@@ -39,7 +39,7 @@ mark_line c f k p =
     line
     (codes "mark"
     ∷ decimal f
-    ∷ (mark k ∷ [])
+    ∷ (signal_mark k ∷ [])
     ∷ (signal_of c p.0).name
     ∷ decimal p.1.offset
     ∷ decimal p.1.size

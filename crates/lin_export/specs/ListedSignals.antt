@@ -12,11 +12,11 @@ use Rattle.lin_values.specs.Coded.{encoding_of, CodedData, RangeData}
 use Rattle.lin_values.specs.Meaning.{meaning}
 use Rattle.lin_values.specs.Meant.{Meant}
 use Rattle.lin_values.specs.Shown.{decimal_shown, shown}
-use Rattle.lin_values.specs.Value.{decimal_of, value}
+use Rattle.lin_values.specs.Value.{decimal_of, scaled_value}
 use Rattle.lin_values.specs.declared.decimals.Decimal.{Decimal}
-use Rattle.lin_values.specs.declared.items.CodingType.{CodingType}
-use Rattle.lin_values.specs.declared.items.Item.{Item}
-use Rattle.lin_values.specs.declared.items.Item.TheVariants.{Logical, Physical, Bcd, Ascii}
+use Rattle.lin_values.specs.declared.codings.CodingType.{CodingType}
+use Rattle.lin_values.specs.declared.codings.Item.{Item}
+use Rattle.lin_values.specs.declared.codings.Item.TheVariants.{Logical, Physical, Bcd, Ascii}
 
 abbrev pub encoding_word : Option CodingType → List ℕ
 encoding_word None = codes "-"
@@ -36,7 +36,7 @@ unit_words (c ∷ cs) = (c ∷ cs) ∷ []
 
 abbrev pub decimal_word : ℕ → Decimal → Decimal → List ℕ
 decimal_word raw scale offset =
-    decimal_shown (decimal_of (pos raw *ℤ value scale +ℤ value offset))
+    decimal_shown (decimal_of (pos raw *ℤ scaled_value scale +ℤ scaled_value offset))
 
 -- the raw ends, the decimals that they mean, and the unit
 abbrev pub range_line : ℕ → RangeData → List ℕ

@@ -73,8 +73,8 @@ frame_line c t f timing =
     ∷ time_word (option_map (λ times. times.longest) timing.gaps)
     ∷ [])
 
-abbrev pub frame_text : Parts → ℕ → ℕ → FrameTiming → List ℕ
-frame_text c t f timing =
+abbrev pub frame_timing_text : Parts → ℕ → ℕ → FrameTiming → List ℕ
+frame_timing_text c t f timing =
     if occurs timing.own timing.shared then frame_line c t f timing else []
 
 -- ---- a signal: its longest wait, and that if no frame above it in rank goes twice before it
@@ -84,8 +84,8 @@ latency_line c t s latency =
     line (codes "latency" ∷ decimal t ∷ (signal_of c s).name ∷ time_word latency.worst
     ∷ time_word latency.once ∷ [])
 
-abbrev pub signal_text : Parts → ℕ → ℕ → Option Latency → List ℕ
-signal_text c t s latency = option_map_or (latency_line c t s) latency []
+abbrev pub signal_timing_text : Parts → ℕ → ℕ → Option Latency → List ℕ
+signal_timing_text c t s latency = option_map_or (latency_line c t s) latency []
 
 -- ---- messages in a direction: their data bytes, their frames, and their longest wait
 
@@ -101,8 +101,8 @@ transfer_text t direction bytes worst = option_map_or (transfer_line t direction
 
 abbrev pub table_text : Parts → ℕ → ℕ → TableTiming → List ℕ
 table_text c bytes t timing =
-    table_line c t ++ numbered_lines (frame_text c t) 0 timing.frames.items
-    ++ numbered_lines (signal_text c t) 0 timing.signals.items
+    table_line c t ++ numbered_lines (frame_timing_text c t) 0 timing.frames.items
+    ++ numbered_lines (signal_timing_text c t) 0 timing.signals.items
     ++ transfer_text t (codes "down") bytes timing.down
     ++ transfer_text t (codes "up") bytes timing.up
 

@@ -10,8 +10,8 @@ use Rattle.lin_frame.specs.declared.layout.Place.{Place}
 
 -- the mark of a signal by its number among the places of its frame: `A` to `Z`, `a` to `z`, `0` to
 -- `9`, `@` and `#`, as many as a frame has bits
-abbrev pub mark : ℕ → ℕ
-mark k =
+abbrev pub signal_mark : ℕ → ℕ
+signal_mark k =
     if nat_lt k 26 then 65 + k
     else (if nat_lt k 52 then 97 + (k - 26)
     else (if nat_lt k 62 then 48 + (k - 52) else (if k == 62 then 64 else 35)))
@@ -21,7 +21,7 @@ mark k =
 abbrev pub bit_mark : Layout → ℕ → ℕ
 bit_mark layout b =
     if nat_lt b (first_bit layout) then 61
-    else option_map_or mark (position (λ p. covers p b) layout.places) 46
+    else option_map_or signal_mark (position (λ p. covers p b) layout.places) 46
 
 -- the bits of the data bytes that neither the protected identifier nor a signal has
 abbrev pub free_bits : Layout → ℕ
@@ -33,6 +33,6 @@ free_bits layout =
 pub record TellsPlaces (layout : Layout) : Type 0 where
   pub marks :
       (k : ℕ) (p : Place) → k < length layout.places → p ≡ slice_index_or layout.places k p
-      → (b : ℕ) → (bit_mark layout b == mark k) ≡ covers p b
+      → (b : ℕ) → (bit_mark layout b == signal_mark k) ≡ covers p b
   pub dots :
       count_by (λ b. bit_mark layout b == 46) (numbers (8 * layout.len)) ≡ free_bits layout

@@ -2,7 +2,7 @@
 use Rattle.std.specs.Prelude.{ℕ, List}
 use Rattle.std.specs.Fmt.{decimal}
 use Rattle.lin_export.specs.ClusterObject.{text_value, truth}
-use Rattle.lin_export.specs.Json.{escaped_text, hex_text, member, null, quoted}
+use Rattle.lin_export.specs.Json.{escaped_text, hex_text, member, null, quoted_text}
 use Rattle.lin_export.specs.declared.json.Member.{Member}
 use Rattle.lin_export.specs.declared.json.Member.TheVariants.{Null, Number, Truth, Text, Escaped, Shown, Hex}
 
@@ -10,7 +10,7 @@ abbrev pub member_shown : Member → List ℕ
 member_shown (Null key) = member key.now null
 member_shown (Number key n) = member key.now (decimal n)
 member_shown (Truth key is) = member key.now (truth is)
-member_shown (Text key text) = member key.now (quoted text.now)
+member_shown (Text key text) = member key.now (quoted_text text.now)
 member_shown (Escaped key text) = member key.now (escaped_text text.now)
 member_shown (Shown key text) = member key.now (text_value text.now)
 member_shown (Hex key bytes) = member key.now (hex_text bytes.now)

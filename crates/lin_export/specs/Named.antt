@@ -26,7 +26,7 @@ use Rattle.lin_core.specs.declared.reply.Reply.TheVariants.{Done, Refused}
 use Rattle.lin_core.specs.declared.step.Step.{Step}
 use Rattle.lin_core.specs.declared.step.Step.TheVariants.{Finish, Write}
 use Rattle.lin_core.specs.Tables.{refusal_number, refusal_word}
-use Rattle.lin_log.specs.Language.{named}
+use Rattle.lin_log.specs.Language.{named_language}
 use Rattle.lin_log.specs.Words.{event_words, log_text, value_word}
 use Rattle.lin_values.specs.Coded.{CodedData}
 use Rattle.lin_values.specs.Meaning.{meaning}
@@ -35,22 +35,22 @@ use Rattle.lin_export.specs.Shown.{slot_frame}
 use Rattle.lin_export.specs.WhereTold.{where_told}
 
 -- the frame of a sporadic entry with a header
-abbrev pub sporadic_frame : Parts → Entry → Option ℕ → Option ℕ
-sporadic_frame c (Sporadic k) header =
+abbrev pub sporadic_frame_under : Parts → Entry → Option ℕ → Option ℕ
+sporadic_frame_under c (Sporadic k) header =
     find (λ f. header_is (frame_of c f).pid header) (sporadic_of c k)
-sporadic_frame c entry header = None
+sporadic_frame_under c entry header = None
 
 -- an opened slot: after its numbers what its entry is for
 abbrev pub slot_names : Parts → Event → List (List ℕ)
 slot_names c (event.Slot table entry header) =
     entry_name c (line_of c table entry).entry
     ∷ map (frame_name c)
-    (option_to_list (sporadic_frame c (line_of c table entry).entry header))
+    (option_to_list (sporadic_frame_under c (line_of c table entry).entry header))
 slot_names c other = []
 
 -- what an event is called, and its parts
 abbrev pub named_event : Parts → Event → List (List ℕ)
-named_event c e = event_words (named c) e ++ slot_names c e
+named_event c e = event_words (named_language c) e ++ slot_names c e
 
 -- a good frame of signals: its name, and each signal with its value, in the order of the places
 abbrev pub signal_words : Parts → List ℕ → ℕ × Place → List (List ℕ)
@@ -99,9 +99,9 @@ good_words c answer s =
     (slot_frame c (line_of c s.table s.entry).entry s) (transport c s.header answer)
 
 -- what stands after an event, in the open slot
-abbrev pub behind : Parts → Option Slot → Event → Option (List (List ℕ))
-behind c o (event.Seen (Good answer)) = option_map_or (good_words c answer) o None
-behind c o e = None
+abbrev pub words_after_event : Parts → Option Slot → Event → Option (List (List ℕ))
+words_after_event c o (event.Seen (Good answer)) = option_map_or (good_words c answer) o None
+words_after_event c o e = None
 
 -- ---- what values mean
 -- the line of a value of a signal, where it means something
@@ -138,7 +138,7 @@ written_values c k step = []
 abbrev pub event_lines : Parts → Option CodedData → Option Slot → Event → List (List (List ℕ))
 event_lines c k o e =
     named_event c e
-    ∷ (option_to_list (behind c o e) ++ where_told k (λ d. seen_values c d o e))
+    ∷ (option_to_list (words_after_event c o e) ++ where_told k (λ d. seen_values c d o e))
 
 -- after the lines of a finish, the time in microseconds
 abbrev pub time_words : Step → ℕ → Option (List (List ℕ))
@@ -160,7 +160,7 @@ reply_lines c k e past = lines_of_reply c k e past e.reply
 
 -- entries with names, the oldest first, each on those before it, which stand the newest first
 abbrev pub named_entries : Parts → Option CodedData → List LogEntry → List LogEntry → List ℕ
-named_entries c k past entries = log_text (named c) (reply_lines c k) past entries
+named_entries c k past entries = log_text (named_language c) (reply_lines c k) past entries
 
 -- the log with names, the oldest entry first
 abbrev pub named_log : Parts → Option CodedData → List LogEntry → List ℕ

@@ -5,10 +5,10 @@ use Rattle.lin_parts.specs.declared.parts.Parts.{Parts}
 use Rattle.lin_core.specs.History.{Slot}
 use Rattle.lin_core.specs.declared.event.Event.{Event}
 use Rattle.lin_core.specs.declared.log.LogEntry.{LogEntry}
-use Rattle.lin_log.specs.Language.{named}
+use Rattle.lin_log.specs.Language.{named_language}
 use Rattle.lin_log.specs.Words.{reply_line, step_line}
 use Rattle.lin_values.specs.Coded.{CodedData}
-use Rattle.lin_export.specs.Named.{behind, named_event, reply_lines, seen_values}
+use Rattle.lin_export.specs.Named.{words_after_event, named_event, reply_lines, seen_values}
 use Rattle.lin_export.specs.WhereTold.{where_told}
 
 -- a line, where there is one
@@ -19,9 +19,9 @@ line_or_none o = option_map_or reply_line o []
 abbrev pub event_text : Parts → Option CodedData → Option Slot → Event → List ℕ
 event_text c k o e =
     reply_line (named_event c e)
-    ++ (line_or_none (behind c o e)
+    ++ (line_or_none (words_after_event c o e)
     ++ flat_map reply_line (where_told k (λ d. seen_values c d o e)))
 
 abbrev pub named_entry : Parts → Option CodedData → LogEntry → List LogEntry → List ℕ
 named_entry c k e past =
-    step_line (named c) e.port e.step ++ flat_map reply_line (reply_lines c k e past)
+    step_line (named_language c) e.port e.step ++ flat_map reply_line (reply_lines c k e past)

@@ -3,8 +3,8 @@ use Rattle.std.specs.Prelude.{[]}
 use Rattle.lin_core.specs.History.{Slot}
 use Rattle.lin_export.specs.declared.slot.OpenSlot.{OpenSlot}
 
-abbrev pub slot_in : OpenSlot → Slot
-slot_in s = record {
+abbrev pub tracked_slot : OpenSlot → Slot
+tracked_slot s = record {
   table = s.table;
   entry = s.entry;
   header = s.header;

@@ -18,18 +18,18 @@ use Rattle.lin_export.specs.Shown.{checksum_in, data_of}
 use Rattle.lin_export.specs.Telling.{each_entry}
 
 -- the low 32 bits of a number, the lowest byte first
-abbrev pub word : ℕ → List ℕ
-word n = n % 256 ∷ n / 256 % 256 ∷ n / 65536 % 256 ∷ n / 16777216 % 256 ∷ []
+abbrev pub word_bytes : ℕ → List ℕ
+word_bytes n = n % 256 ∷ n / 256 % 256 ∷ n / 65536 % 256 ∷ n / 16777216 % 256 ∷ []
 
 -- microseconds, version 2.4, packets of up to 65,535 bytes, LINKTYPE_LIN
 abbrev pub file_header : List ℕ
-file_header = word 0xA1B2C3D4 ++ 2 ∷ 0 ∷ 4 ∷ 0 ∷ [] ++ word 0 ++ word 0 ++ word 65535 ++ word 212
+file_header = word_bytes 0xA1B2C3D4 ++ 2 ∷ 0 ∷ 4 ∷ 0 ∷ [] ++ word_bytes 0 ++ word_bytes 0 ++ word_bytes 65535 ++ word_bytes 212
 
 -- a packet at a time in microseconds: seconds, microseconds, how many bytes were captured, how many
 -- there were, and these
 abbrev pub packet : ℕ → List ℕ → List ℕ
 packet at body =
-    word (at / 1000000) ++ word (at % 1000000) ++ word (length body) ++ word (length body) ++ body
+    word_bytes (at / 1000000) ++ word_bytes (at % 1000000) ++ word_bytes (length body) ++ word_bytes (length body) ++ body
 
 -- the checksum model in the packet's byte 4
 abbrev pub model_number : SumKind → ℕ

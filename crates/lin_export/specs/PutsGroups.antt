@@ -5,7 +5,7 @@ use Rattle.lin_core.specs.declared.log.LogEntry.{LogEntry}
 use Rattle.lin_text.specs.Written.{Grows}
 use Rattle.lin_text.specs.declared.buffered.TextWriter.{TextWriter}
 use Rattle.lin_values.specs.Coded.{CodedData}
-use Rattle.lin_export.specs.Vcd.{Group, latest, shown_at, timed_groups, waits}
+use Rattle.lin_export.specs.Vcd.{Group, latest, shown_at, timed_groups, waiting_count}
 
 -- Groups were put after a time that stands in the text, which is now another one.
 pub record PutsGroups {W : Type 0} (contents : W → Option (List ℕ)) (old : TextWriter W)
@@ -22,4 +22,4 @@ AreCounts count kept = (h : ℕ) → h < 256 → slice_index kept h ≡ count h
 pub record KeepsChanges (c : Parts) (k : Option CodedData) (past : List LogEntry) (last : ℕ)
     (counts : List ℕ) : Type 0 where
   pub shown : last ≡ shown_at c k past
-  pub waiting : AreCounts (waits past) counts
+  pub waiting : AreCounts (waiting_count past) counts

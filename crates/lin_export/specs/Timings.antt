@@ -65,7 +65,7 @@ AreLatencies c t all =
     (s : ℕ) → s < length all → IsSignalLatency c t s (slice_index_or all s None)
 
 -- a signal for each signal, up to it, that the same frames have
-pub record AreAlike (c : Parts) (all : List ℕ) : Type 0 where
+pub record HaveSameFrames (c : Parts) (all : List ℕ) : Type 0 where
   pub number : length all ≡ length c.signals
   pub alike : (s : ℕ) → s < length all → frames_with c (slice_index all s) ≡ frames_with c s
   pub earlier : (s : ℕ) → s < length all → slice_index all s ≤ s

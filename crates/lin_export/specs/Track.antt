@@ -12,9 +12,9 @@ abbrev pub shown_slot : Slot → Slot
 shown_slot s = record s { left = [] }
 
 -- how many slots are finished
-abbrev pub slots_in : List LogEntry → ℕ
-slots_in [] = 0
-slots_in (e ∷ past) = option_map_or (λ s. slots_in past + 1) (finished_slot e past) (slots_in past)
+abbrev pub finished_slot_count : List LogEntry → ℕ
+finished_slot_count [] = 0
+finished_slot_count (e ∷ past) = option_map_or (λ s. finished_slot_count past + 1) (finished_slot e past) (finished_slot_count past)
 
 -- the bytes that stood last in place of a disturbed response; in a slot whose response was
 -- disturbed these are its own
@@ -37,6 +37,6 @@ abbrev pub track_of : Parts → List LogEntry → TrackData
 track_of c past = record {
   slot = option_map shown_slot (open_slot past);
   time = time c past;
-  slots = slots_in past;
+  slots = finished_slot_count past;
   hurt = hurt_in past;
 }

@@ -24,7 +24,7 @@ use Rattle.lin_values.specs.Meaning.{meaning}
 use Rattle.lin_values.specs.Meant.{Meant, Physical}
 use Rattle.lin_values.specs.Shown.{plain_shown}
 use Rattle.lin_export.specs.Telling.{each_entry}
-use Rattle.lin_export.specs.Track.{slots_in}
+use Rattle.lin_export.specs.Track.{finished_slot_count}
 use Rattle.lin_export.specs.WhereTold.{where_told}
 
 -- the low bits of a number as digits, the highest first
@@ -100,11 +100,11 @@ physical_change c k s v =
 abbrev pub text_line : List ℕ → List ℕ
 text_line text = text ++ 10 ∷ []
 
-abbrev pub opening : ℕ → ℕ → List ℕ
-opening width k = codes "$var wire " ++ (decimal width ++ 32 ∷ (code k ++ 32 ∷ []))
+abbrev pub wire_opening : ℕ → ℕ → List ℕ
+wire_opening width k = codes "$var wire " ++ (decimal width ++ 32 ∷ (code k ++ 32 ∷ []))
 
 abbrev pub declaration : ℕ → ℕ → List ℕ → List ℕ
-declaration width k name = opening width k ++ (name ++ text_line (codes " $end"))
+declaration width k name = wire_opening width k ++ (name ++ text_line (codes " $end"))
 
 abbrev pub scope : List ℕ → List ℕ → List ℕ
 scope name variables =
@@ -180,8 +180,8 @@ first_values c k =
     ++ (flat_map (first_waiting c) (numbers (nodes c))
     ++ (where_told k (first_decimals c) ++ text_line (codes "$end"))))))))
 
-abbrev pub head : Parts → Option CodedData → List ℕ
-head c k = declarations c k ++ first_values c k
+abbrev pub vcd_head : Parts → Option CodedData → List ℕ
+vcd_head c k = declarations c k ++ first_values c k
 
 -- how many messages of a host wait, as the events say: at most 2,047
 abbrev pub one_more : ℕ → ℕ
@@ -197,9 +197,9 @@ abbrev pub counted_all : ℕ → List Event → ℕ → ℕ
 counted_all h [] n = n
 counted_all h (e ∷ es) n = counted_all h es (count_after h e n)
 
-abbrev pub waits : List LogEntry → ℕ → ℕ
-waits [] h = 0
-waits (e ∷ past) h = counted_all h (events e) (waits past h)
+abbrev pub waiting_count : List LogEntry → ℕ → ℕ
+waiting_count [] h = 0
+waiting_count (e ∷ past) h = counted_all h (events e) (waiting_count past h)
 
 -- changes at a time in microseconds
 pub record Group : Type 0 where
@@ -270,7 +270,7 @@ step_groups c k past end (Write by signal value) =
     if nat_lt signal (length c.signals)
     then record { at = time c past; changes = written_change c signal value } ∷ [] else []
 step_groups c k past end Finish =
-    option_map_or (slot_groups c k (slots_in past) (time c past) end) (open_slot past) []
+    option_map_or (slot_groups c k (finished_slot_count past) (time c past) end) (open_slot past) []
 step_groups c k past end Wake = record { at = time c past; changes = number_change 1 5 0 } ∷ []
 step_groups c k past end step = []
 
@@ -288,7 +288,7 @@ event_group c at count event = []
 abbrev pub groups : Parts → Option CodedData → LogEntry → List LogEntry → List Group
 groups c k e past =
     option_map_or (step_groups c k past (time c (e ∷ past))) (done e) []
-    ++ flat_map (event_group c (time c (e ∷ past)) (waits (e ∷ past))) (events e)
+    ++ flat_map (event_group c (time c (e ∷ past)) (waiting_count (e ∷ past))) (events e)
 
 -- the last time that stands in the text
 abbrev pub shown_at : Parts → Option CodedData → List LogEntry → ℕ
@@ -299,8 +299,8 @@ abbrev pub entry_changes : Parts → Option CodedData → LogEntry → List LogE
 entry_changes c k e past = timed_groups (shown_at c k past) (groups c k e past)
 
 -- the changes of a log, the oldest entry first, and the time of its end
-abbrev pub last_time : Parts → Option CodedData → List LogEntry → List ℕ
-last_time c k past = stamp (shown_at c k past) (time c past)
+abbrev pub end_stamp : Parts → Option CodedData → List LogEntry → List ℕ
+end_stamp c k past = stamp (shown_at c k past) (time c past)
 
 abbrev pub vcd : Parts → Option CodedData → List LogEntry → List ℕ
-vcd c k log = head c k ++ (each_entry (entry_changes c k) [] log ++ last_time c k (reverse log))
+vcd c k log = vcd_head c k ++ (each_entry (entry_changes c k) [] log ++ end_stamp c k (reverse log))

@@ -9,5 +9,5 @@ where_told None says = []
 where_told (Some k) says = says k
 
 -- what code is told
-abbrev pub told : Option (Bor CodedData) → Option CodedData
-told o = option_map (λ (k : Bor CodedData). k.now) o
+abbrev pub given_coding : Option (Bor CodedData) → Option CodedData
+given_coding o = option_map (λ (k : Bor CodedData). k.now) o

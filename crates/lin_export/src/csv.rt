@@ -7,22 +7,22 @@ ghost use Rattle.lin_core.specs.Signals.{heard_value, ArePointwise};
 ghost use Rattle.lin_frame.specs.declared.value.Value.{Value};
 ghost use Rattle.lin_text.specs.Written.{Grows, WritesText};
 ghost use Rattle.lin_export.specs.Cells.{cell_text};
-ghost use Rattle.lin_export.specs.Csv.{comma, csv, head_line, hex_cell, marked};
-ghost use Rattle.lin_export.specs.Csv.{node_name, nodes_cell, response_cells, row, schedule_cells};
+ghost use Rattle.lin_export.specs.Csv.{after_comma, csv, head_line, hex_cell, marked_cell};
+ghost use Rattle.lin_export.specs.Csv.{node_name, nodes_cell, response_cells, csv_row, schedule_cells};
 ghost use Rattle.lin_export.specs.Csv.{signal_cells, signal_names};
 ghost use Rattle.lin_export.specs.Csv.{slot_cells, spaced_name, value_cell};
-ghost use Rattle.lin_export.specs.KeptCells.{AreKept, FitKept, IsKept};
-ghost use Rattle.lin_export.specs.Look.{looks};
-ghost use Rattle.lin_export.specs.Open.{slot_in};
-ghost use Rattle.lin_export.specs.WhereTold.{told};
+ghost use Rattle.lin_export.specs.KeptCells.{AreKept, FitKept, AreCellsOf};
+ghost use Rattle.lin_export.specs.Look.{seen_as};
+ghost use Rattle.lin_export.specs.Open.{tracked_slot};
+ghost use Rattle.lin_export.specs.WhereTold.{given_coding};
 
 use crate::fault::ExportFault;
-use crate::format::{Format, write_as};
+use crate::format::{EntryFormat, write_as};
 use crate::hearing::hear_slot;
 use crate::kept_cells::{KeptCells, kept_cells};
 use crate::meaning_cells::put_meaning_names;
-use crate::naming::{node_name, slot_name, table_name};
-use crate::slot::{Look, OpenSlot, byte_at};
+use crate::slot::{OpenSlot, SeenSlot, byte_at};
+use crate::slot_names::{node_name, slot_name, table_name};
 use crate::track::Track;
 use lin_core::{Listed, Log, LogEntry, initial_values};
 use lin_frame::{Answer, Value};
@@ -63,7 +63,7 @@ fn put_cell<W: Write>(out: &mut TextWriter<'_, W>, cell: Cell<'_>)
 
 /// A cell after its mark.
 pub(crate) fn put_next<W: Write>(out: &mut TextWriter<'_, W>, mark: &[u8], cell: Cell<'_>)
-    ensures { Grows W.contents out.old out.new (marked mark.now (cell_text cell.entry)) }
+    ensures { Grows W.contents out.old out.new (marked_cell mark.now (cell_text cell.entry)) }
 {
     out.put(mark);
     put_cell(out, cell);
@@ -71,7 +71,7 @@ pub(crate) fn put_next<W: Write>(out: &mut TextWriter<'_, W>, mark: &[u8], cell:
 
 fn put_cells<W: Write>(out: &mut TextWriter<'_, W>, mark: &[u8], cells: &[Cell<'_>])
     ensures { Grows W.contents out.old out.new
-        (flat_map (marked mark.now) (map cell_text cells.now)) }
+        (flat_map (marked_cell mark.now) (map cell_text cells.now)) }
 {
     for cell in cells {
         put_next(out, mark, *cell);
@@ -81,7 +81,7 @@ fn put_cells<W: Write>(out: &mut TextWriter<'_, W>, mark: &[u8], cells: &[Cell<'
 /// (A call would take as long as what it does.)
 #[inline(always)]
 fn put_value<W: Write>(out: &mut TextWriter<'_, W>, value: &Value)
-    ensures { Grows W.contents out.old out.new (comma (value_cell value.now)) }
+    ensures { Grows W.contents out.old out.new (after_comma (value_cell value.now)) }
 {
     match value {
         Value::Scalar(number) if *number < 10 => out.put(&[b',', b'0' + *number as u8]),
@@ -93,7 +93,7 @@ fn put_value<W: Write>(out: &mut TextWriter<'_, W>, value: &Value)
 /// The cells of a signal with a value, where what that means isn't told.
 fn put_plain_signal<W: Write>(out: &mut TextWriter<'_, W>, signal: u16, value: &Value)
     ensures { (g : ℕ → Value) → value.now ≡ g signal
-        → Grows W.contents out.old out.new (flat_map comma (signal_cells None g signal)) }
+        → Grows W.contents out.old out.new (flat_map after_comma (signal_cells None g signal)) }
 {
     put_value(out, value);
 }
@@ -101,7 +101,7 @@ fn put_plain_signal<W: Write>(out: &mut TextWriter<'_, W>, signal: u16, value: &
 fn put_plain_values<W: Write>(out: &mut TextWriter<'_, W>, cluster: &Cluster, values: &[Value])
     requires { length values.now ≡ length cluster.now.signals }
     ensures { (g : ℕ → Value) → ArePointwise g values.now
-        → Grows W.contents out.old out.new (flat_map comma
+        → Grows W.contents out.old out.new (flat_map after_comma
         (flat_map (signal_cells None g) (numbers (length cluster.now.signals)))) }
 {
     for signal in 0..cluster.signals() as u16 {
@@ -117,11 +117,11 @@ fn put_coded_signal<W: Write>(
     value: &Value,
     kept: &mut KeptCells,
 )
-    requires { IsKept coded.now signal kept.old }
-    ensures kept { IsKept coded.now signal kept.new }
+    requires { AreCellsOf coded.now signal kept.old }
+    ensures kept { AreCellsOf coded.now signal kept.new }
     ensures text { (g : ℕ → Value) → value.now ≡ g signal
         → Grows W.contents out.old out.new
-        (flat_map comma (signal_cells (Some coded.now) g signal)) }
+        (flat_map after_comma (signal_cells (Some coded.now) g signal)) }
 {
     put_value(out, value);
     kept.put(out, coded, signal, value);
@@ -138,7 +138,7 @@ fn put_coded_values<W: Write>(
     requires kept { AreKept coded.now (length cluster.now.signals) kept.old.items }
     ensures kept { AreKept coded.now (length cluster.now.signals) kept.new.items }
     ensures text { (g : ℕ → Value) → ArePointwise g values.now
-        → Grows W.contents out.old out.new (flat_map comma
+        → Grows W.contents out.old out.new (flat_map after_comma
         (flat_map (signal_cells (Some coded.now) g) (numbers (length cluster.now.signals)))) }
 {
     for signal in 0..cluster.signals() as u16 {
@@ -156,11 +156,11 @@ fn put_values<W: Write>(
     kept: &mut Vec<KeptCells>,
 )
     requires values { length values.now ≡ length cluster.now.signals }
-    requires kept { FitKept (told coded) (length cluster.now.signals) kept.old.items }
-    ensures kept { FitKept (told coded.entry) (length cluster.now.signals) kept.new.items }
+    requires kept { FitKept (given_coding coded) (length cluster.now.signals) kept.old.items }
+    ensures kept { FitKept (given_coding coded.entry) (length cluster.now.signals) kept.new.items }
     ensures text { (g : ℕ → Value) → ArePointwise g values.now
-        → Grows W.contents out.old out.new (flat_map comma
-        (flat_map (signal_cells (told coded.entry) g) (numbers (length cluster.now.signals)))) }
+        → Grows W.contents out.old out.new (flat_map after_comma
+        (flat_map (signal_cells (given_coding coded.entry) g) (numbers (length cluster.now.signals)))) }
 {
     match coded {
         Some(coded) => put_coded_values(out, cluster, coded, values, kept),
@@ -176,16 +176,16 @@ fn put_signal_name<W: Write>(
     signal: u16,
 )
     requires { signal < length cluster.now.signals }
-    ensures { Grows W.contents out.old out.new (flat_map comma
-        (signal_names cluster.now (told coded.entry) signal)) }
+    ensures { Grows W.contents out.old out.new (flat_map after_comma
+        (signal_names cluster.now (given_coding coded.entry) signal)) }
 {
     put_next(out, b",", Cell::Text(cluster.signal_name(signal)));
     put_meaning_names(out, cluster, coded, signal);
 }
 
 fn put_signal_names<W: Write>(out: &mut TextWriter<'_, W>, cluster: &Cluster, coded: Option<&Coded>)
-    ensures { Grows W.contents out.old out.new (flat_map comma
-        (flat_map (signal_names cluster.now (told coded.entry))
+    ensures { Grows W.contents out.old out.new (flat_map after_comma
+        (flat_map (signal_names cluster.now (given_coding coded.entry))
         (numbers (length cluster.now.signals)))) }
 {
     for signal in 0..cluster.signals() as u16 {
@@ -196,7 +196,7 @@ fn put_signal_names<W: Write>(out: &mut TextWriter<'_, W>, cluster: &Cluster, co
 /// The names of the columns.
 fn put_head<W: Write>(out: &mut TextWriter<'_, W>, cluster: &Cluster, coded: Option<&Coded>)
     ensures { Grows W.contents out.old out.new
-        (head_line cluster.now (told coded.entry)) }
+        (head_line cluster.now (given_coding coded.entry)) }
 {
     out.put(b"slot,time_us,delay_us,table,entry,kind,frame,header,nodes,seen,data,checksum");
     put_signal_names(out, cluster, coded);
@@ -212,7 +212,7 @@ fn put_schedule<'a, W: Write>(
     slot: &OpenSlot,
 )
     ensures { Grows W.contents out.old out.new
-        (flat_map (marked mark.now) (schedule_cells cluster.now at (slot_in slot.now))) }
+        (flat_map (marked_cell mark.now) (schedule_cells cluster.now at (tracked_slot slot.now))) }
 {
     let line = slot.line(cluster);
     put_cells(
@@ -258,7 +258,7 @@ fn put_nodes<W: Write>(
     cluster: &Cluster,
     puts: &[(u8, Answer)],
 )
-    ensures { Grows W.contents out.old out.new (marked mark.now (nodes_cell cluster.now puts.now)) }
+    ensures { Grows W.contents out.old out.new (marked_cell mark.now (nodes_cell cluster.now puts.now)) }
 {
     out.put(mark);
     if let [first, rest @ ..] = puts {
@@ -268,13 +268,13 @@ fn put_nodes<W: Write>(
 }
 
 /// How a slot was seen, with the response of a good one.
-fn put_response<W: Write>(out: &mut TextWriter<'_, W>, mark: &[u8], look: Look<'_>)
+fn put_response<W: Write>(out: &mut TextWriter<'_, W>, mark: &[u8], look: SeenSlot<'_>)
     ensures { Grows W.contents out.old out.new
-        (flat_map (marked mark.now) (response_cells (looks look.entry))) }
+        (flat_map (marked_cell mark.now) (response_cells (seen_as look.entry))) }
 {
     let seen = Cell::Text(look.kind().word().as_bytes());
     match look {
-        Look::Good(answer) => {
+        SeenSlot::Good(answer) => {
             let bytes = answer.as_slice();
             let count = bytes.len().saturating_sub(1);
             let checksum = Some(byte_at(bytes, count));
@@ -297,7 +297,7 @@ pub(crate) fn put_slot<'a, W: Write>(
     slot: &OpenSlot,
 )
     ensures { Grows W.contents out.old out.new
-        (flat_map (marked mark.now) (slot_cells cluster.now at (slot_in slot.now))) }
+        (flat_map (marked_cell mark.now) (slot_cells cluster.now at (tracked_slot slot.now))) }
 {
     put_schedule(out, mark, cluster, at, slot);
     put_nodes(out, mark, cluster, slot.puts());
@@ -313,7 +313,7 @@ fn put_first_cells<'a, W: Write>(
 )
     ensures { Grows W.contents out.old out.new
         (decimal track.now.slots
-        ++ flat_map comma (slot_cells cluster.now track.now.time (slot_in slot.now))) }
+        ++ flat_map after_comma (slot_cells cluster.now track.now.time (tracked_slot slot.now))) }
 {
     put_cell(out, Cell::Number(track.slots()));
     put_slot(out, b",", cluster, track.time(), slot);
@@ -328,15 +328,15 @@ struct Sheet<'a> {
     kept: Vec<KeptCells>,
 }
 
-impl Format for Sheet<'_> {
-    ghost begins = { λ f c. head_line c (told f.coded) };
+impl EntryFormat for Sheet<'_> {
+    ghost begins = { λ f c. head_line c (given_coding f.coded) };
 
-    ghost says = { λ f c. row c (told f.coded) };
+    ghost says = { λ f c. csv_row c (given_coding f.coded) };
 
     ghost ends = { λ f c past. [] };
 
     ghost fits = { λ f c. (length f.values.items ≡ length c.signals)
-        × FitKept (told f.coded) (length c.signals) f.kept.items };
+        × FitKept (given_coding f.coded) (length c.signals) f.kept.items };
 
     ghost keeps = { λ f c past. ArePointwise (heard_value c past) f.values.items };
 
@@ -389,7 +389,7 @@ pub fn write_csv<W: Write>(
     writer: &mut W,
 ) -> Result<(), ExportFault>
     ensures { WritesText (W.contents writer.old) (W.contents writer.new) result
-        (csv cluster.now (told coded.entry) log.now.entries) }
+        (csv cluster.now (given_coding coded.entry) log.now.entries) }
 {
     let values = initial_values(alloc, cluster)?;
     let kept = kept_cells(alloc, cluster, coded, values.as_slice())?;

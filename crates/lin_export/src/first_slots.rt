@@ -3,11 +3,11 @@
 ghost use Rattle.std.specs.Prelude.{◌∷◌, ◌++◌, ⊤, if◌then◌else◌, nat_lt, [], codes};
 ghost use Rattle.lin_text.specs.Written.{Grows, WritesText};
 ghost use Rattle.lin_export.specs.FirstSlots.{first_row, first_slots, slot_row, table_head};
-ghost use Rattle.lin_export.specs.Open.{slot_in};
+ghost use Rattle.lin_export.specs.Open.{tracked_slot};
 
 use crate::csv::{Cell, put_next, put_slot};
 use crate::fault::ExportFault;
-use crate::format::{Format, write_as};
+use crate::format::{EntryFormat, write_as};
 use crate::slot::OpenSlot;
 use crate::track::Track;
 use lin_core::{Log, LogEntry};
@@ -27,7 +27,7 @@ fn put_row<'a, W: Write>(
     slot: &OpenSlot,
 )
     ensures { Grows W.contents out.old out.new
-        (slot_row cluster.now track.now.slots track.now.time (slot_in slot.now)) }
+        (slot_row cluster.now track.now.slots track.now.time (tracked_slot slot.now)) }
 {
     out.put(b"<tr>");
     put_next(out, b"<td>", Cell::Number(track.slots()));
@@ -44,7 +44,7 @@ fn put_first<W: Write>(
 )
     ensures { Grows W.contents out.old out.new
         (if nat_lt track.now.slots 200
-        then slot_row cluster.now track.now.slots track.now.time (slot_in slot.now)
+        then slot_row cluster.now track.now.slots track.now.time (tracked_slot slot.now)
         else []) }
 {
     if track.slots() < MOST {
@@ -56,7 +56,7 @@ fn put_first<W: Write>(
 #[derive(Drop)]
 struct FirstSlots;
 
-impl Format for FirstSlots {
+impl EntryFormat for FirstSlots {
     ghost begins = { λ f c. table_head };
 
     ghost says = { λ f c. first_row c };

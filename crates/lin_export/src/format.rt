@@ -18,7 +18,7 @@ use std::alloc::{AllocError, Global};
 use std::io::Write;
 
 /// A format: what it keeps of the entries that were read, and what it puts.
-pub(crate) trait Format {
+pub(crate) trait EntryFormat {
     ghost begins: { Self → Parts → List ℕ };
 
     ghost says: { Self → Parts → LogEntry → List LogEntry → List ℕ };
@@ -61,7 +61,7 @@ pub(crate) trait Format {
 
 /// Puts the entries of a log from one on, with the track of those before it, which then is that of
 /// all. The error is that it is out of memory.
-pub(crate) fn put_entries<F: Format, W: Write>(
+pub(crate) fn put_entries<F: EntryFormat, W: Write>(
     format: &mut F,
     out: &mut TextWriter<'_, W>,
     track: &mut Track,
@@ -89,7 +89,7 @@ pub(crate) fn put_entries<F: Format, W: Write>(
 }
 
 /// Puts the entries of a log, and what stands after them. The error is that it is out of memory.
-fn put_all<F: Format, W: Write>(
+fn put_all<F: EntryFormat, W: Write>(
     format: &mut F,
     out: &mut TextWriter<'_, W>,
     alloc: Global,
@@ -118,7 +118,7 @@ fn put_all<F: Format, W: Write>(
 /// - `OutOfMemory`;
 /// - `WriteFailed` at the first error of the writer, an interrupted write too, and at the first
 ///   write of 0 bytes.
-pub(crate) fn write_as<F: Format, W: Write>(
+pub(crate) fn write_as<F: EntryFormat, W: Write>(
     format: &mut F,
     alloc: Global,
     cluster: &Cluster,

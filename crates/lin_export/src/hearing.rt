@@ -4,9 +4,9 @@ ghost use Rattle.std.specs.Prelude.{◌≡◌, ℕ, length};
 ghost use Rattle.std.specs.Option.{unwrap_or};
 ghost use Rattle.lin_frame.specs.declared.value.Value.{Value};
 ghost use Rattle.lin_core.specs.Signals.{ArePointwise, value_in};
-ghost use Rattle.lin_export.specs.Open.{slot_in};
+ghost use Rattle.lin_export.specs.Open.{tracked_slot};
 
-use crate::slot::{Look, OpenSlot};
+use crate::slot::{OpenSlot, SeenSlot};
 use lin_core::hear_frame;
 use lin_frame::Value;
 use lin_parts::Cluster;
@@ -17,9 +17,9 @@ pub(crate) fn hear_slot(heard: &mut Vec<Value>, cluster: &Cluster, slot: &OpenSl
     ensures count { length heard.new.items ≡ length heard.old.items }
     ensures heard { (g : ℕ → Value) → ArePointwise g heard.old.items
         → ArePointwise
-        (λ s. unwrap_or (value_in cluster.now (slot_in slot.now) s) (g s)) heard.new.items }
+        (λ s. unwrap_or (value_in cluster.now (tracked_slot slot.now) s) (g s)) heard.new.items }
 {
-    let Look::Good(answer) = slot.look() else {
+    let SeenSlot::Good(answer) = slot.look() else {
         return;
     };
     let Some(frame) = slot.carried(cluster) else {

@@ -2,9 +2,9 @@
 
 ghost use Rattle.std.specs.Prelude.{◌≡◌, ◌∷◌, ◌==◌, ◌||◌, if◌then◌else◌, [], codes, flat_map, map};
 ghost use Rattle.lin_text.specs.Written.{Grows};
-ghost use Rattle.lin_export.specs.Csv.{comma};
+ghost use Rattle.lin_export.specs.Csv.{after_comma};
 ghost use Rattle.lin_export.specs.ClusterObject.{text_value, truth};
-ghost use Rattle.lin_export.specs.Json.{escaped, escaped_byte, escaped_text, hex_text, member, object_line, quoted};
+ghost use Rattle.lin_export.specs.Json.{escaped_bytes, escaped_byte, escaped_text, hex_text, member, object_line, quoted_text};
 ghost use Rattle.lin_export.specs.Jsonl.{number_member};
 ghost use Rattle.lin_export.specs.Members.{member_shown};
 
@@ -29,7 +29,7 @@ pub(crate) enum Member<'a> {
 
 /// A text between quotes.
 pub(crate) fn put_quoted<W: Write>(out: &mut TextWriter<'_, W>, text: &[u8])
-    ensures { Grows W.contents out.old out.new (quoted text.now) }
+    ensures { Grows W.contents out.old out.new (quoted_text text.now) }
 {
     out.put_byte(b'"');
     out.put(text);
@@ -58,7 +58,7 @@ fn put_escaped_byte<W: Write>(out: &mut TextWriter<'_, W>, byte: u8)
 
 /// The bytes of any text.
 pub(crate) fn put_escaped<W: Write>(out: &mut TextWriter<'_, W>, text: &[u8])
-    ensures { Grows W.contents out.old out.new (escaped text.now) }
+    ensures { Grows W.contents out.old out.new (escaped_bytes text.now) }
 {
     for byte in text {
         put_escaped_byte(out, *byte);
@@ -106,7 +106,7 @@ fn put_hex_text<W: Write>(out: &mut TextWriter<'_, W>, bytes: &[u8])
 
 /// A comma, and a key with its colon.
 pub(crate) fn put_key<W: Write>(out: &mut TextWriter<'_, W>, key: &str)
-    ensures { Grows W.contents out.old out.new (comma (member key.now [])) }
+    ensures { Grows W.contents out.old out.new (after_comma (member key.now [])) }
 {
     out.put(b",\"");
     out.put_text(key);
@@ -115,7 +115,7 @@ pub(crate) fn put_key<W: Write>(out: &mut TextWriter<'_, W>, key: &str)
 
 /// A comma and a member.
 pub(crate) fn put_member<W: Write>(out: &mut TextWriter<'_, W>, one: Member<'_>)
-    ensures { Grows W.contents out.old out.new (comma (member_shown one.entry)) }
+    ensures { Grows W.contents out.old out.new (after_comma (member_shown one.entry)) }
 {
     match one {
         Member::Null(key) => {
@@ -151,7 +151,7 @@ pub(crate) fn put_member<W: Write>(out: &mut TextWriter<'_, W>, one: Member<'_>)
 
 /// Members, each after a comma.
 pub(crate) fn put_members<W: Write>(out: &mut TextWriter<'_, W>, members: &[Member<'_>])
-    ensures { Grows W.contents out.old out.new (flat_map comma (map member_shown members.now)) }
+    ensures { Grows W.contents out.old out.new (flat_map after_comma (map member_shown members.now)) }
 {
     for one in members {
         put_member(out, *one);
@@ -160,7 +160,7 @@ pub(crate) fn put_members<W: Write>(out: &mut TextWriter<'_, W>, members: &[Memb
 
 /// What an object begins with: its first member, a text.
 pub(crate) fn put_first<W: Write>(out: &mut TextWriter<'_, W>, key: &str, text: &[u8])
-    ensures { Grows W.contents out.old out.new (123 ∷ member key.now (quoted text.now)) }
+    ensures { Grows W.contents out.old out.new (123 ∷ member key.now (quoted_text text.now)) }
 {
     out.put(b"{\"");
     out.put_text(key);
@@ -178,7 +178,7 @@ pub(crate) fn put_numbered_first<W: Write>(out: &mut TextWriter<'_, W>, number: 
 
 /// A comma, and the beginning of a member that is a list.
 pub(crate) fn put_list<W: Write>(out: &mut TextWriter<'_, W>, key: &str)
-    ensures { Grows W.contents out.old out.new (comma (member key.now (91 ∷ []))) }
+    ensures { Grows W.contents out.old out.new (after_comma (member key.now (91 ∷ []))) }
 {
     put_key(out, key);
     out.put_byte(b'[');
@@ -186,7 +186,7 @@ pub(crate) fn put_list<W: Write>(out: &mut TextWriter<'_, W>, key: &str)
 
 /// What a line begins with: its type.
 pub(crate) fn put_type<W: Write>(out: &mut TextWriter<'_, W>, kind: &str)
-    ensures { Grows W.contents out.old out.new (123 ∷ member (codes "type") (quoted kind.now)) }
+    ensures { Grows W.contents out.old out.new (123 ∷ member (codes "type") (quoted_text kind.now)) }
 {
     put_first(out, "type", kind.as_bytes());
 }
@@ -207,7 +207,7 @@ pub(crate) fn put_object_line<W: Write>(
 
 /// What stands before a value or a member by its place in a list: a comma, but for the first.
 pub(crate) fn put_separator<W: Write>(out: &mut TextWriter<'_, W>, place: usize)
-    ensures { Grows W.contents out.old out.new (if place == 0 then [] else comma []) }
+    ensures { Grows W.contents out.old out.new (if place == 0 then [] else after_comma []) }
 {
     if place > 0 {
         out.put_byte(b',');

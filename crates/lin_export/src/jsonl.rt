@@ -6,23 +6,23 @@ ghost use Rattle.lin_parts.specs.Cluster.{nodes};
 ghost use Rattle.lin_core.specs.declared.log.LogEntry.{LogEntry};
 ghost use Rattle.lin_frame.specs.Words.{numbers};
 ghost use Rattle.lin_text.specs.Written.{Grows, WritesText};
-ghost use Rattle.lin_export.specs.Csv.{comma};
-ghost use Rattle.lin_export.specs.Json.{joined};
+ghost use Rattle.lin_export.specs.Csv.{after_comma};
+ghost use Rattle.lin_export.specs.Json.{with_commas};
 ghost use Rattle.lin_export.specs.Jsonl.{accepted_line, entry_objects, event_line, jsonl, lost_line};
 ghost use Rattle.lin_export.specs.Jsonl.{message_line, nad_value, node_text, receiver_member};
-ghost use Rattle.lin_export.specs.Jsonl.{refused_line, run_line, sent_line, settled, settled_after};
+ghost use Rattle.lin_export.specs.Jsonl.{refused_line, run_line, sent_line, settled_count, settled_after};
 ghost use Rattle.lin_export.specs.Jsonl.{sending_members, settled_all, step_object, step_text};
 ghost use Rattle.lin_export.specs.Members.{member_shown};
 ghost use Rattle.lin_export.specs.PutsGroups.{AreCounts};
 ghost use Rattle.lin_export.specs.Track.{track_of};
-ghost use Rattle.lin_export.specs.WhereTold.{told};
+ghost use Rattle.lin_export.specs.WhereTold.{given_coding};
 
 use crate::fault::ExportFault;
-use crate::format::{Format, write_as};
+use crate::format::{EntryFormat, write_as};
 use crate::json::{
     Member, put_key, put_member, put_members, put_object_line, put_separator, put_type,
 };
-use crate::naming::{node_name, table_name};
+use crate::slot_names::{node_name, table_name};
 use crate::slot_object::{put_node, put_slot};
 use crate::track::Track;
 use crate::vcd::HOSTS;
@@ -44,7 +44,7 @@ pub struct Opening {
 
 /// When an event happens: the time in microseconds, and how many slots are finished before it.
 #[derive(Clone, Copy)]
-struct Moment {
+struct EventTime {
     at: u64,
     slot: u64,
 }
@@ -52,7 +52,7 @@ struct Moment {
 /// The names of all nodes.
 fn put_all_names<W: Write>(out: &mut TextWriter<'_, W>, cluster: &Cluster)
     ensures { Grows W.contents out.old out.new
-        (joined (map (node_text cluster.now) (numbers (nodes cluster.now)))) }
+        (with_commas (map (node_text cluster.now) (numbers (nodes cluster.now)))) }
 {
     for node in 0..cluster.nodes() {
         put_separator(out, node);
@@ -74,7 +74,7 @@ fn put_nad<W: Write>(out: &mut TextWriter<'_, W>, cluster: &Cluster, node: u8)
 /// The addresses of all nodes.
 fn put_all_nads<W: Write>(out: &mut TextWriter<'_, W>, cluster: &Cluster)
     ensures { Grows W.contents out.old out.new
-        (joined (map (nad_value cluster.now) (numbers (nodes cluster.now)))) }
+        (with_commas (map (nad_value cluster.now) (numbers (nodes cluster.now)))) }
 {
     for node in 0..cluster.nodes() {
         put_separator(out, node);
@@ -119,7 +119,7 @@ fn put_step<W: Write>(
     ensures { (past : List LogEntry) → track.now ≡ track_of cluster.now past
         → (count : ℕ → ℕ) → AreCounts count last.now
         → Grows W.contents out.old out.new
-        (step_object cluster.now (told coded.entry) count past step.now) }
+        (step_object cluster.now (given_coding coded.entry) count past step.now) }
 {
     match step {
         Step::Finish => {
@@ -153,7 +153,7 @@ fn put_sending<'a, W: Write>(
     to: u8,
 )
     ensures { Grows W.contents out.old out.new
-        (flat_map comma (sending_members cluster.now at host number to)) }
+        (flat_map after_comma (sending_members cluster.now at host number to)) }
 {
     put_members(
         out,
@@ -196,7 +196,7 @@ fn put_accepted<W: Write>(
 fn put_arrived<W: Write>(
     out: &mut TextWriter<'_, W>,
     cluster: &Cluster,
-    moment: Moment,
+    moment: EventTime,
     from: u8,
     to: u8,
     bytes: &[u8],
@@ -265,7 +265,7 @@ fn put_event<W: Write>(
     out: &mut TextWriter<'_, W>,
     cluster: &Cluster,
     step: &Step,
-    moment: Moment,
+    moment: EventTime,
     event: &Event,
 )
     ensures { Grows W.contents out.old out.new
@@ -294,7 +294,7 @@ fn put_events<W: Write>(
     out: &mut TextWriter<'_, W>,
     cluster: &Cluster,
     step: &Step,
-    moment: Moment,
+    moment: EventTime,
     events: &[Event],
 )
     ensures { Grows W.contents out.old out.new
@@ -388,16 +388,16 @@ struct Objects<'a> {
     coded: Option<&'a Coded>,
 }
 
-impl Format for Objects<'_> {
+impl EntryFormat for Objects<'_> {
     ghost begins = { λ f c. run_line c f.opening.table f.opening.capacity };
 
-    ghost says = { λ f c. entry_objects c (told f.coded) };
+    ghost says = { λ f c. entry_objects c (given_coding f.coded) };
 
     ghost ends = { λ f c past. [] };
 
     ghost fits = { λ f c. ⊤ };
 
-    ghost keeps = { λ f c past. AreCounts (settled past) f.last };
+    ghost keeps = { λ f c past. AreCounts (settled_count past) f.last };
 
     fn put_head<W: Write>(&self, out: &mut TextWriter<'_, W>, cluster: &Cluster) {
         put_run(out, cluster, self.opening);
@@ -412,7 +412,7 @@ impl Format for Objects<'_> {
     ) {
         match &entry.reply {
             Reply::Done(events) => {
-                let moment = Moment {
+                let moment = EventTime {
                     at: track.time_behind(cluster, entry),
                     slot: track.slots(),
                 };
@@ -457,7 +457,7 @@ pub fn write_jsonl<W: Write>(
     writer: &mut W,
 ) -> Result<(), ExportFault>
     ensures { WritesText (W.contents writer.old) (W.contents writer.new) result
-        (jsonl cluster.now (told coded.entry) opening.table opening.capacity
+        (jsonl cluster.now (given_coding coded.entry) opening.table opening.capacity
         log.now.entries) }
 {
     let mut objects = Objects {

@@ -4,10 +4,10 @@
 ghost use Rattle.std.specs.Prelude.{◌≡◌, ◌<◌, flat_map, length, true, IfOk};
 ghost use Rattle.std.specs.Fmt.{decimal};
 ghost use Rattle.lin_text.specs.Written.{Grows};
-ghost use Rattle.lin_export.specs.Csv.{comma, meaning_cell, meaning_cells, text_cell};
-ghost use Rattle.lin_export.specs.KeptCells.{AreKept, FitKept, IsKept};
-ghost use Rattle.lin_export.specs.ShortTexts.{Adds, IsText};
-ghost use Rattle.lin_export.specs.WhereTold.{told};
+ghost use Rattle.lin_export.specs.Csv.{after_comma, meaning_cell, meaning_cells, text_cell};
+ghost use Rattle.lin_export.specs.KeptCells.{AreKept, FitKept, AreCellsOf};
+ghost use Rattle.lin_export.specs.ShortTexts.{AddsText, HoldsText};
+ghost use Rattle.lin_export.specs.WhereTold.{given_coding};
 ghost use Rattle.lin_values.specs.Meaning.{meant};
 ghost use Rattle.lin_values.specs.Shown.{plain_shown};
 
@@ -29,7 +29,7 @@ pub(crate) struct KeptCells {
 
 /// A text as a cell; one that needs quotes isn't kept.
 fn add_text(text: &mut ShortText, cell: &[u8])
-    ensures { Adds text.old text.new (text_cell cell.now) }
+    ensures { AddsText text.old text.new (text_cell cell.now) }
 {
     if needs_quotes(cell) {
         text.give_up();
@@ -40,14 +40,14 @@ fn add_text(text: &mut ShortText, cell: &[u8])
 
 /// A number as a cell.
 fn add_number(text: &mut ShortText, number: u16)
-    ensures { Adds text.old text.new (text_cell (decimal number)) }
+    ensures { AddsText text.old text.new (text_cell (decimal number)) }
 {
     text.put_number(number);
 }
 
 /// A meaning as a cell.
 fn add_meaning(text: &mut ShortText, meaning: &Meaning<'_>)
-    ensures { Adds text.old text.new (text_cell (plain_shown (meant meaning.now))) }
+    ensures { AddsText text.old text.new (text_cell (plain_shown (meant meaning.now))) }
 {
     match meaning {
         Meaning::Named(name) => add_text(text, name),
@@ -59,7 +59,7 @@ fn add_meaning(text: &mut ShortText, meaning: &Meaning<'_>)
 }
 
 fn add_meaning_cell(text: &mut ShortText, coded: &Coded, signal: u16, value: &Value)
-    ensures { Adds text.old text.new (meaning_cell coded.now signal value.now) }
+    ensures { AddsText text.old text.new (meaning_cell coded.now signal value.now) }
 {
     if let Some(meaning) = coded.meaning(signal, value) {
         add_meaning(text, &meaning);
@@ -68,7 +68,7 @@ fn add_meaning_cell(text: &mut ShortText, coded: &Coded, signal: u16, value: &Va
 
 /// The cells of what a value means, each behind a comma: one, where the signal has an encoding.
 fn cells_of(coded: &Coded, signal: u16, value: &Value) -> ShortText
-    ensures { IsText result (flat_map comma (meaning_cells coded.now signal value.now)) }
+    ensures { HoldsText result (flat_map after_comma (meaning_cells coded.now signal value.now)) }
 {
     let mut text = ShortText::new();
     if let Some(_encoding) = coded.encoding_of(signal) {
@@ -93,7 +93,7 @@ impl KeptCells {
     /// A value, and its cells.
     fn new(coded: &Coded, signal: u16, value: &Value) -> KeptCells
         ensures value { result.value ≡ value.now }
-        ensures cells { IsKept coded.now signal result }
+        ensures cells { AreCellsOf coded.now signal result }
     {
         KeptCells {
             value: *value,
@@ -103,9 +103,9 @@ impl KeptCells {
 
     /// Keeps the cells of a value.
     fn keep(&mut self, coded: &Coded, signal: u16, value: &Value)
-        requires { IsKept coded.now signal self.old }
+        requires { AreCellsOf coded.now signal self.old }
         ensures value { self.new.value ≡ value.now }
-        ensures cells { IsKept coded.now signal self.new }
+        ensures cells { AreCellsOf coded.now signal self.new }
     {
         if !is_same(&self.value, value) {
             *self = KeptCells::new(coded, signal, value);
@@ -120,10 +120,10 @@ impl KeptCells {
         signal: u16,
         value: &Value,
     )
-        requires { IsKept coded.now signal self.old }
+        requires { AreCellsOf coded.now signal self.old }
         ensures text { Grows W.contents out.old out.new
-            (flat_map comma (meaning_cells coded.now signal value.now)) }
-        ensures kept { IsKept coded.now signal self.new }
+            (flat_map after_comma (meaning_cells coded.now signal value.now)) }
+        ensures kept { AreCellsOf coded.now signal self.new }
     {
         self.keep(coded, signal, value);
         match self.text.whole() {
@@ -162,7 +162,7 @@ pub(crate) fn kept_cells(
     values: &[Value],
 ) -> Result<Vec<KeptCells>, AllocError>
     requires { length values.now ≡ length cluster.now.signals }
-    ensures { IfOk result (λ kept. FitKept (told coded.entry) (length cluster.now.signals) kept.items) }
+    ensures { IfOk result (λ kept. FitKept (given_coding coded.entry) (length cluster.now.signals) kept.items) }
 {
     match coded {
         Some(coded) => all_cells(alloc, cluster, coded, values),

@@ -21,7 +21,6 @@
 //! ```
 #![tactic(auto)]
 
-mod carried;
 mod changes;
 mod csv;
 mod fault;
@@ -34,15 +33,16 @@ mod kept_cells;
 mod law;
 mod listing;
 mod meaning_cells;
-mod meanings;
 mod named;
 mod named_values;
-mod naming;
 mod object;
 mod pcap;
 mod short_text;
 mod slot;
+mod slot_meanings;
+mod slot_names;
 mod slot_object;
+mod slot_purpose;
 mod track;
 mod variables;
 mod vcd;

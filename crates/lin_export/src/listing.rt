@@ -15,14 +15,14 @@ use std::io::Write;
 pub(crate) mod frames;
 mod maps;
 mod signals;
-pub(crate) mod slots;
+pub(crate) mod slot_times;
 mod timing;
 mod timings;
 
 pub use frames::write_frames;
 pub use maps::write_maps;
 pub use signals::write_signals;
-pub use slots::write_slots;
+pub use slot_times::write_slots;
 pub use timing::write_timing;
 pub use timings::{FrameTiming, Latency, TableTiming, table_timings};
 

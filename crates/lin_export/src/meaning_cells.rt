@@ -3,9 +3,9 @@
 ghost use Rattle.std.specs.Prelude.{◌≡◌, ◌<◌, ◌++◌, ◌||◌, codes, flat_map, length};
 ghost use Rattle.std.specs.Fmt.{decimal};
 ghost use Rattle.lin_text.specs.Written.{Grows};
-ghost use Rattle.lin_export.specs.Csv.{comma, doubled, meaning_cell, meaning_cells, meaning_name};
+ghost use Rattle.lin_export.specs.Csv.{after_comma, doubled_quote, meaning_cell, meaning_cells, meaning_name};
 ghost use Rattle.lin_export.specs.Csv.{meaning_names, needs_quotes, text_cell};
-ghost use Rattle.lin_export.specs.WhereTold.{told, where_told};
+ghost use Rattle.lin_export.specs.WhereTold.{given_coding, where_told};
 ghost use Rattle.lin_values.specs.Meaning.{meant};
 ghost use Rattle.lin_values.specs.Shown.{plain_shown};
 
@@ -23,7 +23,7 @@ pub(crate) fn needs_quotes(text: &[u8]) -> bool
 
 /// A byte between quotes.
 fn put_doubled_byte<W: Write>(out: &mut TextWriter<'_, W>, byte: u8)
-    ensures { Grows W.contents out.old out.new (doubled byte) }
+    ensures { Grows W.contents out.old out.new (doubled_quote byte) }
 {
     if byte == b'"' {
         out.put_byte(b'"');
@@ -33,7 +33,7 @@ fn put_doubled_byte<W: Write>(out: &mut TextWriter<'_, W>, byte: u8)
 
 /// A text between quotes, its own doubled.
 fn put_doubled<W: Write>(out: &mut TextWriter<'_, W>, text: &[u8])
-    ensures { Grows W.contents out.old out.new (flat_map doubled text.now) }
+    ensures { Grows W.contents out.old out.new (flat_map doubled_quote text.now) }
 {
     for byte in text {
         put_doubled_byte(out, *byte);
@@ -94,7 +94,7 @@ pub(crate) fn put_coded_cells<W: Write>(
     value: &Value,
 )
     ensures { Grows W.contents out.old out.new
-        (flat_map comma (meaning_cells coded.now signal value.now)) }
+        (flat_map after_comma (meaning_cells coded.now signal value.now)) }
 {
     if let Some(_encoding) = coded.encoding_of(signal) {
         out.put_byte(b',');
@@ -168,7 +168,7 @@ fn put_coded_names<W: Write>(
 )
     requires { signal < length cluster.now.signals }
     ensures { Grows W.contents out.old out.new
-        (flat_map comma (meaning_names cluster.now coded.now signal)) }
+        (flat_map after_comma (meaning_names cluster.now coded.now signal)) }
 {
     if let Some(_encoding) = coded.encoding_of(signal) {
         out.put_byte(b',');
@@ -184,8 +184,8 @@ pub(crate) fn put_meaning_names<W: Write>(
     signal: u16,
 )
     requires { signal < length cluster.now.signals }
-    ensures { Grows W.contents out.old out.new (flat_map comma
-        (where_told (told coded.entry) (λ d. meaning_names cluster.now d signal))) }
+    ensures { Grows W.contents out.old out.new (flat_map after_comma
+        (where_told (given_coding coded.entry) (λ d. meaning_names cluster.now d signal))) }
 {
     if let Some(coded) = coded {
         put_coded_names(out, cluster, coded, signal);

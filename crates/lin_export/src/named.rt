@@ -10,21 +10,21 @@ ghost use Rattle.lin_core.specs.Tables.{refusal_number, refusal_word};
 ghost use Rattle.lin_log.specs.Shown.{word_shown};
 ghost use Rattle.lin_log.specs.Words.{reply_line, spaced_word};
 ghost use Rattle.lin_text.specs.Written.{Grows, WritesText};
-ghost use Rattle.lin_export.specs.Named.{behind, control_words, frame_words, good_words};
+ghost use Rattle.lin_export.specs.Named.{words_after_event, control_words, frame_words, good_words};
 ghost use Rattle.lin_export.specs.Named.{named_entries, named_event, named_log, signal_words, slot_names};
-ghost use Rattle.lin_export.specs.Named.{request_words, sporadic_frame, time_words, transport};
+ghost use Rattle.lin_export.specs.Named.{request_words, sporadic_frame_under, time_words, transport};
 ghost use Rattle.lin_export.specs.Named.{transport_words};
 ghost use Rattle.lin_export.specs.Named.{who_word};
 ghost use Rattle.lin_export.specs.NamedWords.{event_text, line_or_none, named_entry};
-ghost use Rattle.lin_export.specs.Open.{slot_in};
+ghost use Rattle.lin_export.specs.Open.{tracked_slot};
 ghost use Rattle.lin_export.specs.Track.{track_of};
-ghost use Rattle.lin_export.specs.WhereTold.{told};
+ghost use Rattle.lin_export.specs.WhereTold.{given_coding};
 
 use crate::fault::ExportFault;
-use crate::format::{Format, put_entries, write_as};
+use crate::format::{EntryFormat, put_entries, write_as};
 use crate::named_values::{put_seen, put_written};
-use crate::naming::node_name;
 use crate::slot::{OpenSlot, byte_at};
+use crate::slot_names::node_name;
 use crate::track::Track;
 use lin_core::{Event, Listed, Log, LogEntry, Refusal, Reply, Seen, Step, frame_under, node_with};
 use lin_frame::{Answer, unpack};
@@ -45,7 +45,7 @@ fn put_reply<W: Write>(out: &mut TextWriter<'_, W>, words: &[Word<'_>])
 /// The frame of a sporadic entry with a header.
 fn sporadic_frame(cluster: &Cluster, entry: Entry, header: Option<u8>) -> Option<u16>
     requires { IsEntry cluster.now entry }
-    ensures { result ≡ sporadic_frame cluster.now entry header }
+    ensures { result ≡ sporadic_frame_under cluster.now entry header }
 {
     cluster.sound();
     let Entry::Sporadic(sporadic) = entry else {
@@ -212,7 +212,7 @@ fn put_good<W: Write>(
     answer: &Answer,
 )
     ensures { Grows W.contents out.old out.new
-        (line_or_none (good_words cluster.now answer.now (slot_in slot.now))) }
+        (line_or_none (good_words cluster.now answer.now (tracked_slot slot.now))) }
 {
     match slot.frame(cluster) {
         Some(frame) => put_frame(out, cluster, frame, answer),
@@ -228,7 +228,7 @@ fn put_behind<W: Write>(
     event: &Event,
 )
     ensures { Grows W.contents out.old out.new
-        (line_or_none (behind cluster.now (option_map slot_in slot.now) event.now)) }
+        (line_or_none (words_after_event cluster.now (option_map tracked_slot slot.now) event.now)) }
 {
     if let Event::Seen(Seen::Good(answer)) = event
         && let Some(slot) = slot
@@ -245,8 +245,8 @@ fn put_lines<W: Write>(
     event: &Event,
 )
     ensures { Grows W.contents out.old out.new
-        (event_text cluster.now (told coded.entry)
-        (option_map slot_in slot.now) event.now) }
+        (event_text cluster.now (given_coding coded.entry)
+        (option_map tracked_slot slot.now) event.now) }
 {
     put_event(out, cluster, event);
     put_behind(out, cluster, slot, event);
@@ -262,8 +262,8 @@ fn put_events<W: Write>(
 )
     ensures { Grows W.contents out.old out.new
         (flat_map
-        (event_text cluster.now (told coded.entry)
-        (option_map slot_in slot.now)) events.now) }
+        (event_text cluster.now (given_coding coded.entry)
+        (option_map tracked_slot slot.now)) events.now) }
 {
     for event in events {
         put_lines(out, cluster, coded, slot, event);
@@ -301,10 +301,10 @@ struct NamedLog<'a> {
     coded: Option<&'a Coded>,
 }
 
-impl Format for NamedLog<'_> {
+impl EntryFormat for NamedLog<'_> {
     ghost begins = { λ f c. [] };
 
-    ghost says = { λ f c. named_entry c (told f.coded) };
+    ghost says = { λ f c. named_entry c (given_coding f.coded) };
 
     ghost ends = { λ f c past. [] };
 
@@ -355,7 +355,7 @@ pub fn write_named<W: Write>(
     writer: &mut W,
 ) -> Result<(), ExportFault>
     ensures { WritesText (W.contents writer.old) (W.contents writer.new) result
-        (named_log cluster.now (told coded.entry) log.now.entries) }
+        (named_log cluster.now (given_coding coded.entry) log.now.entries) }
 {
     write_as(&mut NamedLog { coded }, alloc, cluster, log, writer)
 }
@@ -372,7 +372,7 @@ fn write_entries<W: Write>(
 ) -> Result<(), ExportFault>
     requires { track.old ≡ track_of cluster.now (reverse (take from log.now.entries)) }
     ensures text { WritesText (W.contents writer.old) (W.contents writer.new) result
-        (named_entries cluster.now (told coded.entry)
+        (named_entries cluster.now (given_coding coded.entry)
         (reverse (take from log.now.entries)) (drop from log.now.entries)) }
     ensures track { OnOk result (track.new ≡ track_of cluster.now (reverse log.now.entries)) }
 {
@@ -399,7 +399,7 @@ pub fn named_text(
 ) -> Result<Vec<u8>, AllocError>
     requires { track.old ≡ track_of cluster.now (reverse (take from log.now.entries)) }
     ensures text { IfOk result (λ text. text.items
-        ≡ named_entries cluster.now (told coded.entry)
+        ≡ named_entries cluster.now (given_coding coded.entry)
         (reverse (take from log.now.entries)) (drop from log.now.entries)) }
     ensures track { OnOk result (track.new ≡ track_of cluster.now (reverse log.now.entries)) }
 {

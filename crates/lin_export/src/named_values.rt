@@ -5,8 +5,8 @@ ghost use Rattle.lin_log.specs.Words.{reply_line};
 ghost use Rattle.lin_text.specs.Written.{Grows};
 ghost use Rattle.lin_export.specs.Named.{frame_values, seen_values, slot_values, value_lines};
 ghost use Rattle.lin_export.specs.Named.{written_values};
-ghost use Rattle.lin_export.specs.Open.{slot_in};
-ghost use Rattle.lin_export.specs.WhereTold.{told, where_told};
+ghost use Rattle.lin_export.specs.Open.{tracked_slot};
+ghost use Rattle.lin_export.specs.WhereTold.{given_coding, where_told};
 
 use crate::slot::OpenSlot;
 use lin_core::{Event, Seen, Step};
@@ -68,7 +68,7 @@ fn put_slot_values<W: Write>(
     answer: &Answer,
 )
     ensures { Grows W.contents out.old out.new (flat_map reply_line
-        (slot_values cluster.now coded.now answer.now (slot_in slot.now))) }
+        (slot_values cluster.now coded.now answer.now (tracked_slot slot.now))) }
 {
     if let Some(frame) = slot.frame(cluster) {
         put_frame_values(out, cluster, coded, frame, answer);
@@ -84,7 +84,7 @@ fn put_event_values<W: Write>(
     event: &Event,
 )
     ensures { Grows W.contents out.old out.new (flat_map reply_line
-        (seen_values cluster.now coded.now (option_map slot_in slot.now) event.now)) }
+        (seen_values cluster.now coded.now (option_map tracked_slot slot.now) event.now)) }
 {
     if let Event::Seen(Seen::Good(answer)) = event
         && let Some(slot) = slot
@@ -102,8 +102,8 @@ pub(crate) fn put_seen<W: Write>(
     event: &Event,
 )
     ensures { Grows W.contents out.old out.new (flat_map reply_line
-        (where_told (told coded.entry)
-        (λ d. seen_values cluster.now d (option_map slot_in slot.now) event.now))) }
+        (where_told (given_coding coded.entry)
+        (λ d. seen_values cluster.now d (option_map tracked_slot slot.now) event.now))) }
 {
     if let Some(coded) = coded {
         put_event_values(out, cluster, coded, slot, event);
@@ -139,7 +139,7 @@ pub(crate) fn put_written<W: Write>(
     step: &Step,
 )
     ensures { Grows W.contents out.old out.new (flat_map reply_line
-        (where_told (told coded.entry)
+        (where_told (given_coding coded.entry)
         (λ d. written_values cluster.now d step.now))) }
 {
     if let Some(coded) = coded {

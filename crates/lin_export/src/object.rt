@@ -4,7 +4,7 @@ ghost use Rattle.std.specs.Prelude.{flat_map, map, option_map};
 ghost use Rattle.std.specs.Option.{option_map_or};
 ghost use Rattle.lin_text.specs.Written.{Grows, WritesText};
 ghost use Rattle.lin_export.specs.CheckObject.{check_object, cluster_members, empty_members, header_value};
-ghost use Rattle.lin_export.specs.Csv.{comma};
+ghost use Rattle.lin_export.specs.Csv.{after_comma};
 ghost use Rattle.lin_export.specs.Found.{found_data, problem_data};
 
 use crate::json::{Member, put_key, put_members, put_text_value};
@@ -23,7 +23,7 @@ use std::io::Write;
 mod encodings;
 mod frames;
 mod nodes;
-mod places;
+mod positions;
 pub mod problems;
 mod signals;
 mod tables;
@@ -63,7 +63,7 @@ fn put_header<W: Write>(out: &mut TextWriter<'_, W>, found: &Found<'_>)
 /// What an LDF describes.
 fn put_found<W: Write>(out: &mut TextWriter<'_, W>, found: &Found<'_>)
     ensures { Grows W.contents out.old out.new
-        (flat_map comma (cluster_members (found_data found.now))) }
+        (flat_map after_comma (cluster_members (found_data found.now))) }
 {
     let cluster = found.cluster;
     let description = found.description;
@@ -79,7 +79,7 @@ fn put_found<W: Write>(out: &mut TextWriter<'_, W>, found: &Found<'_>)
 
 /// The members of an LDF that describes no cluster.
 fn put_nothing<W: Write>(out: &mut TextWriter<'_, W>)
-    ensures { Grows W.contents out.old out.new (flat_map comma empty_members) }
+    ensures { Grows W.contents out.old out.new (flat_map after_comma empty_members) }
 {
     out.put(
         b",\"header\":null,\"nodes\":[],\"signals\":[],\"frames\":[],\"sporadic\":[],\"event\":[],\"tables\":[]",
@@ -88,7 +88,7 @@ fn put_nothing<W: Write>(out: &mut TextWriter<'_, W>)
 
 /// What an LDF describes, if it describes a cluster.
 fn put_if_found<W: Write>(out: &mut TextWriter<'_, W>, found: Option<&Found<'_>>)
-    ensures { Grows W.contents out.old out.new (flat_map comma
+    ensures { Grows W.contents out.old out.new (flat_map after_comma
         (option_map_or cluster_members (option_map (λ f. found_data f.now) found.entry)
         empty_members)) }
 {

@@ -2,15 +2,15 @@
 
 ghost use Rattle.std.specs.Prelude.{◌≡◌, ◌≤◌, ◌<◌, ◌^◌, ⊤, [], length};
 ghost use Rattle.lin_text.specs.Written.{Grows, WritesText};
-ghost use Rattle.lin_export.specs.Look.{looks};
-ghost use Rattle.lin_export.specs.Open.{slot_in};
+ghost use Rattle.lin_export.specs.Look.{seen_as};
+ghost use Rattle.lin_export.specs.Open.{tracked_slot};
 ghost use Rattle.lin_export.specs.Pcap.{bus_event, file_header, finish_packets, frame_body};
 ghost use Rattle.lin_export.specs.Pcap.{model_number, packet, packets, pcap, seen_packet};
-ghost use Rattle.lin_export.specs.Pcap.{slot_packet, word};
+ghost use Rattle.lin_export.specs.Pcap.{slot_packet, word_bytes};
 
 use crate::fault::ExportFault;
-use crate::format::{Format, write_as};
-use crate::slot::{Look, OpenSlot, byte_at};
+use crate::format::{EntryFormat, write_as};
+use crate::slot::{OpenSlot, SeenSlot, byte_at};
 use crate::track::Track;
 use arrayvec::ArrayVec;
 use lin_core::{Log, LogEntry, Reply, Step, model_under};
@@ -34,7 +34,7 @@ const WAKES: u8 = 4;
 
 /// The low 32 bits of a number, the lowest byte first.
 fn word(number: u64) -> [u8; 4]
-    ensures { result ≡ word number }
+    ensures { result ≡ word_bytes number }
 {
     [
         (number % 256) as u8,
@@ -121,22 +121,22 @@ fn put_seen<W: Write>(
     at: u64,
     model: SumKind,
     header: u8,
-    look: Look<'_>,
+    look: SeenSlot<'_>,
 )
-    ensures { Grows W.contents out.old out.new (seen_packet at model header (looks look.entry)) }
+    ensures { Grows W.contents out.old out.new (seen_packet at model header (seen_as look.entry)) }
 {
     let body = match look {
-        Look::Silent => return,
-        Look::NoAnswer => frame_body(model, header, &[], NO_RESPONSE),
-        Look::Good(answer) => frame_body(model, header, answer.as_slice(), 0),
-        Look::Damaged => frame_body(model, header, &[], BAD_CHECKSUM),
-        Look::Collided => frame_body(model, header, &[], FRAMING),
+        SeenSlot::Silent => return,
+        SeenSlot::NoAnswer => frame_body(model, header, &[], NO_RESPONSE),
+        SeenSlot::Good(answer) => frame_body(model, header, answer.as_slice(), 0),
+        SeenSlot::Damaged => frame_body(model, header, &[], BAD_CHECKSUM),
+        SeenSlot::Collided => frame_body(model, header, &[], FRAMING),
     };
     put_packet(out, at, body.as_slice());
 }
 
 fn put_slot<W: Write>(out: &mut TextWriter<'_, W>, at: u64, cluster: &Cluster, slot: &OpenSlot)
-    ensures { Grows W.contents out.old out.new (slot_packet cluster.now at (slot_in slot.now)) }
+    ensures { Grows W.contents out.old out.new (slot_packet cluster.now at (tracked_slot slot.now)) }
 {
     let Some(header) = slot.header() else {
         return;
@@ -148,7 +148,7 @@ fn put_slot<W: Write>(out: &mut TextWriter<'_, W>, at: u64, cluster: &Cluster, s
 /// A slot that begins at a time, and its end where it puts the cluster to sleep.
 fn put_finish<W: Write>(out: &mut TextWriter<'_, W>, at: u64, cluster: &Cluster, slot: &OpenSlot)
     requires { at < 2 ^ 63 }
-    ensures { Grows W.contents out.old out.new (finish_packets cluster.now at (slot_in slot.now)) }
+    ensures { Grows W.contents out.old out.new (finish_packets cluster.now at (tracked_slot slot.now)) }
 {
     put_slot(out, at, cluster, slot);
     if !slot.is_sleep() {
@@ -162,7 +162,7 @@ fn put_finish<W: Write>(out: &mut TextWriter<'_, W>, at: u64, cluster: &Cluster,
 #[derive(Drop)]
 struct Capture;
 
-impl Format for Capture {
+impl EntryFormat for Capture {
     ghost begins = { λ f c. file_header };
 
     ghost says = { λ f c. packets c };

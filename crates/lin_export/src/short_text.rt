@@ -1,7 +1,7 @@
 //! Texts of a few bytes, put like those that are written.
 
 ghost use Rattle.std.specs.Prelude.{◌≡◌, ◌∷◌, ◌<◌, ◌≤◌, ◌^◌, [], ℕ, List, IfSome};
-ghost use Rattle.lin_export.specs.ShortTexts.{Adds, IsText};
+ghost use Rattle.lin_export.specs.ShortTexts.{AddsText, HoldsText};
 ghost use Rattle.lin_values.specs.Shown.{decimal_shown, fraction, last_digits};
 
 use arrayvec::ArrayVec;
@@ -21,7 +21,7 @@ pub(crate) struct ShortText {
 impl ShortText {
     /// Nothing was put.
     pub(crate) fn new() -> ShortText
-        ensures { IsText result [] }
+        ensures { HoldsText result [] }
     {
         ShortText {
             bytes: ArrayVec::new(),
@@ -31,7 +31,7 @@ impl ShortText {
 
     /// The text, where it is short.
     pub(crate) fn whole(&self) -> Option<&[u8]>
-        ensures { (text : List ℕ) → IsText self.now text → IfSome result (λ t. t.now ≡ text) }
+        ensures { (text : List ℕ) → HoldsText self.now text → IfSome result (λ t. t.now ≡ text) }
     {
         if self.is_whole {
             return Some(self.bytes.as_slice());
@@ -41,13 +41,13 @@ impl ShortText {
 
     /// A text that isn't kept is put: the whole isn't either.
     pub(crate) fn give_up(&mut self)
-        ensures { (bytes : List ℕ) → Adds self.old self.new bytes }
+        ensures { (bytes : List ℕ) → AddsText self.old self.new bytes }
     {
         self.is_whole = false;
     }
 
     pub(crate) fn put_byte(&mut self, byte: u8)
-        ensures { Adds self.old self.new (byte ∷ []) }
+        ensures { AddsText self.old self.new (byte ∷ []) }
     {
         if self.bytes.try_push(byte).is_err() {
             self.is_whole = false;
@@ -55,7 +55,7 @@ impl ShortText {
     }
 
     pub(crate) fn put(&mut self, bytes: &[u8])
-        ensures { Adds self.old self.new bytes.now }
+        ensures { AddsText self.old self.new bytes.now }
     {
         if self.bytes.try_extend_from_slice(bytes).is_err() {
             self.is_whole = false;
@@ -64,7 +64,7 @@ impl ShortText {
 
     /// Puts an integer in decimal digits.
     pub(crate) fn put_number<N: Integer>(&mut self, number: N)
-        ensures { Adds self.old self.new (N.text number) }
+        ensures { AddsText self.old self.new (N.text number) }
     {
         let mut digits = itoa::Buffer::new();
         self.put(digits.format(number).as_bytes());
@@ -74,7 +74,7 @@ impl ShortText {
     fn put_last_digits(&mut self, number: u128, count: u8)
         requires few { count ≤ 24 }
         requires fits { number < 10 ^ count }
-        ensures { Adds self.old self.new (last_digits count number) }
+        ensures { AddsText self.old self.new (last_digits count number) }
     {
         let mut rest = number;
         let mut left = count;
@@ -89,7 +89,7 @@ impl ShortText {
     fn put_fraction(&mut self, number: u128, places: u8)
         requires few { places ≤ 24 }
         requires fits { number < 10 ^ places }
-        ensures { Adds self.old self.new (fraction places number) }
+        ensures { AddsText self.old self.new (fraction places number) }
     {
         if places > 0 {
             self.put_byte(b'.');
@@ -100,7 +100,7 @@ impl ShortText {
     /// Puts the shortest text of a decimal.
     pub(crate) fn put_decimal(&mut self, d: Decimal)
         requires { d.places ≤ 24 }
-        ensures { Adds self.old self.new (decimal_shown d) }
+        ensures { AddsText self.old self.new (decimal_shown d) }
     {
         if d.negative {
             self.put_byte(b'-');

@@ -7,12 +7,12 @@ ghost use Rattle.lin_core.specs.History.{good, slot_after_hurt, is_sleep_slot, n
 ghost use Rattle.lin_core.specs.History.{slot_after_event, slot_after_events};
 ghost use Rattle.lin_core.specs.Signals.{carried_frame};
 ghost use Rattle.lin_core.specs.Tables.{look_of};
-ghost use Rattle.lin_export.specs.Look.{looks};
-ghost use Rattle.lin_export.specs.Open.{slot_in};
+ghost use Rattle.lin_export.specs.Look.{seen_as};
+ghost use Rattle.lin_export.specs.Open.{tracked_slot};
 ghost use Rattle.lin_export.specs.Shown.{slot_frame};
 ghost use Rattle.lin_export.specs.Track.{shown_slot};
 
-use crate::carried::frame_put;
+use crate::slot_purpose::frame_put;
 use lin_core::{Event, frame_under};
 use lin_frame::Answer;
 use lin_parts::{Cluster, Entry, Line};
@@ -43,7 +43,7 @@ pub(crate) fn byte_at(bytes: &[u8], index: usize) -> u8
 
 /// How the nodes see a slot when it ends.
 #[derive(Clone, Copy)]
-pub(crate) enum Look<'a> {
+pub(crate) enum SeenSlot<'a> {
     Silent,
     NoAnswer,
     Good(&'a Answer),
@@ -51,17 +51,17 @@ pub(crate) enum Look<'a> {
     Collided,
 }
 
-impl Look<'_> {
+impl SeenSlot<'_> {
     /// How the slot is seen, whatever bytes it carries.
     pub(crate) fn kind(self) -> lin_core::Look
-        ensures { result ≡ look_of (looks self.entry) }
+        ensures { result ≡ look_of (seen_as self.entry) }
     {
         match self {
-            Look::Silent => lin_core::Look::Silent,
-            Look::NoAnswer => lin_core::Look::NoAnswer,
-            Look::Good(_) => lin_core::Look::Good,
-            Look::Damaged => lin_core::Look::Damaged,
-            Look::Collided => lin_core::Look::Collided,
+            SeenSlot::Silent => lin_core::Look::Silent,
+            SeenSlot::NoAnswer => lin_core::Look::NoAnswer,
+            SeenSlot::Good(_) => lin_core::Look::Good,
+            SeenSlot::Damaged => lin_core::Look::Damaged,
+            SeenSlot::Collided => lin_core::Look::Collided,
         }
     }
 }
@@ -69,7 +69,7 @@ impl Look<'_> {
 impl OpenSlot {
     /// A slot of which nothing is told yet.
     pub(crate) fn new(alloc: Global) -> OpenSlot
-        ensures { slot_in result ≡ no_slot }
+        ensures { tracked_slot result ≡ no_slot }
     {
         OpenSlot {
             table: 0,
@@ -85,7 +85,7 @@ impl OpenSlot {
     /// An event tells something of the slot. An error means out of memory.
     fn tell(&mut self, event: &Event) -> Result<(), AllocError>
         ensures { OnOk result
-            (slot_in self.new ≡ shown_slot (slot_after_event event.now (slot_in self.old))) }
+            (tracked_slot self.new ≡ shown_slot (slot_after_event event.now (tracked_slot self.old))) }
     {
         match event {
             Event::Slot {
@@ -108,7 +108,7 @@ impl OpenSlot {
     /// The events of a step tell something of the slot. An error means out of memory.
     pub(crate) fn tell_all(&mut self, events: &[Event]) -> Result<(), AllocError>
         ensures { OnOk result
-            (slot_in self.new ≡ shown_slot (slot_after_events events.now (slot_in self.old))) }
+            (tracked_slot self.new ≡ shown_slot (slot_after_events events.now (tracked_slot self.old))) }
     {
         for event in events {
             self.tell(event)?;
@@ -118,7 +118,7 @@ impl OpenSlot {
 
     /// The response is disturbed.
     pub(crate) fn hurt(&mut self)
-        ensures { slot_in self.new ≡ slot_after_hurt (slot_in self.old) }
+        ensures { tracked_slot self.new ≡ slot_after_hurt (tracked_slot self.old) }
     {
         self.hurt = true;
     }
@@ -153,14 +153,14 @@ impl OpenSlot {
 
     /// The nodes that are due, in order.
     pub(crate) fn due(&self) -> &[u8]
-        ensures { result.now ≡ (slot_in self.now).due }
+        ensures { result.now ≡ (tracked_slot self.now).due }
     {
         self.due.as_slice()
     }
 
     /// The nodes that put responses, with these, in order.
     pub(crate) fn puts(&self) -> &[(u8, Answer)]
-        ensures { result.now ≡ (slot_in self.now).puts }
+        ensures { result.now ≡ (tracked_slot self.now).puts }
     {
         self.puts.as_slice()
     }
@@ -183,7 +183,7 @@ impl OpenSlot {
 
     /// The frame that it carries (ISO 17987-3, unconditional, sporadic and event-triggered frames).
     pub(crate) fn carried(&self, cluster: &Cluster) -> Option<u16>
-        ensures frame { result ≡ carried_frame cluster.now (slot_in self.now) }
+        ensures frame { result ≡ carried_frame cluster.now (tracked_slot self.now) }
         ensures there { IfSome result (λ f. f < length cluster.now.frames) }
     {
         cluster.sound();
@@ -200,15 +200,15 @@ impl OpenSlot {
 
     /// Whether it is seen good when it ends.
     fn is_good(&self) -> bool
-        ensures { result ≡ is_some (good (slot_in self.now)) }
+        ensures { result ≡ is_some (good (tracked_slot self.now)) }
     {
-        matches!(self.look(), Look::Good(_))
+        matches!(self.look(), SeenSlot::Good(_))
     }
 
     /// The frame that is shown: an event-triggered slot has one only where it is seen good.
     pub(crate) fn frame(&self, cluster: &Cluster) -> Option<u16>
         ensures frame { result ≡ slot_frame cluster.now
-            (line_of cluster.now self.now.table self.now.entry).entry (slot_in self.now) }
+            (line_of cluster.now self.now.table self.now.entry).entry (tracked_slot self.now) }
         ensures there { IfSome result (λ f. f < length cluster.now.frames) }
     {
         match self.line(cluster).entry {
@@ -218,27 +218,28 @@ impl OpenSlot {
     }
 
     /// How the slot is seen when it ends.
-    pub(crate) fn look(&self) -> Look<'_>
-        ensures { looks result ≡ seen_of (slot_in self.now) }
+    pub(crate) fn look(&self) -> SeenSlot<'_>
+        ensures { seen_as result ≡ seen_of (tracked_slot self.now) }
     {
         if self.header.is_none() {
-            return Look::Silent;
+            return SeenSlot::Silent;
         }
         match self.puts.as_slice() {
-            [] => Look::NoAnswer,
-            [_] if self.hurt => Look::Damaged,
-            [put] => Look::Good(&put.1),
-            _ => Look::Collided,
+            [] => SeenSlot::NoAnswer,
+            [_] if self.hurt => SeenSlot::Damaged,
+            [put] => SeenSlot::Good(&put.1),
+            _ => SeenSlot::Collided,
         }
     }
 
     /// Whether the slot puts the cluster to sleep: a good master request whose first data byte is 0
     /// (ISO 17987-3, go-to-sleep).
     pub(crate) fn is_sleep(&self) -> bool
-        ensures { result ≡ is_sleep_slot (slot_in self.now) }
+        ensures { result ≡ is_sleep_slot (tracked_slot self.now) }
     {
         match self.look() {
-            Look::Good(answer) => self.header == Some(0x3C) && byte_at(answer.as_slice(), 0) == 0,
+            SeenSlot::Good(answer) => self.header == Some(0x3C)
+                && byte_at(answer.as_slice(), 0) == 0,
             _ => false,
         }
     }

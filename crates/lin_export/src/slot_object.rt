@@ -3,26 +3,26 @@
 ghost use Rattle.std.specs.Prelude.{◌<◌, ◌≡◌, ℕ, flat_map, length, map};
 ghost use Rattle.std.specs.Option.{option_copied};
 ghost use Rattle.lin_text.specs.Written.{Grows};
-ghost use Rattle.lin_export.specs.Csv.{comma};
-ghost use Rattle.lin_export.specs.Json.{joined, member};
+ghost use Rattle.lin_export.specs.Csv.{after_comma};
+ghost use Rattle.lin_export.specs.Json.{with_commas, member};
 ghost use Rattle.lin_export.specs.Jsonl.{answer_value, answers_member, carried_signals, due_member};
 ghost use Rattle.lin_export.specs.Jsonl.{frame_member, frame_signals, header_member, hurt_member};
 ghost use Rattle.lin_export.specs.Jsonl.{is_message_frame, message_member, message_put, message_value};
 ghost use Rattle.lin_export.specs.Jsonl.{node_text};
 ghost use Rattle.lin_export.specs.Jsonl.{response_members, schedule_members, signal_value};
 ghost use Rattle.lin_export.specs.Jsonl.{signals_member, slot_line};
-ghost use Rattle.lin_export.specs.Look.{looks};
+ghost use Rattle.lin_export.specs.Look.{seen_as};
 ghost use Rattle.lin_export.specs.Members.{member_shown};
-ghost use Rattle.lin_export.specs.Open.{slot_in};
+ghost use Rattle.lin_export.specs.Open.{tracked_slot};
 ghost use Rattle.lin_export.specs.PutsGroups.{AreCounts};
-ghost use Rattle.lin_export.specs.WhereTold.{told};
+ghost use Rattle.lin_export.specs.WhereTold.{given_coding};
 
 use crate::json::{
     Member, put_first, put_key, put_member, put_members, put_quoted, put_separator, put_type,
 };
-use crate::meanings::put_physical;
-use crate::naming::{node_name, slot_name, table_name};
-use crate::slot::{Look, OpenSlot, byte_at};
+use crate::slot::{OpenSlot, SeenSlot, byte_at};
+use crate::slot_meanings::put_physical;
+use crate::slot_names::{node_name, slot_name, table_name};
 use crate::track::Track;
 use crate::vcd::HOSTS;
 use lin_core::Listed;
@@ -42,7 +42,7 @@ pub(crate) fn put_node<W: Write>(out: &mut TextWriter<'_, W>, cluster: &Cluster,
 
 /// The frame of a slot; a configuration entry has none.
 fn frame_member<'a>(cluster: &'a Cluster, slot: &OpenSlot) -> Member<'a>
-    ensures { member_shown result ≡ frame_member cluster.now (slot_in slot.now) }
+    ensures { member_shown result ≡ frame_member cluster.now (tracked_slot slot.now) }
 {
     match slot.line(cluster).entry {
         Entry::Quiet => Member::Null("frame"),
@@ -68,7 +68,7 @@ fn put_schedule<'a, W: Write>(
     slot: &OpenSlot,
 )
     ensures { Grows W.contents out.old out.new
-        (flat_map comma (schedule_members cluster.now number at (slot_in slot.now))) }
+        (flat_map after_comma (schedule_members cluster.now number at (tracked_slot slot.now))) }
 {
     let line = slot.line(cluster);
     put_members(
@@ -88,7 +88,7 @@ fn put_schedule<'a, W: Write>(
 
 /// The names of nodes.
 fn put_names<W: Write>(out: &mut TextWriter<'_, W>, cluster: &Cluster, which: &[u8])
-    ensures { Grows W.contents out.old out.new (joined (map (node_text cluster.now) which.now)) }
+    ensures { Grows W.contents out.old out.new (with_commas (map (node_text cluster.now) which.now)) }
 {
     for place in 0..which.len() {
         put_separator(out, place);
@@ -98,7 +98,7 @@ fn put_names<W: Write>(out: &mut TextWriter<'_, W>, cluster: &Cluster, which: &[
 
 /// The nodes that were due.
 fn put_due<W: Write>(out: &mut TextWriter<'_, W>, cluster: &Cluster, due: &[u8])
-    ensures { Grows W.contents out.old out.new (comma (due_member cluster.now due.now)) }
+    ensures { Grows W.contents out.old out.new (after_comma (due_member cluster.now due.now)) }
 {
     put_key(out, "due");
     out.put_byte(b'[');
@@ -116,7 +116,7 @@ fn put_answer<W: Write>(out: &mut TextWriter<'_, W>, cluster: &Cluster, put: &(u
 }
 
 fn put_all_answers<W: Write>(out: &mut TextWriter<'_, W>, cluster: &Cluster, puts: &[(u8, Answer)])
-    ensures { Grows W.contents out.old out.new (joined (map (answer_value cluster.now) puts.now)) }
+    ensures { Grows W.contents out.old out.new (with_commas (map (answer_value cluster.now) puts.now)) }
 {
     for place in 0..puts.len() {
         put_separator(out, place);
@@ -126,7 +126,7 @@ fn put_all_answers<W: Write>(out: &mut TextWriter<'_, W>, cluster: &Cluster, put
 
 /// The nodes that answered, with their responses.
 fn put_answers<W: Write>(out: &mut TextWriter<'_, W>, cluster: &Cluster, puts: &[(u8, Answer)])
-    ensures { Grows W.contents out.old out.new (comma (answers_member cluster.now puts.now)) }
+    ensures { Grows W.contents out.old out.new (after_comma (answers_member cluster.now puts.now)) }
 {
     put_key(out, "answers");
     out.put_byte(b'[');
@@ -146,13 +146,13 @@ fn hurt_member(hurt: bool, bytes: &[u8]) -> Member<'_>
 }
 
 /// How a slot was seen, with the response of a good one.
-fn put_response<W: Write>(out: &mut TextWriter<'_, W>, look: Look<'_>)
+fn put_response<W: Write>(out: &mut TextWriter<'_, W>, look: SeenSlot<'_>)
     ensures { Grows W.contents out.old out.new
-        (flat_map comma (response_members (looks look.entry))) }
+        (flat_map after_comma (response_members (seen_as look.entry))) }
 {
     let seen = Member::Text("seen", look.kind().word().as_bytes());
     match look {
-        Look::Good(answer) => {
+        SeenSlot::Good(answer) => {
             let bytes = answer.as_slice();
             let count = bytes.len().saturating_sub(1);
             let checksum = u64::from(byte_at(bytes, count));
@@ -201,7 +201,7 @@ fn put_frame_signals<W: Write>(
 )
     requires { frame < length cluster.now.frames }
     ensures { Grows W.contents out.old out.new
-        (joined (frame_signals cluster.now answer.now frame)) }
+        (with_commas (frame_signals cluster.now answer.now frame)) }
 {
     cluster.sound();
     let data = answer.data();
@@ -217,9 +217,9 @@ fn put_frame_signals<W: Write>(
 /// The signals that a slot carries, where it is seen good.
 fn put_carried_signals<W: Write>(out: &mut TextWriter<'_, W>, cluster: &Cluster, slot: &OpenSlot)
     ensures { Grows W.contents out.old out.new
-        (joined (carried_signals cluster.now (slot_in slot.now))) }
+        (with_commas (carried_signals cluster.now (tracked_slot slot.now))) }
 {
-    let Look::Good(answer) = slot.look() else {
+    let SeenSlot::Good(answer) = slot.look() else {
         return;
     };
     let Some(frame) = slot.carried(cluster) else {
@@ -230,7 +230,7 @@ fn put_carried_signals<W: Write>(out: &mut TextWriter<'_, W>, cluster: &Cluster,
 
 fn put_signals<W: Write>(out: &mut TextWriter<'_, W>, cluster: &Cluster, slot: &OpenSlot)
     ensures { Grows W.contents out.old out.new
-        (comma (signals_member cluster.now (slot_in slot.now))) }
+        (after_comma (signals_member cluster.now (tracked_slot slot.now))) }
 {
     put_key(out, "signals");
     out.put_byte(b'{');
@@ -281,7 +281,7 @@ fn put_message_value<W: Write>(
 
 /// The last response of a slot of messages; of a slot for a service none.
 fn message_put(slot: &OpenSlot) -> Option<&(u8, Answer)>
-    ensures { option_copied result ≡ message_put (slot_in slot.now) }
+    ensures { option_copied result ≡ message_put (tracked_slot slot.now) }
 {
     if slot.is_service() {
         None
@@ -299,7 +299,7 @@ fn put_message<W: Write>(
 )
     ensures { (count : ℕ → ℕ) → AreCounts count last.now
         → Grows W.contents out.old out.new
-        (comma (message_member cluster.now count (slot_in slot.now))) }
+        (after_comma (message_member cluster.now count (tracked_slot slot.now))) }
 {
     put_key(out, "message");
     match message_put(slot) {
@@ -319,8 +319,8 @@ pub(crate) fn put_slot<'a, W: Write>(
 )
     ensures { (count : ℕ → ℕ) → AreCounts count last.now
         → Grows W.contents out.old out.new
-        (slot_line cluster.now (told coded.entry) track.now.slots
-        track.now.time track.now.hurt count (slot_in slot.now)) }
+        (slot_line cluster.now (given_coding coded.entry) track.now.slots
+        track.now.time track.now.hurt count (tracked_slot slot.now)) }
 {
     put_type(out, "slot");
     put_schedule(out, cluster, track.slots(), track.time(), slot);

@@ -4,7 +4,7 @@ ghost use Rattle.std.specs.Prelude.{◌≡◌, ◌+◌, ◌≤◌, ◌^◌, ◌<
 ghost use Rattle.lin_parts.specs.declared.parts.Parts.{Parts};
 ghost use Rattle.lin_core.specs.History.{finished_slot, open_slot, time};
 ghost use Rattle.lin_core.specs.declared.log.LogEntry.{LogEntry};
-ghost use Rattle.lin_export.specs.Open.{slot_in};
+ghost use Rattle.lin_export.specs.Open.{tracked_slot};
 ghost use Rattle.lin_export.specs.Track.{shown_slot, track_of};
 
 use crate::slot::OpenSlot;
@@ -27,13 +27,13 @@ pub struct Track {
 
 impl Model for Track {
     ghost use Rattle.std.specs.Prelude.{option_map};
-    ghost use Rattle.lin_export.specs.Open.{slot_in};
+    ghost use Rattle.lin_export.specs.Open.{tracked_slot};
     ghost use Rattle.lin_export.specs.Track.{TrackData};
 
     ghost Value = { TrackData };
 
     ghost view = { λ t. record {
-      slot = option_map slot_in t.slot;
+      slot = option_map tracked_slot t.slot;
       time = t.time;
       slots = t.slots;
       hurt = t.hurt.items;
@@ -77,7 +77,7 @@ impl Track {
 
     /// The open slot.
     pub(crate) fn slot(&self) -> &Option<OpenSlot>
-        ensures { option_map slot_in result.now ≡ self.now.slot }
+        ensures { option_map tracked_slot result.now ≡ self.now.slot }
     {
         &self.slot
     }
@@ -106,7 +106,7 @@ impl Track {
     /// The slot that the next entry finishes.
     pub(crate) fn finished(&self, entry: &LogEntry) -> Option<&OpenSlot>
         ensures { (past : List LogEntry) → self.now.slot ≡ option_map shown_slot (open_slot past)
-            → option_map (λ s. slot_in s.now) result
+            → option_map (λ s. tracked_slot s.now) result
             ≡ option_map shown_slot (finished_slot entry.now past) }
     {
         let Reply::Done(_) = &entry.reply else {

@@ -6,17 +6,17 @@ ghost use Rattle.lin_frame.specs.Words.{numbers};
 ghost use Rattle.lin_parts.specs.Cluster.{nodes};
 ghost use Rattle.lin_text.specs.Written.{Grows};
 ghost use Rattle.lin_export.specs.Vcd.{bus_variables, declarations, declaration, first_heard};
-ghost use Rattle.lin_export.specs.Vcd.{first_values, first_waiting, first_written, head};
-ghost use Rattle.lin_export.specs.Vcd.{heard_variable, opening, unknown, waiting_variable};
+ghost use Rattle.lin_export.specs.Vcd.{first_values, first_waiting, first_written, vcd_head};
+ghost use Rattle.lin_export.specs.Vcd.{heard_variable, wire_opening, unknown, waiting_variable};
 ghost use Rattle.lin_export.specs.Vcd.{first_decimals, physical_scope, physical_variable};
 ghost use Rattle.lin_export.specs.Vcd.{written_variable};
-ghost use Rattle.lin_export.specs.WhereTold.{told, where_told};
+ghost use Rattle.lin_export.specs.WhereTold.{given_coding, where_told};
 
 use crate::changes::{
     heard_number, physical_number, put_code, put_heard, put_number, put_physical, put_unknown,
     put_waiting, put_written, signal_size, waiting_number, written_number,
 };
-use crate::naming::node_name;
+use crate::slot_names::node_name;
 use lin_parts::Cluster;
 use lin_text::TextWriter;
 use lin_values::Coded;
@@ -25,7 +25,7 @@ use std::io::Write;
 /// Begins the declaration of a variable, up to its name.
 fn put_opening<W: Write>(out: &mut TextWriter<'_, W>, width: u8, variable: u16)
     requires { variable < 4096 }
-    ensures { Grows W.contents out.old out.new (opening width variable) }
+    ensures { Grows W.contents out.old out.new (wire_opening width variable) }
 {
     out.put(b"$var wire ");
     out.put_number(width);
@@ -151,7 +151,7 @@ fn put_physical_scope<W: Write>(
     coded: Option<&Coded>,
 )
     ensures { Grows W.contents out.old out.new
-        (where_told (told coded.entry) (physical_scope cluster.now)) }
+        (where_told (given_coding coded.entry) (physical_scope cluster.now)) }
 {
     if let Some(coded) = coded {
         out.put(b"$scope module physical $end\n");
@@ -162,7 +162,7 @@ fn put_physical_scope<W: Write>(
 
 fn put_declarations<W: Write>(out: &mut TextWriter<'_, W>, cluster: &Cluster, coded: Option<&Coded>)
     ensures { Grows W.contents out.old out.new
-        (declarations cluster.now (told coded.entry)) }
+        (declarations cluster.now (given_coding coded.entry)) }
 {
     out.put(b"$timescale 1 us $end\n");
     out.put(b"$scope module bus $end\n");
@@ -231,7 +231,7 @@ fn put_first_decimals<W: Write>(
     coded: Option<&Coded>,
 )
     ensures { Grows W.contents out.old out.new
-        (where_told (told coded.entry) (first_decimals cluster.now)) }
+        (where_told (given_coding coded.entry) (first_decimals cluster.now)) }
 {
     if let Some(coded) = coded {
         put_physical_values(out, cluster, coded);
@@ -240,7 +240,7 @@ fn put_first_decimals<W: Write>(
 
 fn put_first_values<W: Write>(out: &mut TextWriter<'_, W>, cluster: &Cluster, coded: Option<&Coded>)
     ensures { Grows W.contents out.old out.new
-        (first_values cluster.now (told coded.entry)) }
+        (first_values cluster.now (given_coding coded.entry)) }
 {
     out.put(b"#0\n");
     out.put(b"$dumpvars\n");
@@ -260,7 +260,7 @@ pub(crate) fn put_head<W: Write>(
     coded: Option<&Coded>,
 )
     ensures { Grows W.contents out.old out.new
-        (head cluster.now (told coded.entry)) }
+        (vcd_head cluster.now (given_coding coded.entry)) }
 {
     put_declarations(out, cluster, coded);
     put_first_values(out, cluster, coded);

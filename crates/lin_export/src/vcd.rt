@@ -6,21 +6,21 @@ ghost use Rattle.lin_core.specs.History.{time};
 ghost use Rattle.lin_core.specs.declared.log.LogEntry.{LogEntry};
 ghost use Rattle.lin_core.specs.declared.step.Step.TheVariants.{Finish};
 ghost use Rattle.lin_text.specs.Written.{Grows, WritesText};
-ghost use Rattle.lin_export.specs.Look.{looks};
-ghost use Rattle.lin_export.specs.Open.{slot_in};
+ghost use Rattle.lin_export.specs.Look.{seen_as};
+ghost use Rattle.lin_export.specs.Open.{tracked_slot};
 ghost use Rattle.lin_export.specs.PutsGroups.{AreCounts, KeepsChanges, PutsGroups};
 ghost use Rattle.lin_export.specs.Track.{track_of};
 ghost use Rattle.lin_export.specs.Vcd.{count_after, counted_all, count_group, entry_changes};
-ghost use Rattle.lin_export.specs.Vcd.{event_group, frame_changes, head, header_change};
-ghost use Rattle.lin_export.specs.Vcd.{heard_group, last_time, later, one_more};
+ghost use Rattle.lin_export.specs.Vcd.{event_group, frame_changes, vcd_head, header_change};
+ghost use Rattle.lin_export.specs.Vcd.{heard_group, end_stamp, later, one_more};
 ghost use Rattle.lin_export.specs.Vcd.{frame_decimals, heard_changes};
 ghost use Rattle.lin_export.specs.Vcd.{slot_changes, stamp, step_groups, vcd};
-ghost use Rattle.lin_export.specs.WhereTold.{told, where_told};
+ghost use Rattle.lin_export.specs.WhereTold.{given_coding, where_told};
 
 use crate::changes::{put_heard, put_number, put_physical, put_unknown, put_waiting, put_written};
 use crate::fault::ExportFault;
-use crate::format::{Format, write_as};
-use crate::slot::{Look, OpenSlot};
+use crate::format::{EntryFormat, write_as};
+use crate::slot::{OpenSlot, SeenSlot};
 use crate::track::Track;
 use crate::variables::put_head;
 use lin_core::{Event, Listed, Log, LogEntry, Reply, Step};
@@ -67,7 +67,7 @@ fn put_header<W: Write>(out: &mut TextWriter<'_, W>, header: Option<u8>)
 
 /// What the bus shows of a slot.
 fn put_slot<W: Write>(out: &mut TextWriter<'_, W>, number: u64, slot: &OpenSlot)
-    ensures { Grows W.contents out.old out.new (slot_changes number (slot_in slot.now)) }
+    ensures { Grows W.contents out.old out.new (slot_changes number (tracked_slot slot.now)) }
 {
     put_number(out, 32, 0, number);
     put_number(out, 16, 1, u64::from(slot.table()));
@@ -123,7 +123,7 @@ fn put_told_decimals<W: Write>(
 )
     requires { frame < length cluster.now.frames }
     ensures { Grows W.contents out.old out.new
-        (where_told (told coded.entry) (frame_decimals cluster.now answer.now frame)) }
+        (where_told (given_coding coded.entry) (frame_decimals cluster.now answer.now frame)) }
 {
     if let Some(coded) = coded {
         put_frame_decimals(out, cluster, coded, frame, answer);
@@ -140,7 +140,7 @@ fn put_heard_changes<W: Write>(
 )
     requires { frame < length cluster.now.frames }
     ensures { Grows W.contents out.old out.new
-        (heard_changes cluster.now (told coded.entry) answer.now frame) }
+        (heard_changes cluster.now (given_coding coded.entry) answer.now frame) }
 {
     put_frame(out, cluster, frame, answer);
     put_told_decimals(out, cluster, coded, frame, answer);
@@ -156,9 +156,9 @@ fn put_heard_frame<W: Write>(
     slot: &OpenSlot,
 )
     ensures { PutsGroups W.contents out.old out.new last.old last.new
-        (heard_group cluster.now (told coded.entry) end (slot_in slot.now)) }
+        (heard_group cluster.now (given_coding coded.entry) end (tracked_slot slot.now)) }
 {
-    let Look::Good(answer) = slot.look() else {
+    let SeenSlot::Good(answer) = slot.look() else {
         return;
     };
     let Some(frame) = slot.carried(cluster) else {
@@ -179,7 +179,7 @@ fn put_finish<W: Write>(
 )
     ensures { (past : List LogEntry) → track.now ≡ track_of cluster.now past
         → PutsGroups W.contents out.old out.new last.old last.new
-        (step_groups cluster.now (told coded.entry) past end Finish) }
+        (step_groups cluster.now (given_coding coded.entry) past end Finish) }
 {
     if let Some(slot) = track.slot() {
         put_stamp(out, last, track.time());
@@ -200,7 +200,7 @@ fn put_step<W: Write>(
     requires { track.now.time < 2 ^ 63 }
     ensures { (past : List LogEntry) → track.now ≡ track_of cluster.now past
         → PutsGroups W.contents out.old out.new last.old last.new
-        (step_groups cluster.now (told coded.entry) past
+        (step_groups cluster.now (given_coding coded.entry) past
         (time cluster.now (entry.now ∷ past)) entry.now.step) }
 {
     match &entry.step {
@@ -352,17 +352,17 @@ struct Dump<'a> {
     coded: Option<&'a Coded>,
 }
 
-impl Format for Dump<'_> {
-    ghost begins = { λ f c. head c (told f.coded) };
+impl EntryFormat for Dump<'_> {
+    ghost begins = { λ f c. vcd_head c (given_coding f.coded) };
 
-    ghost says = { λ f c. entry_changes c (told f.coded) };
+    ghost says = { λ f c. entry_changes c (given_coding f.coded) };
 
-    ghost ends = { λ f c. last_time c (told f.coded) };
+    ghost ends = { λ f c. end_stamp c (given_coding f.coded) };
 
     ghost fits = { λ f c. ⊤ };
 
     ghost keeps = { λ f c past.
-        KeepsChanges c (told f.coded) past f.last f.counts };
+        KeepsChanges c (given_coding f.coded) past f.last f.counts };
 
     fn put_head<W: Write>(&self, out: &mut TextWriter<'_, W>, cluster: &Cluster) {
         put_head(out, cluster, self.coded);
@@ -412,7 +412,7 @@ pub fn write_vcd<W: Write>(
     writer: &mut W,
 ) -> Result<(), ExportFault>
     ensures { WritesText (W.contents writer.old) (W.contents writer.new) result
-        (vcd cluster.now (told coded.entry) log.now.entries) }
+        (vcd cluster.now (given_coding coded.entry) log.now.entries) }
 {
     let mut dump = Dump {
         last: 0,

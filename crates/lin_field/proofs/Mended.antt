@@ -12,7 +12,7 @@ use Rattle.lin_ldf.specs.declared.token.TokenKind.TheVariants as kinds
 use Rattle.lin_ldf.proofs.Unique.{same_tokens}
 use Rattle.lin_ldf.proofs.Outcomes.{outcome}
 use Rattle.lin_ldf.proofs.Parsed.{no_fault}
-use Rattle.lin_field.specs.Marks.{is_extra, mended, extra_after, extra_in, blank_at, blanked}
+use Rattle.lin_field.specs.Marks.{is_extra, without_extra_marks, extra_after, extra_in, blank_at, text_with_blanks}
 use Rattle.lin_ldf.proofs.Blanks.{clean, IsMarkKind, blanked_once}
 
 clean_of : (r : Ahead) (ts : List Token) → r.tokens ≡ ts → r.fault ≡ None → r ≡ clean ts
@@ -31,12 +31,12 @@ kept_after : Token → List Token → List Token
 kept_after t [] = t ∷ []
 kept_after t (u ∷ ts) = if is_extra t.kind u.kind then kept_after u ts else t ∷ kept_after u ts
 
-kept_mended : (source : List ℕ) (t : Token) (ts : List Token) → symbols_in source (kept_after t ts) ≡ mended (symbols_in source (t ∷ ts))
+kept_mended : (source : List ℕ) (t : Token) (ts : List Token) → symbols_in source (kept_after t ts) ≡ without_extra_marks (symbols_in source (t ∷ ts))
 unfolding kept_after
 kept_mended source t [] = refl
 kept_mended source t (u ∷ ts) =
     let others = kept_mended source u ts in
-    elim (is_extra t.kind u.kind) as (λ b. symbols_in source (cond b (kept_after u ts) (t ∷ kept_after u ts)) ≡ cond b (mended (symbols_in source (u ∷ ts))) (symbol_in source t ∷ mended (symbols_in source (u ∷ ts)))) [
+    elim (is_extra t.kind u.kind) as (λ b. symbols_in source (cond b (kept_after u ts) (t ∷ kept_after u ts)) ≡ cond b (without_extra_marks (symbols_in source (u ∷ ts))) (symbol_in source t ∷ without_extra_marks (symbols_in source (u ∷ ts)))) [
       | true ↦ others
       | false ↦ ap (λ (ss : List Symbol). symbol_in source t ∷ ss) others
     ]
@@ -55,8 +55,8 @@ extra_kind kinds.Other behind e = absurd cc
 
 -- with spaces in the place of these marks, these tokens are left, which are seen so
 record Blanks (source : List ℕ) (marks kept : List Token) (seen : List Symbol) : Type 0 where
-  ahead : start_of (blanked source marks) ≡ clean kept
-  symbols : symbols_in (blanked source marks) kept ≡ seen
+  ahead : start_of (text_with_blanks source marks) ≡ clean kept
+  symbols : symbols_in (text_with_blanks source marks) kept ≡ seen
 
 blanks : (ts : List Token) (source : List ℕ) (before : List Token) (t : Token) → start_of source ≡ clean (before ++ t ∷ ts)
     → Blanks source (extra_after t ts) (before ++ kept_after t ts) (symbols_in source before ++ symbols_in source (kept_after t ts))
@@ -68,7 +68,7 @@ blanks (u ∷ ts) source before t e =
           let one = blanked_once source before t (u ∷ ts) (extra_kind t.kind u.kind is) e in
           let rest = blanks ts (blank_at source t) before u one.ahead in
           let seen : symbols_in (blank_at source t) (kept_after u ts) ≡ symbols_in source (kept_after u ts) =
-          kept_mended (blank_at source t) u ts ∙ ap mended one.right ∙ sym (kept_mended source u ts) in
+          kept_mended (blank_at source t) u ts ∙ ap without_extra_marks one.right ∙ sym (kept_mended source u ts) in
           record {
             ahead = rest.ahead;
             symbols = rest.symbols ∙ ap (λ (ss : List Symbol). ss ++ symbols_in (blank_at source t) (kept_after u ts)) one.left ∙ ap (λ (ss : List Symbol). symbols_in source before ++ ss) seen;
@@ -79,7 +79,7 @@ blanks (u ∷ ts) source before t e =
           let split : (before ++ t ∷ []) ++ kept_after u ts ≡ before ++ t ∷ kept_after u ts = append_assoc before (t ∷ []) (kept_after u ts) in
           record {
             ahead = rest.ahead ∙ ap clean split;
-            symbols = ap (symbols_in (blanked source (extra_after u ts))) (sym split) ∙ rest.symbols
+            symbols = ap (symbols_in (text_with_blanks source (extra_after u ts))) (sym split) ∙ rest.symbols
                 ∙ ap (λ (ss : List Symbol). ss ++ symbols_in source (kept_after u ts)) (map-append (symbol_in source) before (t ∷ []))
                 ∙ append_assoc (symbols_in source before) (symbol_in source t ∷ []) (symbols_in source (kept_after u ts));
           }
@@ -87,8 +87,8 @@ blanks (u ∷ ts) source before t e =
 
 -- what the parser sees of a text with spaces in the place of those marks
 pub marks_blanked : (source : List ℕ) (ts : List Token) → AreTokens source ts
-    → symbols_in (blanked source (extra_in ts)) (start_of (blanked source (extra_in ts))).tokens ≡ mended (symbols_in source ts)
+    → symbols_in (text_with_blanks source (extra_in ts)) (start_of (text_with_blanks source (extra_in ts))).tokens ≡ without_extra_marks (symbols_in source ts)
 marks_blanked source [] are = ap (λ (r : Ahead). symbols_in source r.tokens) (start_clean source [] are)
 marks_blanked source (t ∷ ts) are =
     let all = blanks ts source [] t (start_clean source (t ∷ ts) are) in
-    ap (λ (r : Ahead). symbols_in (blanked source (extra_after t ts)) r.tokens) all.ahead ∙ all.symbols ∙ kept_mended source t ts
+    ap (λ (r : Ahead). symbols_in (text_with_blanks source (extra_after t ts)) r.tokens) all.ahead ∙ all.symbols ∙ kept_mended source t ts

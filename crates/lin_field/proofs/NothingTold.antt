@@ -6,8 +6,8 @@ use Rattle.std.proofs.lemmas.Bool.{eqb-true}
 use Rattle.lin_parts.specs.declared.description.Attributes.{Attributes}
 use Rattle.lin_parts.specs.declared.description.Name.{Name}
 use Rattle.lin_parts.specs.declared.description.Number.{Number}
-use Rattle.lin_field.specs.Names.{is_responder, node_list}
-use Rattle.lin_field.specs.Attributes.{Elsewhere, elsewhere_of, line_nad, told_nad, new_draft, listed, has_block, new_drafts}
+use Rattle.lin_field.specs.Names.{is_loose_responder, node_list}
+use Rattle.lin_field.specs.Attributes.{Elsewhere, elsewhere_of, line_nad, told_nad, new_draft, as_list, has_block, new_drafts}
 use Rattle.lin_field.specs.declared.loose.LooseAttributes.{LooseAttributes}
 use Rattle.lin_field.specs.declared.loose.LooseNodes.{LooseNodes}
 use Rattle.lin_field.specs.declared.loose.NodeAddress.{NodeAddress}
@@ -16,13 +16,13 @@ abbrev nothing : LooseNodes → Elsewhere
 nothing nodes = elsewhere_of nodes [] None
 
 no_nad : (nodes : LooseNodes) (node : Name) → told_nad (nothing nodes) node ≡ None
-no_nad nodes node = elim (is_responder nodes node) as (λ b. cond b (line_nad (nothing nodes) node) None ≡ None) [ true ↦ refl | false ↦ refl ]
+no_nad nodes node = elim (is_loose_responder nodes node) as (λ b. cond b (line_nad (nothing nodes) node) None ≡ None) [ true ↦ refl | false ↦ refl ]
 
 abbrev made : Name → Option Number → List Attributes
-made node nad = listed (if is_none nad then None else Some (record { node = node; protocol = None; configured_nad = nad; response_error = None }))
+made node nad = as_list (if is_none nad then None else Some (record { node = node; protocol = None; configured_nad = nad; response_error = None }))
 
 no_draft : (nodes : LooseNodes) (blocks : List LooseAttributes) (node : Name) → new_drafts (nothing nodes) blocks node ≡ []
-no_draft nodes blocks node = elim (has_block blocks node) as (λ b. cond b [] (listed (new_draft (nothing nodes) node)) ≡ []) [
+no_draft nodes blocks node = elim (has_block blocks node) as (λ b. cond b [] (as_list (new_draft (nothing nodes) node)) ≡ []) [
   | true ↦ refl
   | false ↦ ap (made node) (no_nad nodes node)
 ]

@@ -6,16 +6,16 @@ use Rattle.std.specs.List.{list_any}
 use Rattle.lin_ldf.specs.Symbols.{is_kind}
 use Rattle.lin_ldf.specs.declared.token.Token.{Token}
 use Rattle.lin_ldf.specs.declared.token.TokenKind.{TokenKind}
-use Rattle.lin_field.specs.Plain.{depth_after, before_end, part_end, parts_in, parts, last_end, bytes_of, without_last}
+use Rattle.lin_field.specs.Plain.{brace_depth, before_end, part_end, parts_in, parts, end_of_tokens, source_bytes, without_last}
 
 -- ---- parts
 
 rest-shorter : (end : TokenKind) (d : ℕ) (ts : List Token) → length (before_end end d ts).1 ≤ length ts
 rest-shorter end d [] = omega arith
 rest-shorter end d (t ∷ ts) =
-    elim (eqb (depth_after d t.kind) 0 && is_kind end t.kind) as (λ b. length (cond {A = List Token × List Token} b (t ∷ [], ts) (t ∷ (before_end end (depth_after d t.kind) ts).0, (before_end end (depth_after d t.kind) ts).1)).1 ≤ suc (length ts)) [
+    elim (eqb (brace_depth d t.kind) 0 && is_kind end t.kind) as (λ b. length (cond {A = List Token × List Token} b (t ∷ [], ts) (t ∷ (before_end end (brace_depth d t.kind) ts).0, (before_end end (brace_depth d t.kind) ts).1)).1 ≤ suc (length ts)) [
       | true ↦ omega arith
-      | false ↦ let h = rest-shorter end (depth_after d t.kind) ts in omega arith
+      | false ↦ let h = rest-shorter end (brace_depth d t.kind) ts in omega arith
     ]
 
 -- as many as there are tokens are enough
@@ -69,7 +69,7 @@ without-last zero (t ∷ (u ∷ ts)) h = absurd (omega arith)
 without-last (suc n) (t ∷ (u ∷ ts)) h = ap (λ xs. t ∷ xs) (without-last n (u ∷ ts) (omega arith))
 
 pub last-end : (at n : ℕ) (t : Token) (ts : List Token) → n + 1 ≡ length ts → t ≡ get_or ts n t
-    → last_end at ts ≡ t.end
+    → end_of_tokens at ts ≡ t.end
 last-end at n t [] h is = absurd (omega arith)
 last-end at zero t (u ∷ []) h is = ap (λ x. x.end) (sym is)
 last-end at (suc n) t (u ∷ []) h is = absurd (omega arith)
@@ -77,7 +77,7 @@ last-end at zero t (u ∷ (v ∷ ts)) h is = absurd (omega arith)
 last-end at (suc n) t (u ∷ (v ∷ ts)) h is = last-end u.end n t (v ∷ ts) (omega arith) is
 
 pub bytes-between : (source : List ℕ) (ts : List Token) (first last : Token) → 0 < length ts → first ≡ get_or ts 0 first
-    → last ≡ get_or ts (length ts - 1) last → slice_range source first.start last.end ≡ bytes_of source ts
+    → last ≡ get_or ts (length ts - 1) last → slice_range source first.start last.end ≡ source_bytes source ts
 bytes-between source [] first last h f l = absurd (omega arith)
 bytes-between source (t ∷ ts) first last h f l =
     let one : suc (length ts) - 1 ≡ length ts = omega arith in

@@ -9,13 +9,13 @@ use Rattle.std.proofs.lemmas.Bool.{and_from, and_left, and_parts, and_right, con
 use Rattle.std.proofs.lemmas.List.{length-map}
 use Rattle.std.proofs.lemmas.List.Elements.{All-nil, All-head, All-map, All-same, All-tail}
 use Rattle.std.proofs.lemmas.List.Sums.{sum_by-cons}
-use Rattle.lin_cluster.specs.Addresses.{address, addresses, bad_nad}
+use Rattle.lin_cluster.specs.Addresses.{block_address, addresses, bad_nad}
 use Rattle.lin_cluster.specs.Findings.{IsFree, candidates, in_signal}
 use Rattle.lin_cluster.specs.FindingsNames.{at_name, at_number, same_name, when}
 use Rattle.lin_cluster.specs.FindingsNames as plain
 use Rattle.lin_cluster.specs.Identifiers.{is_up_to, is_repeated}
 use Rattle.lin_cluster.specs.Kinds.{finding_at}
-use Rattle.lin_cluster.specs.Sizes.{bad_init, bad_signal_size, is_array, is_good_init}
+use Rattle.lin_cluster.specs.Sizes.{bad_init, bad_signal_size, is_array_init, is_good_init}
 use Rattle.lin_cluster.specs.UnknownNames.{unknown_node}
 use Rattle.lin_cluster.specs.declared.finding.Finding.{Finding}
 use Rattle.lin_cluster.specs.declared.finding.FindingKind.TheVariants.{BadId, BadInit, BadNad, EmptyTable, ExtraMark, NadTwice, NoSize, NoTable, UnknownName, WideSignal, ZeroDelay}
@@ -36,15 +36,15 @@ use Rattle.lin_parts.specs.declared.description.Table.{Table}
 use Rattle.lin_parts.specs.declared.description.TableEntry.{TableEntry}
 use Rattle.lin_ldf.specs.declared.token.Token.{Token}
 use Rattle.lin_field.proofs.TightSlots.{none-of-each, none-tight}
-use Rattle.lin_field.specs.Attributes.{Elsewhere, attribute_warnings, draft, draft_nad_warnings, draft_warnings, drafts, elsewhere_of, good_nad, has_block, is_nad, listed, nad_warning, new_drafts, responder_nads, settled_attributes, settled_block, settled_draft}
+use Rattle.lin_field.specs.Attributes.{Elsewhere, attribute_warnings, draft, draft_nad_warnings, draft_warnings, drafts, elsewhere_of, good_nad, has_block, is_nad_number, as_list, nad_warning, new_drafts, responder_nads, settled_attributes, settled_block, settled_draft}
 use Rattle.lin_field.specs.Frames.{frame_warnings, is_diagnostic_frame, kept_frame}
-use Rattle.lin_field.specs.Names.{is_node, is_responder, node_list}
-use Rattle.lin_field.specs.PlainTexts.{NamesTables, StaysPlain, header_in, loose_block, loose_entry, loose_event, loose_frame, loose_init, loose_signal, loose_table, loosened, nodes_in, wide}
-use Rattle.lin_field.specs.Settled.{header_warnings, is_old, old_version, tells_tables, untimed}
-use Rattle.lin_field.specs.Signals.{init_warnings, is_narrow, is_wide, kept_bits, low_bits, settled_init, settled_signal, signal_warnings, value_at}
+use Rattle.lin_field.specs.Names.{is_loose_node, is_loose_responder, node_list}
+use Rattle.lin_field.specs.PlainTexts.{NamesTables, StaysPlain, header_in, loose_block, loose_entry, loose_event, loose_frame, loose_init, loose_signal, loose_table, as_loose, nodes_in, wide}
+use Rattle.lin_field.specs.Settled.{header_warnings, is_old, old_version, tells_tables, without_tables}
+use Rattle.lin_field.specs.Signals.{init_warnings, is_narrow, is_wide, kept_bits, low_bits, settled_init, settled_signal, signal_warnings, number_with_value}
 use Rattle.lin_field.specs.Signals as told
 use Rattle.lin_field.specs.Tables.{event_warnings, is_filled, is_left_out, is_members_name, kept_name, kept_tables, members_name, names_left_out, plain_entry, plain_table, rounded_warnings, settled_event, table_warnings, table_warnings_of}
-use Rattle.lin_field.specs.Times.{entry_warnings, member_table, member_tables, time_of, timed_by, timed_entry, timed_table, timed_tables, timing_warnings}
+use Rattle.lin_field.specs.Times.{delay_warnings, member_table, member_tables, rounded_delay, timed_by, timed_entry, timed_table, timed_tables, timing_warnings}
 use Rattle.lin_field.specs.declared.loose.LooseAttributes.{LooseAttributes}
 use Rattle.lin_field.specs.declared.loose.LooseEntry.{LooseEntry}
 use Rattle.lin_field.specs.declared.loose.LooseTable.{LooseTable}
@@ -87,7 +87,7 @@ none-behind xs ys none = ap (λ zs. xs ++ zs) none ∙ append-nil xs
 -- ---- signals
 
 abbrev fits_size : Init → ℕ → Bool
-fits_size init size = if is_array init then nat_le 8 size && nat_le size 64 && size % 8 == 0 else nat_le 1 size && nat_le size 16
+fits_size init size = if is_array_init init then nat_le 8 size && nat_le size 64 && size % 8 == 0 else nat_le 1 size && nat_le size 16
 
 not-wide : (size : ℕ) → (nat_le 1 size && nat_le size 16) ≡ true → is_wide size ≡ false
 not-wide size good =
@@ -97,9 +97,9 @@ not-wide size good =
 init-stays : (size : ℕ) (init : Init) → fits_size init size ≡ true → is_good_init size init ≡ true → settled_init size (loose_init init) ≡ init
 init-stays size (Array place items) good fits = refl
 init-stays size (Scalar n) good fits =
-    cond-false (is_wide size) (Array (record { line = n.line; column = n.column }) (told.byte_numbers (wide n) (size / 8))) (Scalar (value_at (wide n) (low_bits n.value (kept_bits size)))) (not-wide size good)
-    ∙ (ap (λ bits. Scalar (value_at (wide n) (low_bits n.value bits))) (cond-true (is_narrow size) size 32 good)
-    ∙ ap (λ v. Scalar (value_at (wide n) v)) (mod-eq_of_lt (ltb-true n.value (2 ^ size) fits)))
+    cond-false (is_wide size) (Array (record { line = n.line; column = n.column }) (told.byte_numbers (wide n) (size / 8))) (Scalar (number_with_value (wide n) (low_bits n.value (kept_bits size)))) (not-wide size good)
+    ∙ (ap (λ bits. Scalar (number_with_value (wide n) (low_bits n.value bits))) (cond-true (is_narrow size) size 32 good)
+    ∙ ap (λ v. Scalar (number_with_value (wide n) v)) (mod-eq_of_lt (ltb-true n.value (2 ^ size) fits)))
 
 init-silent : (size : Number) (init : Init) → fits_size init size.value ≡ true → is_good_init size.value init ≡ true → init_warnings size (loose_init init) ≡ []
 init-silent size (Array place items) good fits = refl
@@ -108,7 +108,7 @@ init-silent size (Scalar n) good fits =
     in ap (λ w. when w (at_number WideSignal size) ++ when ((w || is_narrow size.value) && not (low_bits n.value size.value == n.value)) (at_number BadInit n)) (not-wide size.value good)
     ∙ ap (λ t. when t (at_number BadInit n)) (and_right (is_narrow size.value) (not (low_bits n.value size.value == n.value)) (not_from_true (low_bits n.value size.value == n.value) same))
 
-known-subscribers : (d : Description) → NothingElse d → (k : ℕ) (s : Signal) → k < length d.signals → All (λ n. is_node (nodes_in d) n ≡ true) (get_or d.signals k s).subscribers
+known-subscribers : (d : Description) → NothingElse d → (k : ℕ) (s : Signal) → k < length d.signals → All (λ n. is_loose_node (nodes_in d) n ≡ true) (get_or d.signals k s).subscribers
 known-subscribers d none k s lt j n in' =
     let here = get_or d.signals k s
     in let parts = four-parts IsShort (unknown_node d here.publisher) (flat_map (unknown_node d) here.subscribers) (bad_signal_size here) (bad_init here) (in-each IsShort (in_signal d) d.signals none.signals k s lt)
@@ -121,7 +121,7 @@ signals-stay d none =
     let here = get_or d.signals k s
     in let good = good-signals d none k s lt
     in let init = init-stays here.size.value here.init good.size good.init
-    in let subscribers = filter-stays (is_node (nodes_in d)) here.subscribers (known-subscribers d none k s lt)
+    in let subscribers = filter-stays (is_loose_node (nodes_in d)) here.subscribers (known-subscribers d none k s lt)
     in λ i. record { name = here.name; size = here.size; init = init i; publisher = here.publisher; subscribers = subscribers i })
 
 signals-silent : (d : Description) → NothingElse d → flat_map (signal_warnings (nodes_in d)) (map loose_signal d.signals) ≡ []
@@ -130,10 +130,10 @@ signals-silent d none =
     (All-map (λ s. signal_warnings (nodes_in d) s ≡ []) loose_signal d.signals (λ k s lt.
     let here = get_or d.signals k s
     in let good = good-signals d none k s lt
-    in let known = none-of-each (told.unknown_node (nodes_in d)) here.subscribers (λ j n in'.
+    in let known = none-of-each (told.unknown_loose_node (nodes_in d)) here.subscribers (λ j n in'.
     let node = get_or here.subscribers j n
-    in ap (λ b. when b (at_name UnknownName node)) (not_from_true (is_node (nodes_in d) node) (known-subscribers d none k s lt j n in')))
-    in ap (λ fs. fs ++ flat_map (told.unknown_node (nodes_in d)) here.subscribers) (init-silent here.size here.init good.size good.init) ∙ known))
+    in ap (λ b. when b (at_name UnknownName node)) (not_from_true (is_loose_node (nodes_in d) node) (known-subscribers d none k s lt j n in')))
+    in ap (λ fs. fs ++ flat_map (told.unknown_loose_node (nodes_in d)) here.subscribers) (init-silent here.size here.init good.size good.init) ∙ known))
 
 -- ---- frames
 
@@ -205,16 +205,16 @@ times-stay d ts stand =
     let here = get_or ts k t
     in let entries = map-stays (timed_entry d) here.entries (λ j e in'.
     let x = get_or here.entries j e
-    in cond-false (x.delay.value == 0) (timed_by x (time_of d x)) x (stand k t lt j e in'))
+    in cond-false (x.delay.value == 0) (timed_by x (rounded_delay d x)) x (stand k t lt j e in'))
     in λ i. record { name = here.name; entries = entries i })
 
 times-silent : (d : Description) (ts : List Table) → delays_stand ts → timing_warnings d ts ≡ []
 times-silent d ts stand =
-    none-of-each (λ (t : Table). flat_map (entry_warnings d) t.entries) ts (λ k t lt.
+    none-of-each (λ (t : Table). flat_map (delay_warnings d) t.entries) ts (λ k t lt.
     let here = get_or ts k t
-    in none-of-each (entry_warnings d) here.entries (λ j e in'.
+    in none-of-each (delay_warnings d) here.entries (λ j e in'.
     let x = get_or here.entries j e
-    in ap (λ b. when b (at_number ZeroDelay x.delay)) (and_left (x.delay.value == 0) (is_some (time_of d x)) (stand k t lt j e in'))))
+    in ap (λ b. when b (at_number ZeroDelay x.delay)) (and_left (x.delay.value == 0) (is_some (rounded_delay d x)) (stand k t lt j e in'))))
 
 -- ---- event-triggered frames
 
@@ -275,14 +275,14 @@ once-counted v q (n ∷ ns) apart =
     ] refl
 
 record GoodNad (d : Description) (n : Number) : Type 0 where
-  address : is_nad n ≡ true
+  address : is_nad_number n ≡ true
   once : is_repeated (addresses d) n ≡ false
 
 good-nads : (d : Description) → NothingElse d → All (GoodNad d) (addresses d)
 good-nads d none k n lt =
     let here = get_or (addresses d) k n
     in record {
-      address = not-false (is_nad here) (when-not (not (is_nad here)) (at_number BadNad here) refl (in-each IsShort bad_nad (addresses d) none.nads k n lt));
+      address = not-false (is_nad_number here) (when-not (not (is_nad_number here)) (at_number BadNad here) refl (in-each IsShort bad_nad (addresses d) none.nads k n lt));
       once = le-ltb 1 (count_by (λ (y : Number). y.value == here.value && is_up_to here y) (addresses d)) (once-counted here.value (is_up_to here) (addresses d) (addresses-apart d none));
     }
 
@@ -290,7 +290,7 @@ good-nads d none k n lt =
 own-nad : (d : Description) → NothingElse d → (k : ℕ) (a : Attributes) → k < length d.attributes → plain.is_responder d (get_or d.attributes k a).node ≡ true → (n : Number) → (get_or d.attributes k a).configured_nad ≡ Some n → GoodNad d n
 own-nad d none k a lt responder n is =
     let here = get_or d.attributes k a
-    in mapped-all (GoodNad d) (address d) d.attributes (good-nads d none) k a n lt
+    in mapped-all (GoodNad d) (block_address d) d.attributes (good-nads d none) k a n lt
     (cond-true (plain.is_responder d here.node) here.configured_nad None responder ∙ is)
 
 abbrev nothing_elsewhere : Description → Elsewhere
@@ -310,10 +310,10 @@ chosen false o = refl
 draft-stays : (d : Description) (a : Attributes) → draft (nothing_elsewhere d) (loose_block a) ≡ a
 draft-stays d a =
     let protocol = or-none a.protocol
-    in let nad = chosen (is_responder (nodes_in d) a.node) a.configured_nad
+    in let nad = chosen (is_loose_responder (nodes_in d) a.node) a.configured_nad
     in λ i. record { node = a.node; protocol = protocol i; configured_nad = nad i; response_error = a.response_error }
 
-known-blocks : (d : Description) → NothingElse d → All (λ (a : Attributes). is_node (nodes_in d) a.node ≡ true) d.attributes
+known-blocks : (d : Description) → NothingElse d → All (λ (a : Attributes). is_loose_node (nodes_in d) a.node ≡ true) d.attributes
 known-blocks d none k a lt =
     let node = (get_or d.attributes k a).node
     in not-false (plain.is_node d node) (when-not (not (plain.is_node d node)) (at_name UnknownName node) refl (in-each IsShort (λ (b : Attributes). unknown_node d b.node) d.attributes none.attributes k a lt))
@@ -329,23 +329,23 @@ none-either false = refl
 no-new : (d : Description) (node : Name) → new_drafts (nothing_elsewhere d) (blocks_in d) node ≡ []
 no-new d node =
     let e = nothing_elsewhere d
-    in let nad = not-told (is_responder (nodes_in d) node)
-    in ap (λ o. if has_block (blocks_in d) node then [] else listed (if is_none o then None else Some (record { node = node; protocol = None; configured_nad = o; response_error = None }))) nad
+    in let nad = not-told (is_loose_responder (nodes_in d) node)
+    in ap (λ o. if has_block (blocks_in d) node then [] else as_list (if is_none o then None else Some (record { node = node; protocol = None; configured_nad = o; response_error = None }))) nad
     ∙ none-either (has_block (blocks_in d) node)
 
 drafts-stay : (d : Description) → NothingElse d → drafts (nothing_elsewhere d) (blocks_in d) ≡ d.attributes
 drafts-stay d none =
     let e = nothing_elsewhere d
     in ap (λ ds. ds ++ flat_map (new_drafts e (blocks_in d)) (node_list (nodes_in d)))
-    (ap (map (draft e)) (filter-stays (λ (a : LooseAttributes). is_node (nodes_in d) a.block.node) (blocks_in d) (All-map (λ (a : LooseAttributes). is_node (nodes_in d) a.block.node ≡ true) loose_block d.attributes (known-blocks d none)))
+    (ap (map (draft e)) (filter-stays (λ (a : LooseAttributes). is_loose_node (nodes_in d) a.block.node) (blocks_in d) (All-map (λ (a : LooseAttributes). is_loose_node (nodes_in d) a.block.node ≡ true) loose_block d.attributes (known-blocks d none)))
     ∙ back-and-forth loose_block (draft e) d.attributes (λ k a lt. draft-stays d (get_or d.attributes k a)))
     ∙ none-behind d.attributes (flat_map (new_drafts e (blocks_in d)) (node_list (nodes_in d)))
     (none-of-each (new_drafts e (blocks_in d)) (node_list (nodes_in d)) (λ k n lt. no-new d (get_or (node_list (nodes_in d)) k n)))
 
 good-stays : (d : Description) (n : Number) → GoodNad d n → good_nad (addresses d) n ≡ Some n
 good-stays d n good =
-    cond-true (is_nad n && not (is_repeated (addresses d) n)) (Some n) None
-    (and_from (is_nad n) (not (is_repeated (addresses d) n)) good.address (not_from_false (is_repeated (addresses d) n) good.once))
+    cond-true (is_nad_number n && not (is_repeated (addresses d) n)) (Some n) None
+    (and_from (is_nad_number n) (not (is_repeated (addresses d) n)) good.address (not_from_false (is_repeated (addresses d) n) good.once))
 
 attributes-stay : (d : Description) → NothingElse d → settled_attributes (nothing_elsewhere d) (blocks_in d) ≡ d.attributes
 attributes-stay d none =
@@ -353,7 +353,7 @@ attributes-stay d none =
     in ap (λ ds. map (settled_draft e (responder_nads (nodes_in d) ds)) ds) (drafts-stay d none)
     ∙ map-stays (settled_draft e (addresses d)) d.attributes (λ k a lt.
     let here = get_or d.attributes k a
-    in elim (is_responder (nodes_in d) here.node) as (λ b. is_responder (nodes_in d) here.node ≡ b → (if b then settled_block (addresses d) here else here) ≡ here) [
+    in elim (is_loose_responder (nodes_in d) here.node) as (λ b. is_loose_responder (nodes_in d) here.node ≡ b → (if b then settled_block (addresses d) here else here) ≡ here) [
       | true ↦ λ is.
           let nad = and-then-stays (good_nad (addresses d)) here.configured_nad (λ n given. good-stays d n (own-nad d none k a lt is n given))
           in λ i. record { node = here.node; protocol = here.protocol; configured_nad = nad i; response_error = here.response_error }
@@ -377,12 +377,12 @@ attributes-silent d none =
     in ap (λ fs. fs ++ flat_map (draft_nad_warnings e (responder_nads (nodes_in d) (drafts e (blocks_in d)))) (drafts e (blocks_in d)))
     (none-of-each (draft_warnings e) (blocks_in d) (All-map (λ a. draft_warnings e a ≡ []) loose_block d.attributes (λ k a lt.
     let node = (get_or d.attributes k a).node
-    in ap (λ b. when b (at_name UnknownName node) ++ cond (is_responder (nodes_in d) node) [] []) (not_from_true (is_node (nodes_in d) node) (known-blocks d none k a lt))
-    ∙ nothing-either (is_responder (nodes_in d) node))))
+    in ap (λ b. when b (at_name UnknownName node) ++ cond (is_loose_responder (nodes_in d) node) [] []) (not_from_true (is_loose_node (nodes_in d) node) (known-blocks d none k a lt))
+    ∙ nothing-either (is_loose_responder (nodes_in d) node))))
     ∙ (ap (λ ds. flat_map (draft_nad_warnings e (responder_nads (nodes_in d) ds)) ds) (drafts-stay d none)
     ∙ none-of-each (draft_nad_warnings e (addresses d)) d.attributes (λ k a lt.
     let here = get_or d.attributes k a
-    in elim (is_responder (nodes_in d) here.node) as (λ b. is_responder (nodes_in d) here.node ≡ b → (if b then nad_warning (addresses d) here.configured_nad else []) ≡ []) [
+    in elim (is_loose_responder (nodes_in d) here.node) as (λ b. is_loose_responder (nodes_in d) here.node ≡ b → (if b then nad_warning (addresses d) here.configured_nad else []) ≡ []) [
       | true ↦ λ is. nad-silent d here.configured_nad (λ n given. own-nad d none k a lt is n given)
       | false ↦ λ is. refl
     ] refl))
@@ -397,11 +397,11 @@ header-silent version language d marks =
     let M = map mark_warning marks
     in append-nil (M ++ [] ++ [] ++ []) ∙ (append-nil (M ++ [] ++ []) ∙ (append-nil (M ++ []) ∙ append-nil M))
 
-pub plain-stays : (version : List ℕ) (language : Option (List ℕ)) (d : Description) → starts_with nat_eq version (codes "1.") ≡ false → NamesTables d → IsFree d → StaysPlain (loosened version language d) d
+pub plain-stays : (version : List ℕ) (language : Option (List ℕ)) (d : Description) → starts_with nat_eq version (codes "1.") ≡ false → NamesTables d → IsFree d → StaysPlain (as_loose version language d) d
 plain-stays version language d new named free =
     let none = nothing-else d (free-is-sound d free)
-    in let l = loosened version language d
-    in let u = untimed l
+    in let l = as_loose version language d
+    in let u = without_tables l
     in let nowhere : old_version l.header ≡ None = cond-false (is_old l.header) (Some version) None new
     in let elsewhere = λ (v : Option (List ℕ)). elsewhere_of (nodes_in d) [] v
     in let attributes = ap (λ v. settled_attributes (elsewhere v) (blocks_in d)) nowhere ∙ attributes-stay d none

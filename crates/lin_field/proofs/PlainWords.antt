@@ -11,19 +11,19 @@ use Rattle.lin_ldf.specs.declared.token.TokenKind.TheVariants.{Semicolon}
 use Rattle.lin_text.proofs.Growing.{grows-more, same-growth}
 use Rattle.lin_text.specs.Written.{Grows}
 use Rattle.lin_text.specs.declared.buffered.TextWriter.{TextWriter}
-use Rattle.lin_field.specs.Plain.{after_commas, before_end, entries_text, entry_text, inside_at, listed, with_parts}
+use Rattle.lin_field.specs.Plain.{after_commas, before_end, table_entries_text, entry_text, inside_at, comma_list, with_parts}
 
 pub not-zero : (n : ℕ) → (n ≡ 0 → ⊥) → (n == 0) ≡ false
 not-zero n h = grind (arith, common_steps)
 
 -- the first item, and those after it
 pub first-at : {A : Type 0} (text : A → List ℕ) (xs : List A) (d : A) → 1 ≤ length xs
-    → text (get_or xs 0 d) ++ after_commas text (take (length xs - 1) (drop 1 xs)) ≡ listed text xs
+    → text (get_or xs 0 d) ++ after_commas text (take (length xs - 1) (drop 1 xs)) ≡ comma_list text xs
 first-at text [] d h = absurd (omega arith)
 first-at text (y ∷ ys) d h = ap (λ l. text y ++ after_commas text l) (take_all (length (y ∷ ys) - 1) ys (omega arith))
 
 pub first-and-more : {A : Type 0} (text : A → List ℕ) (xs : List A) (x : A) → 1 ≤ length xs → x ≡ get_or xs 0 x
-    → text x ++ after_commas text (take (length xs - 1) (drop 1 xs)) ≡ listed text xs
+    → text x ++ after_commas text (take (length xs - 1) (drop 1 xs)) ≡ comma_list text xs
 first-and-more text xs x h e = ap (λ z. text z ++ after_commas text (take (length xs - 1) (drop 1 xs))) e ∙ first-at text xs x h
 
 -- items one after the other, each with the part of its number, and one more
@@ -66,11 +66,11 @@ lent-texts f (x ∷ xs) = ap (λ l. f x.now ++ l) (lent-texts f xs)
 
 -- the text of the first of some entries, and those after it
 entries-next_suc : (source : List ℕ) (es : List TableEntry) (i : ℕ) (e : TableEntry) (ts : List Token) → e ≡ get_or es i e → i < length es
-    → entries_text source (drop i es) ts ≡ entry_text source e ts ++ entries_text source (drop (suc i) es) (before_end Semicolon 0 ts).1
+    → table_entries_text source (drop i es) ts ≡ entry_text source e ts ++ table_entries_text source (drop (suc i) es) (before_end Semicolon 0 ts).1
 entries-next_suc source [] i e ts is h = absurd (omega arith)
-entries-next_suc source (x ∷ es) zero e ts is h = ap (λ y. entry_text source y ts ++ entries_text source es (before_end Semicolon 0 ts).1) (sym is)
+entries-next_suc source (x ∷ es) zero e ts is h = ap (λ y. entry_text source y ts ++ table_entries_text source es (before_end Semicolon 0 ts).1) (sym is)
 entries-next_suc source (x ∷ es) (suc i) e ts is h = entries-next_suc source es i e ts is (omega arith)
 
 pub entries-next : (source : List ℕ) (es : List TableEntry) (i : ℕ) (e : TableEntry) (ts : List Token) → e ≡ get_or es i e → i < length es
-    → entries_text source (drop i es) ts ≡ entry_text source e ts ++ entries_text source (drop (i + 1) es) (before_end Semicolon 0 ts).1
+    → table_entries_text source (drop i es) ts ≡ entry_text source e ts ++ table_entries_text source (drop (i + 1) es) (before_end Semicolon 0 ts).1
 entries-next source es i e ts is h = rw (add-one) (entries-next_suc source es i e ts is h)

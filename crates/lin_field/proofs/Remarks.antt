@@ -13,7 +13,7 @@ use Rattle.std.proofs.lemmas.List.{length-map, map-append, nil_from_length}
 use Rattle.std.proofs.lemmas.List.Elements.{All-nil, All-cons, All-head, All-tail, filter_agree, filter-append}
 use Rattle.std.proofs.lemmas.List.Folds.{list_any_at, list_any_none}
 use Rattle.std.proofs.lemmas.List.Sorted.{All-permutation, IsPermutation-sym, searchable_from_sorted, list_any-IsPermutation, length_permutation, sum_by-IsPermutation, IsPermutation-map, IsPermutation-append, IsPermutation-append_left, IsPermutation-append_right, IsPermutation-append_comm, IsPermutation-trans}
-use Rattle.lin_cluster.specs.Findings.{candidates, finding_cmp, IsFree, IsSound}
+use Rattle.lin_cluster.specs.Findings.{candidates, finding_cmp, IsFree, HasOnlyShortSlots}
 use Rattle.lin_cluster.specs.declared.finding.Finding.{Finding}
 use Rattle.lin_cluster.proofs.NothingIn.{none-has}
 use Rattle.lin_cluster.proofs.FindingsOrder.{finding_total, findings_tied, then_tied, ordered_once}
@@ -22,8 +22,8 @@ use Rattle.lin_field.proofs.TightSlots.{none-tight, tight-are-short}
 use Rattle.lin_field.proofs.Permutations.{IsPermutation-filter}
 use Rattle.lin_field.specs.Checks.{same_finding, is_tight, wrong, remark, remarks, remark_cmp, AreRemarks}
 use Rattle.lin_field.specs.Times.{tight_slots}
-use Rattle.lin_field.specs.declared.checking.Remark.{Remark}
-use Rattle.lin_field.specs.declared.settling.Settled.{Settled}
+use Rattle.lin_field.specs.declared.field_check.Remark.{Remark}
+use Rattle.lin_field.specs.declared.normalizing.Normalized.{Normalized}
 
 -- ---- the same finding
 
@@ -125,7 +125,7 @@ nil-front [] ys e = refl
 nil-front (x ∷ xs) ys e = absurd (cc)
 
 -- what is tight is a slot that is too short, and nothing else
-pub sound-where-tight : (d : Description) → filter (λ f. not (is_tight d f)) (candidates d) ≡ [] → IsSound d
+pub sound-where-tight : (d : Description) → filter (λ f. not (is_tight d f)) (candidates d) ≡ [] → HasOnlyShortSlots d
 sound-where-tight d none k f lt =
     let here = get_or (candidates d) k f
     in any-holds (λ (t : Finding). t.number ≡ 9) (same_finding here) (here.number ≡ 9) (tight_slots d) (tight-are-short d)
@@ -134,7 +134,7 @@ sound-where-tight d none k f lt =
 
 -- ---- what is remarked
 
-wrong-found : (s : Settled) (found tight : List Finding) → IsPermutation (candidates s.description) found → IsPermutation (tight_slots s.description) tight
+wrong-found : (s : Normalized) (found tight : List Finding) → IsPermutation (candidates s.description) found → IsPermutation (tight_slots s.description) tight
     → IsPermutation (filter (λ f. not (is_tight s.description f)) (candidates s.description)) (filter (λ f. not (list_any (same_finding f) tight)) found)
 wrong-found s found tight all tights =
     let d = s.description
@@ -145,7 +145,7 @@ wrong-found s found tight all tights =
     (IsPermutation-filter p (candidates d) found all)
 
 -- what is wrong, in the order in which it is found
-wrong-remarks : (s : Settled) (found tight : List Finding) → IsPermutation (candidates s.description) found → IsPermutation (tight_slots s.description) tight
+wrong-remarks : (s : Normalized) (found tight : List Finding) → IsPermutation (candidates s.description) found → IsPermutation (tight_slots s.description) tight
     → IsPermutation (map (remark false) (wrong s)) (map (remark false) (filter (λ f. not (list_any (same_finding f) tight)) found) ++ map (remark false) s.byte_order.items)
 wrong-remarks s found tight all tights =
     let p = λ (f : Finding). not (is_tight s.description f)
@@ -154,7 +154,7 @@ wrong-remarks s found tight all tights =
     (IsPermutation-map (remark false) (wrong s) (filter q found ++ s.byte_order.items)
     (IsPermutation-append_left s.byte_order.items (filter p (candidates s.description)) (filter q found) (wrong-found s found tight all tights)))
 
-all-remarks : (s : Settled) (found tight : List Finding) → IsPermutation (candidates s.description) found → IsPermutation (tight_slots s.description) tight
+all-remarks : (s : Normalized) (found tight : List Finding) → IsPermutation (candidates s.description) found → IsPermutation (tight_slots s.description) tight
     → IsPermutation (remarks s) (map (remark false) (filter (λ f. not (list_any (same_finding f) tight)) found) ++ map (remark false) s.byte_order.items ++ map (remark true) tight ++ map (remark true) s.warnings.items)
 all-remarks s found tight all tights =
     let R = map (remark false) (filter (λ f. not (list_any (same_finding f) tight)) found) ++ map (remark false) s.byte_order.items
@@ -167,10 +167,10 @@ all-remarks s found tight all tights =
     (IsPermutation-map (remark true) (tight_slots s.description ++ s.warnings.items) (tight ++ s.warnings.items)
     (IsPermutation-append_left s.warnings.items (tight_slots s.description) tight tights)))
 
-pub wrong-length : (s : Settled) (rs : List Remark) → IsPermutation (map (remark false) (wrong s)) rs → length rs ≡ length (wrong s)
+pub wrong-length : (s : Normalized) (rs : List Remark) → IsPermutation (map (remark false) (wrong s)) rs → length rs ≡ length (wrong s)
 wrong-length s rs same = length_permutation (map (remark false) (wrong s)) rs same ∙ length-map (wrong s) (remark false)
 
-pub what-is-free : (s : Settled) → wrong s ≡ [] → IsSound s.description
+pub what-is-free : (s : Normalized) → wrong s ≡ [] → HasOnlyShortSlots s.description
 what-is-free s free = sound-where-tight s.description (nil-front (filter (λ f. not (is_tight s.description f)) (candidates s.description)) s.byte_order.items free)
 
 -- ---- at most one list is the answer
@@ -191,7 +191,7 @@ remarks_tied a b e =
     in let is_warning : a.is_warning ≡ b.is_warning = words-tied a.is_warning b.is_warning parts.1
     in λ i. record { finding = finding i; is_warning = is_warning i }
 
-pub one-answer : (s : Settled) (rs other : List Remark) → AreRemarks s rs → AreRemarks s other → rs ≡ other
+pub one-answer : (s : Normalized) (rs other : List Remark) → AreRemarks s rs → AreRemarks s other → rs ≡ other
 one-answer s rs other is also =
     ordered_once remark_cmp remark_total remarks_tied rs other is.ordered also.ordered
     (λ f. sum_by-IsPermutation f (remarks s) rs is.all ∙ sym (sum_by-IsPermutation f (remarks s) other also.all))
@@ -204,11 +204,11 @@ none-short d found all none =
     (λ k f lt. eqb-false (get_or found k f).number 9 (none-has (λ (g : Finding). g.number == 9) found none k f lt)))
 
 -- what the vector of remarks holds: what is wrong, and then all
-pub record Told (s : Settled) (wrongs all : List Remark) : Type 0 where
+pub record Told (s : Normalized) (wrongs all : List Remark) : Type 0 where
   pub wrongs-are : IsPermutation (map (remark false) (wrong s)) wrongs
   pub all-are : IsPermutation (remarks s) all
 
-pub told : (s : Settled) (found tight bs ws : List Finding) (r0 r1 r2 r3 r4 : List Remark) → IsPermutation (candidates s.description) found → IsPermutation (tight_slots s.description) tight → bs ≡ s.byte_order.items → ws ≡ s.warnings.items
+pub told : (s : Normalized) (found tight bs ws : List Finding) (r0 r1 r2 r3 r4 : List Remark) → IsPermutation (candidates s.description) found → IsPermutation (tight_slots s.description) tight → bs ≡ s.byte_order.items → ws ≡ s.warnings.items
     → r0 ≡ [] → IsPermutation (r0 ++ map (remark false) (filter (λ f. not (list_any (same_finding f) tight)) found)) r1 → r2 ≡ r1 ++ map (remark false) bs → r3 ≡ r2 ++ map (remark true) tight → r4 ≡ r3 ++ map (remark true) ws
     → Told s r2 r4
 told s found tight bs ws r0 r1 r2 r3 r4 founds tights b w e0 e1 e2 e3 e4 =
@@ -245,7 +245,7 @@ none-left tight (f ∷ fs) none all =
     let h : list_any (same_finding f) [] ≡ true = subst (λ (ts : List Finding). list_any (same_finding f) ts ≡ true) none (All-head (λ g. list_any (same_finding g) tight ≡ true) f fs all)
     in absurd (cc)
 
-pub silence : (s : Settled) → AreRemarks s [] → IsFree s.description × (s.warnings.items ≡ []) × (s.byte_order.items ≡ [])
+pub silence : (s : Normalized) → AreRemarks s [] → IsFree s.description × (s.warnings.items ≡ []) × (s.byte_order.items ≡ [])
 silence s are =
     let d = s.description
     in let none : remarks s ≡ [] = nil_from_length (remarks s) (sym (length_permutation (remarks s) [] are.all))

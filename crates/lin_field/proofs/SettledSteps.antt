@@ -12,7 +12,7 @@ use Rattle.lin_parts.specs.declared.description.Table.{Table}
 use Rattle.lin_ldf.specs.declared.token.Token.{Token}
 use Rattle.lin_field.specs.Attributes.{elsewhere_of, settled_attributes, attribute_warnings}
 use Rattle.lin_field.specs.Frames.{frame_warnings, kept_frame}
-use Rattle.lin_field.specs.Settled.{elsewhere, header_warnings, is_old, tells_tables, untimed, warnings_of}
+use Rattle.lin_field.specs.Settled.{elsewhere, header_warnings, is_old, tells_tables, without_tables, warnings_of}
 use Rattle.lin_field.specs.Signals.{settled_signal, signal_warnings}
 use Rattle.lin_field.specs.Tables.{event_warnings, kept_tables, settled_event, table_warnings}
 use Rattle.lin_field.specs.Times.{timing_warnings}
@@ -43,7 +43,7 @@ described l signals frames events attributes tables = record {
 -- the description before its times, part by part
 pub same-untimed : (l : Loose) (signals : List Signal) (frames : List Frame) (events : List EventFrame) (attributes : List Attributes) (tables : List Table)
     → signals ≡ map (settled_signal l.nodes) l.signals → frames ≡ filter_map kept_frame l.frames → events ≡ map (settled_event l.tables) l.events
-    → attributes ≡ settled_attributes (elsewhere l) l.attributes → tables ≡ [] → described l signals frames events attributes tables ≡ untimed l
+    → attributes ≡ settled_attributes (elsewhere l) l.attributes → tables ≡ [] → described l signals frames events attributes tables ≡ without_tables l
 same-untimed l signals frames events attributes tables s f e a t =
     let signals-is = map (settled_signal l.nodes) l.signals in
     let frames-is = filter_map kept_frame l.frames in
@@ -60,7 +60,7 @@ pub all-warned : (l : Loose) (marks seen : List Token) (old told : Bool) (tables
     → w2 ≡ w1 ++ flat_map (frame_warnings old) l.frames → old ≡ is_old l.header
     → w3 ≡ w2 ++ flat_map (event_warnings told tables) l.events → told ≡ tells_tables l.header → tables ≡ l.tables
     → w4 ≡ w3 ++ table_warnings l.tables
-    → w5 ≡ w4 ++ timing_warnings d ts → d ≡ untimed l → ts ≡ kept_tables l.tables
+    → w5 ≡ w4 ++ timing_warnings d ts → d ≡ without_tables l → ts ≡ kept_tables l.tables
     → w5 ≡ warnings_of l marks
 all-warned l marks seen old told tables d ts w0 w1 w2 w3 w4 w5 a seen-is b c old-is e told-is tables-is f g d-is ts-is =
     let header : w0 ≡ header_warnings l.header l.nodes marks = a ∙ ap (header_warnings l.header l.nodes) seen-is in
@@ -70,5 +70,5 @@ all-warned l marks seen old told tables d ts w0 w1 w2 w3 w4 w5 a seen-is b c old
     e ∙ ap (λ t. w2 ++ flat_map (event_warnings t tables) l.events) told-is ∙ ap (λ ts. w2 ++ flat_map (event_warnings (tells_tables l.header) ts) l.events) tables-is
     ∙ ap (λ w. w ++ flat_map (event_warnings (tells_tables l.header) l.tables) l.events) frames in
     let kept = f ∙ ap (λ w. w ++ table_warnings l.tables) events in
-    g ∙ ap (λ x. w4 ++ timing_warnings x ts) d-is ∙ ap (λ xs. w4 ++ timing_warnings (untimed l) xs) ts-is
-    ∙ ap (λ w. w ++ timing_warnings (untimed l) (kept_tables l.tables)) kept
+    g ∙ ap (λ x. w4 ++ timing_warnings x ts) d-is ∙ ap (λ xs. w4 ++ timing_warnings (without_tables l) xs) ts-is
+    ∙ ap (λ w. w ++ timing_warnings (without_tables l) (kept_tables l.tables)) kept

@@ -10,12 +10,12 @@ use Rattle.lin_ldf.specs.declared.fault.LdfFault.{LdfFault}
 use Rattle.lin_ldf.specs.declared.fault.LdfFault.TheVariants as faults
 use Rattle.lin_ldf.proofs.Unique.{same_tokens}
 use Rattle.lin_field.specs.Bytes.{field_bytes}
-use Rattle.lin_field.specs.Marks.{AreExtraMarks, mended, extra_in, blanked}
-use Rattle.lin_field.specs.Describes.{Reads, ReadsIn, SpellsIn}
+use Rattle.lin_field.specs.Marks.{AreExtraMarks, without_extra_marks, extra_in, text_with_blanks}
+use Rattle.lin_field.specs.Describes.{ReadsFieldText, ReadsIn, SpellsIn}
 use Rattle.lin_field.specs.Grammar.{field_file}
 use Rattle.lin_field.specs.GrammarLaws.{field_file_takes}
 use Rattle.lin_field.specs.declared.loose.Loose.{Loose}
-use Rattle.lin_field.specs.declared.reading.FieldText.{FieldText}
+use Rattle.lin_field.specs.declared.field_text.FieldText.{FieldText}
 use Rattle.lin_field.proofs.Mended.{marks_blanked}
 
 file_ends : (ss : List Symbol) (l : Loose) (rest : List Symbol) → field_file.spells ss l rest → rest ≡ []
@@ -45,24 +45,24 @@ abbrev pub seen_in : List ℕ → List Symbol
 seen_in bytes = symbols_in bytes (start_of bytes).tokens
 
 -- what the parser sees, step by step
-pub seen_blanked : (source over bytes : List ℕ) (marks lent : List Token) (ss : List Symbol) → over ≡ source → bytes ≡ blanked over lent → lent ≡ marks → ss ≡ seen_in bytes → ss ≡ seen_in (blanked source marks)
-seen_blanked source over bytes marks lent ss is left same seen = seen ∙ ap seen_in (left ∙ ap (λ (s : List ℕ). blanked s lent) is ∙ ap (blanked source) same)
+pub seen_blanked : (source over bytes : List ℕ) (marks lent : List Token) (ss : List Symbol) → over ≡ source → bytes ≡ text_with_blanks over lent → lent ≡ marks → ss ≡ seen_in bytes → ss ≡ seen_in (text_with_blanks source marks)
+seen_blanked source over bytes marks lent ss is left same seen = seen ∙ ap seen_in (left ∙ ap (λ (s : List ℕ). text_with_blanks s lent) is ∙ ap (text_with_blanks source) same)
 
-seen_mended : (source : List ℕ) (marks : List Token) (m : AreExtraMarks source marks) (ss : List Symbol) → ss ≡ seen_in (blanked source marks) → ss ≡ mended (symbols_in source m.0)
-seen_mended source marks m ss seen = seen ∙ ap (λ (ms : List Token). seen_in (blanked source ms)) m.2 ∙ marks_blanked source m.0 m.1
+seen_mended : (source : List ℕ) (marks : List Token) (m : AreExtraMarks source marks) (ss : List Symbol) → ss ≡ seen_in (text_with_blanks source marks) → ss ≡ without_extra_marks (symbols_in source m.0)
+seen_mended source marks m ss seen = seen ∙ ap (λ (ms : List Token). seen_in (text_with_blanks source ms)) m.2 ∙ marks_blanked source m.0 m.1
 
 -- what was read of the source with spaces in the place of its marks, its tokens spell
-pub read_spelled : (source : List ℕ) (marks : List Token) (m : AreExtraMarks source marks) (l : Loose) (left ss : List Symbol) → ss ≡ seen_in (blanked source marks) → Gives (Ok l) left (field_file.read ss)
+pub read_spelled : (source : List ℕ) (marks : List Token) (m : AreExtraMarks source marks) (l : Loose) (left ss : List Symbol) → ss ≡ seen_in (text_with_blanks source marks) → Gives (Ok l) left (field_file.read ss)
     → SpellsIn source m.0 l
 read_spelled source marks m l left ss seen e =
     subst (λ (xs : List Symbol). field_file.spells xs l []) (seen_mended source marks m ss seen) (found_spelled l left ss e)
 
 -- where its tokens spell something, only memory was out
-pub only_memory : (source : List ℕ) (marks : List Token) (m : AreExtraMarks source marks) (f : LdfFault) (ss : List Symbol) → ss ≡ seen_in (blanked source marks) → Fails f (field_file.read ss)
+pub only_memory : (source : List ℕ) (marks : List Token) (m : AreExtraMarks source marks) (f : LdfFault) (ss : List Symbol) → ss ≡ seen_in (text_with_blanks source marks) → Fails f (field_file.read ss)
     → (ts : List Token) → AreTokens source ts → (l : Loose) → SpellsIn source ts l → f ≡ faults.OutOfMemory
 only_memory source marks m f ss seen e ts are l h =
     let same : symbols_in source ts ≡ symbols_in source m.0 = ap (symbols_in source) (same_tokens (mark_len source) (behind_mark source) ts m.0 are m.1) in
-    fails_alone f ss l e (subst (λ (xs : List Symbol). field_file.spells xs l []) (ap mended same ∙ sym (seen_mended source marks m ss seen)) h)
+    fails_alone f ss l e (subst (λ (xs : List Symbol). field_file.spells xs l []) (ap without_extra_marks same ∙ sym (seen_mended source marks m ss seen)) h)
 
 same_text : (t u : FieldText) → t.loose ≡ u.loose → t.marks ≡ u.marks → t ≡ u
 same_text t u e f =
@@ -77,5 +77,5 @@ read_once source t u (ts, are, marks, spells) (us, are', marks', spells') =
     (spelled_once _ t.loose u.loose (subst (λ (vs : List Token). SpellsIn source vs t.loose) same spells) spells')
     (marks ∙ ap extra_in same ∙ sym marks')
 
-pub reads_once : (text : List ℕ) (t u : FieldText) → Reads text t → Reads text u → t ≡ u
+pub reads_once : (text : List ℕ) (t u : FieldText) → ReadsFieldText text t → ReadsFieldText text u → t ≡ u
 reads_once text t u h k = read_once (field_bytes text) t u h k

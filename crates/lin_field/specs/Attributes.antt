@@ -13,8 +13,8 @@ use Rattle.lin_cluster.specs.declared.finding.FindingKind.TheVariants.{NadTwice,
 use Rattle.lin_parts.specs.declared.description.Attributes.{Attributes}
 use Rattle.lin_parts.specs.declared.description.Name.{Name}
 use Rattle.lin_parts.specs.declared.description.Number.{Number}
-use Rattle.lin_field.specs.Names.{is_node, is_responder, node_list}
-use Rattle.lin_field.specs.Signals.{unknown_node}
+use Rattle.lin_field.specs.Names.{is_loose_node, is_loose_responder, node_list}
+use Rattle.lin_field.specs.Signals.{unknown_loose_node}
 use Rattle.lin_field.specs.declared.loose.LooseAttributes.{LooseAttributes}
 use Rattle.lin_field.specs.declared.loose.LooseNodes.{LooseNodes}
 use Rattle.lin_field.specs.declared.loose.NodeAddress.{NodeAddress}
@@ -43,13 +43,13 @@ draft e a = record {
   node = a.block.node;
   protocol = option_or a.block.protocol e.version;
   configured_nad =
-      if is_responder e.nodes a.block.node then chosen_nad e a else a.block.configured_nad;
+      if is_loose_responder e.nodes a.block.node then chosen_nad e a else a.block.configured_nad;
   response_error = a.block.response_error;
 }
 
 -- what a node without a block is told
 abbrev pub told_nad : Elsewhere → Name → Option Number
-told_nad e node = if is_responder e.nodes node then line_nad e node else None
+told_nad e node = if is_loose_responder e.nodes node then line_nad e node else None
 
 abbrev pub new_draft : Elsewhere → Name → Option Attributes
 new_draft e node =
@@ -64,15 +64,15 @@ new_draft e node =
 abbrev pub has_block : List LooseAttributes → Name → Bool
 has_block blocks node = list_any (λ a. same_name a.block.node node) blocks
 
-abbrev pub listed : {A : Type 0} → Option A → List A
-listed None = []
-listed (Some x) = x ∷ []
+abbrev pub as_list : {A : Type 0} → Option A → List A
+as_list None = []
+as_list (Some x) = x ∷ []
 
 abbrev pub new_drafts : Elsewhere → List LooseAttributes → Name → List Attributes
-new_drafts e blocks node = if has_block blocks node then [] else listed (new_draft e node)
+new_drafts e blocks node = if has_block blocks node then [] else as_list (new_draft e node)
 
 abbrev pub node_blocks : Elsewhere → List LooseAttributes → List LooseAttributes
-node_blocks e blocks = filter (λ a. is_node e.nodes a.block.node) blocks
+node_blocks e blocks = filter (λ a. is_loose_node e.nodes a.block.node) blocks
 
 -- the blocks of nodes, and then those for nodes that have none, in the order of the nodes
 abbrev pub drafts : Elsewhere → List LooseAttributes → List Attributes
@@ -81,17 +81,17 @@ drafts e blocks =
     ++ flat_map (new_drafts e blocks) (node_list e.nodes)
 
 abbrev pub responder_nad : LooseNodes → Attributes → Option Number
-responder_nad nodes a = if is_responder nodes a.node then a.configured_nad else None
+responder_nad nodes a = if is_loose_responder nodes a.node then a.configured_nad else None
 
 abbrev pub responder_nads : LooseNodes → List Attributes → List Number
 responder_nads nodes ds = filter_map (responder_nad nodes) ds
 
-abbrev pub is_nad : Number → Bool
-is_nad n = nat_le 1 n.value && nat_le n.value 125
+abbrev pub is_nad_number : Number → Bool
+is_nad_number n = nat_le 1 n.value && nat_le n.value 125
 
 -- an address from 1 to 125 that no earlier number of the text is
 abbrev pub good_nad : List Number → Number → Option Number
-good_nad nads n = if is_nad n && not (is_repeated nads n) then Some n else None
+good_nad nads n = if is_nad_number n && not (is_repeated nads n) then Some n else None
 
 abbrev pub settled_block : List Number → Attributes → Attributes
 settled_block nads a = record {
@@ -105,14 +105,14 @@ settled_block nads a = record {
 abbrev pub nad_warning : List Number → Option Number → List Finding
 nad_warning nads None = []
 nad_warning nads (Some n) =
-    when (not (is_nad n)) (at_number BadNad n)
-    ++ when (is_nad n && is_repeated nads n) (at_number NadTwice n)
+    when (not (is_nad_number n)) (at_number BadNad n)
+    ++ when (is_nad_number n && is_repeated nads n) (at_number NadTwice n)
 
 abbrev pub nad_warnings : List Number → Attributes → List Finding
 nad_warnings nads a = nad_warning nads a.configured_nad
 
 abbrev pub settled_draft : Elsewhere → List Number → Attributes → Attributes
-settled_draft e nads a = if is_responder e.nodes a.node then settled_block nads a else a
+settled_draft e nads a = if is_loose_responder e.nodes a.node then settled_block nads a else a
 
 abbrev pub settled_attributes : Elsewhere → List LooseAttributes → List Attributes
 settled_attributes e blocks =
@@ -127,7 +127,7 @@ abbrev pub initial_warning : Bool → Option Number → List Finding
 initial_warning is_taken None = []
 initial_warning is_taken (Some n) =
     when is_taken (at_number InitialNad n)
-    ++ when (not is_taken && not (is_nad n)) (at_number BadNad n)
+    ++ when (not is_taken && not (is_nad_number n)) (at_number BadNad n)
 
 -- 12 NadTwice of the line of a responder that is configured to another address
 abbrev pub beside_configured : Option Number → Option Number → List Finding
@@ -145,8 +145,8 @@ address_warnings e a =
 -- 1 UnknownName of a block of no node
 abbrev pub draft_warnings : Elsewhere → LooseAttributes → List Finding
 draft_warnings e a =
-    unknown_node e.nodes a.block.node
-    ++ (if is_responder e.nodes a.block.node then address_warnings e a else [])
+    unknown_loose_node e.nodes a.block.node
+    ++ (if is_loose_responder e.nodes a.block.node then address_warnings e a else [])
 
 -- whether a number stands at the place of another
 abbrev pub is_there : Number → Number → Bool
@@ -159,14 +159,14 @@ is_later e l = option_map_or (λ n. not (is_there n l.nad)) (line_nad e l.node) 
 -- 1 UnknownName of a line of no node; 12 NadTwice of a responder's later line
 abbrev pub line_warning : Elsewhere → NodeAddress → List Finding
 line_warning e l =
-    unknown_node e.nodes l.node
-    ++ when (is_responder e.nodes l.node && is_later e l) (at_number NadTwice l.nad)
+    unknown_loose_node e.nodes l.node
+    ++ when (is_loose_responder e.nodes l.node && is_later e l) (at_number NadTwice l.nad)
 
 abbrev pub line_warnings : Elsewhere → List Finding
 line_warnings e = flat_map (line_warning e) e.lines
 
 abbrev pub draft_nad_warnings : Elsewhere → List Number → Attributes → List Finding
-draft_nad_warnings e nads a = if is_responder e.nodes a.node then nad_warnings nads a else []
+draft_nad_warnings e nads a = if is_loose_responder e.nodes a.node then nad_warnings nads a else []
 
 abbrev pub attribute_warnings : Elsewhere → List LooseAttributes → List Finding
 attribute_warnings e blocks =

@@ -8,10 +8,10 @@ use Rattle.lin_cluster.specs.Findings.{candidates, finding_cmp, IsFree}
 use Rattle.lin_cluster.specs.declared.finding.Finding.{Finding}
 use Rattle.lin_parts.specs.declared.description.Description.{Description}
 use Rattle.lin_field.specs.Times.{tight_slots}
-use Rattle.lin_field.specs.declared.checking.FieldFault.{FieldFault}
-use Rattle.lin_field.specs.declared.checking.FieldFault.TheVariants.{Remarks, OutOfMemory}
-use Rattle.lin_field.specs.declared.checking.Remark.{Remark}
-use Rattle.lin_field.specs.declared.settling.Settled.{Settled}
+use Rattle.lin_field.specs.declared.field_check.FieldFault.{FieldFault}
+use Rattle.lin_field.specs.declared.field_check.FieldFault.TheVariants.{Remarks, OutOfMemory}
+use Rattle.lin_field.specs.declared.field_check.Remark.{Remark}
+use Rattle.lin_field.specs.declared.normalizing.Normalized.{Normalized}
 
 abbrev pub same_finding : Finding → Finding → Bool
 same_finding a b =
@@ -22,17 +22,17 @@ abbrev pub is_tight : Description → Finding → Bool
 is_tight d f = list_any (same_finding f) (tight_slots d)
 
 -- what is wrong: all that is found but tight slots, and where the order of bytes matters
-abbrev pub wrong : Settled → List Finding
+abbrev pub wrong : Normalized → List Finding
 wrong s =
     filter (λ f. not (is_tight s.description f)) (candidates s.description) ++ s.byte_order.items
 
-abbrev pub IsFieldFree : Settled → Type 0
+abbrev pub IsFieldFree : Normalized → Type 0
 IsFieldFree s = wrong s ≡ []
 
 abbrev pub remark : Bool → Finding → Remark
 remark is_warning f = record { finding = f; is_warning = is_warning }
 
-abbrev pub remarks : Settled → List Remark
+abbrev pub remarks : Normalized → List Remark
 remarks s =
     map (remark false) (wrong s)
     ++ map (remark true) (tight_slots s.description ++ s.warnings.items)
@@ -42,13 +42,13 @@ abbrev pub remark_cmp : Remark → Remark → Ordering
 remark_cmp a b =
     ordering_then (finding_cmp a.finding b.finding) (bool_cmp a.is_warning b.is_warning)
 
-pub record AreRemarks (s : Settled) (rs : List Remark) : Type 0 where
+pub record AreRemarks (s : Normalized) (rs : List Remark) : Type 0 where
   pub all : IsPermutation (remarks s) rs
   pub ordered : IsSorted remark_cmp rs
 
 -- why there is no cluster: something is wrong, and this is all that is remarked, which no other list
 -- is; out of memory says nothing of the text
-abbrev pub IsRefusalOf : Settled → FieldFault → Type 0
+abbrev pub IsRefusalOf : Normalized → FieldFault → Type 0
 IsRefusalOf s (Remarks rs) =
     AreRemarks s rs × (wrong s ≢ []) × ((other : List Remark) → AreRemarks s other → other ≡ rs)
 IsRefusalOf s OutOfMemory = Unit {0}
@@ -59,5 +59,5 @@ IsRefusalOf s OutOfMemory = Unit {0}
 -- a warning, and the order of bytes doesn't matter
 abbrev pub SilenceIsFree : Type 0
 SilenceIsFree =
-    (s : Settled) → AreRemarks s []
+    (s : Normalized) → AreRemarks s []
     → IsFree s.description × (s.warnings.items ≡ []) × (s.byte_order.items ≡ [])

@@ -13,22 +13,22 @@ use Rattle.lin_ldf.specs.Loops.{gathering, is_next}
 use Rattle.lin_ldf.specs.Numbers.{thousandths, fraction_part, fraction_digit, has_zero_tail}
 use Rattle.lin_ldf.specs.Numbers.{is_hexadecimal, is_in_limit, is_whole, int_value}
 use Rattle.lin_ldf.specs.Words.{open_brace, close_brace, colon, semicolon, comma, equals, word}
-use Rattle.lin_ldf.specs.Words.{is_word_but, name_of, place_of, new_word, number_of, int, ints, opening}
+use Rattle.lin_ldf.specs.Words.{is_word_but, name_of, place_of, new_word, placed_number, int, ints, opening}
 use Rattle.lin_ldf.specs.Words.{is_word_next, words, other_words, same_state, with_name, block}
 use Rattle.lin_ldf.specs.Words.{no_word, list, once}
 use Rattle.lin_ldf.specs.Grammar.{slaves, placed_signals, frame_before, event_rest}
-use Rattle.lin_ldf.specs.Grammar.{protocol_text, nad, attr, no_settings, with_node, entry_before}
+use Rattle.lin_ldf.specs.Grammar.{protocol_text, nad_attribute, attr, no_settings, with_node, entry_before}
 use Rattle.lin_ldf.specs.Grammar.{section, no_sections, or_empty}
 use Rattle.lin_ldf.specs.declared.token.TokenKind.{TokenKind}
 use Rattle.lin_ldf.specs.declared.token.TokenKind.TheVariants as kinds
-use Rattle.lin_ldf.specs.declared.node_attributes.Settings.{Settings}
+use Rattle.lin_ldf.specs.declared.node_attributes.AttributeSettings.{AttributeSettings}
 use Rattle.lin_ldf.specs.declared.node_attributes.NodeBlocks.{NodeBlocks}
 use Rattle.lin_ldf.specs.declared.section.Sections.{Sections}
 use Rattle.lin_parts.specs.declared.description.Name.{Name}
 use Rattle.lin_parts.specs.declared.description.Number.{Number}
 use Rattle.lin_parts.specs.declared.description.PlacedSignal.{PlacedSignal}
-use Rattle.lin_parts.specs.declared.place.Place.{Place}
-use Rattle.lin_field.specs.declared.loose.Decimal.{Decimal}
+use Rattle.lin_parts.specs.declared.place.Location.{Location}
+use Rattle.lin_field.specs.declared.loose.RoundedDecimal.{RoundedDecimal}
 use Rattle.lin_field.specs.declared.loose.Header.{Header}
 use Rattle.lin_field.specs.declared.loose.LooseNodes.{LooseNodes}
 use Rattle.lin_field.specs.declared.loose.WideNumber.{WideNumber}
@@ -76,24 +76,24 @@ optional test f = either test (as_value some_of f) (nothing None)
 -- ---- numbers
 
 -- the value of a NUM in decimal form, in thousandths, rounded half up
-abbrev pub rounded : List ℕ → ℕ
-rounded w = thousandths w + (if nat_le 5 (fraction_digit (fraction_part w) 3) then 1 else 0)
+abbrev pub rounded_thousandths : List ℕ → ℕ
+rounded_thousandths w = thousandths w + (if nat_le 5 (fraction_digit (fraction_part w) 3) then 1 else 0)
 
 abbrev pub is_decimal : List ℕ → Bool
-is_decimal w = not (is_hexadecimal w) && is_in_limit (rounded w)
+is_decimal w = not (is_hexadecimal w) && is_in_limit (rounded_thousandths w)
 
-abbrev pub decimal_of : Symbol → Decimal
-decimal_of t = record {
-  number = number_of rounded t;
+abbrev pub rounded_decimal : Symbol → RoundedDecimal
+rounded_decimal t = record {
+  number = placed_number rounded_thousandths t;
   is_rounded = not (has_zero_tail (fraction_part t.text));
 }
 
 -- DECR: a NUM in decimal form, in thousandths within the limit
-abbrev pub decimal : Form Decimal
-decimal = token (λ t. is_kind kinds.Number t.kind && is_decimal t.text) decimal_of
+abbrev pub decimal : Form RoundedDecimal
+decimal = token (λ t. is_kind kinds.Number t.kind && is_decimal t.text) rounded_decimal
 
 -- DECR, unit, mark
-abbrev pub decimal_in : List ℕ → TokenKind → Form Decimal
+abbrev pub decimal_in : List ℕ → TokenKind → Form RoundedDecimal
 decimal_in unit end = decimal <& (keyword unit <& mark end)
 
 -- at most 18,446,744,073,709,551,615
@@ -116,12 +116,12 @@ wide_int =
 -- ---- the header
 
 -- WORD '=' ( TEXT | NUM ) ';'
-abbrev pub version : List ℕ → Form (List ℕ)
-version w = keyword w <& equals &> protocol_text <& semicolon
+abbrev pub loose_version : List ℕ → Form (List ℕ)
+loose_version w = keyword w <& equals &> protocol_text <& semicolon
 
 -- 'LIN_speed' '=' DECR 'kbps' ';'
-abbrev pub speed : Form Decimal
-speed =
+abbrev pub loose_speed : Form RoundedDecimal
+loose_speed =
     keyword (codes "LIN_speed") <& equals &> decimal_in (codes "kbps") kinds.Semicolon
 
 -- the words of the lines that stand once at most
@@ -167,7 +167,7 @@ with_version s x = record s { version = Some x }
 abbrev pub with_language : Lines → List ℕ → Lines
 with_language s x = record s { language = Some x }
 
-abbrev pub with_speed : Lines → Decimal → Lines
+abbrev pub with_speed : Lines → RoundedDecimal → Lines
 with_speed s x = record s { speed = Some x }
 
 abbrev pub with_little : Lines → Name → Lines
@@ -181,22 +181,22 @@ with_other s None = s
 with_other s (Some name) = record s { unknown = s.unknown ++ name ∷ [] }
 
 -- a line after others: the first five once at most
-abbrev pub line_of : LineWord → Lines → Form Lines
-line_of line_words.Version s =
-    as_value (with_version s) (once s.version (version (codes "LIN_protocol_version")))
-line_of line_words.Language s =
-    as_value (with_language s) (once s.language (version (codes "LIN_language_version")))
-line_of line_words.Speed s = as_value (with_speed s) (once s.speed speed)
-line_of line_words.LittleEndian s =
+abbrev pub header_line_of : LineWord → Lines → Form Lines
+header_line_of line_words.Version s =
+    as_value (with_version s) (once s.version (loose_version (codes "LIN_protocol_version")))
+header_line_of line_words.Language s =
+    as_value (with_language s) (once s.language (loose_version (codes "LIN_language_version")))
+header_line_of line_words.Speed s = as_value (with_speed s) (once s.speed loose_speed)
+header_line_of line_words.LittleEndian s =
     as_value (with_little s)
     (once s.little_endian (order_line (codes "LIN_sig_byte_order_little_endian")))
-line_of line_words.BigEndian s =
+header_line_of line_words.BigEndian s =
     as_value (with_big s)
     (once s.big_endian (order_line (codes "LIN_sig_byte_order_big_endian")))
-line_of line_words.Other s = as_value (with_other s) (unless line_words_known other_line)
+header_line_of line_words.Other s = as_value (with_other s) (unless line_words_known other_line)
 
-abbrev pub line : Lines → Form Lines
-line s = choice front_line (λ w. line_of w s)
+abbrev pub header_line : Lines → Form Lines
+header_line s = choice front_line (λ w. header_line_of w s)
 
 abbrev pub is_line_next : List Symbol → Bool
 is_line_next ts = is_front (is_word_but line_ends) ts
@@ -216,15 +216,15 @@ no_lines = record {
 
 -- a line that begins with none of those words
 abbrev pub one_line : Lines → Form Lines
-one_line s = unless line_ends (line s)
+one_line s = unless line_ends (header_line s)
 
 -- { line }*
 abbrev pub lines_behind : Lines → Form Lines
 lines_behind s = gathering no_line one_line s
 
 -- 'LIN_description_file' ';' { line }*
-abbrev pub lines : Form Lines
-lines = keyword (codes "LIN_description_file") <& semicolon &> lines_behind no_lines
+abbrev pub header_lines : Form Lines
+header_lines = keyword (codes "LIN_description_file") <& semicolon &> lines_behind no_lines
 
 -- the line of little endian, which a line of big endian leaves out
 abbrev pub order_left_out : Option Name → Option Name → List Name
@@ -232,7 +232,7 @@ order_left_out None big = []
 order_left_out (Some little) None = []
 order_left_out (Some little) (Some big) = little ∷ []
 
-abbrev pub header_by : Lines → List ℕ → Decimal → Header
+abbrev pub header_by : Lines → List ℕ → RoundedDecimal → Header
 header_by s version speed = record {
   version = version;
   language = s.language;
@@ -241,12 +241,12 @@ header_by s version speed = record {
   unknown = s.unknown ++ order_left_out s.little_endian s.big_endian;
 }
 
-abbrev pub header_of : Lines → Option Header
-header_of s = s.version >>= λ version. s.speed >>= λ speed. Some (header_by s version speed)
+abbrev pub complete_header : Lines → Option Header
+complete_header s = s.version >>= λ version. s.speed >>= λ speed. Some (header_by s version speed)
 
 -- lines, among them a version and a speed
-abbrev pub header : Form Header
-header = made_of header_of lines
+abbrev pub loose_header : Form Header
+loose_header = made_of complete_header header_lines
 
 -- ---- nodes
 
@@ -255,41 +255,41 @@ abbrev pub master_rest : Form (Unit {0})
 master_rest = either (is_next kinds.Comma) (comma &> list) semicolon
 
 -- 'Master' ':' WORD ',' DECR 'ms' ',' DECR 'ms' [ ',' list ] ';'
-abbrev pub master : List (List ℕ) → Form (Name × (Decimal × Decimal))
-master seen =
+abbrev pub loose_master : List (List ℕ) → Form (Name × (RoundedDecimal × RoundedDecimal))
+loose_master seen =
     keyword (codes "Master") <& colon &> new_word seen <& comma
     & decimal_in (codes "ms") kinds.Comma & decimal <& keyword (codes "ms") <& master_rest
 
-abbrev pub nodes_of : (Name × (Decimal × Decimal)) × List Name → LooseNodes
-nodes_of p = record { master = p.0.0; time_base = p.0.1.0; jitter = p.0.1.1; slaves = p.1 }
+abbrev pub as_loose_nodes : (Name × (RoundedDecimal × RoundedDecimal)) × List Name → LooseNodes
+as_loose_nodes p = record { master = p.0.0; time_base = p.0.1.0; jitter = p.0.1.1; slaves = p.1 }
 
 -- 'Nodes' '{' master slaves
-abbrev pub nodes : Form LooseNodes
-nodes =
-    as_value nodes_of
-    (keyword (codes "Nodes") <& open_brace &> master [] &= λ m. slaves (with_name [] m.0))
+abbrev pub loose_nodes : Form LooseNodes
+loose_nodes =
+    as_value as_loose_nodes
+    (keyword (codes "Nodes") <& open_brace &> loose_master [] &= λ m. slaves (with_name [] m.0))
 
-abbrev pub node_names : LooseNodes → List (List ℕ)
-node_names n = fold with_name (n.master.text ∷ []) n.slaves
+abbrev pub loose_node_names : LooseNodes → List (List ℕ)
+loose_node_names n = fold with_name (n.master.text ∷ []) n.slaves
 
 -- ---- signals
 
-abbrev pub array_of : Place × List Number → LooseInit
-array_of p = Array p.0 p.1
+abbrev pub as_loose_array : Location × List Number → LooseInit
+as_loose_array p = Array p.0 p.1
 
 -- '{' ints '}'
-abbrev pub array : Form LooseInit
-array = as_value array_of (opening & ints <& close_brace)
+abbrev pub loose_array : Form LooseInit
+loose_array = as_value as_loose_array (opening & ints <& close_brace)
 
-abbrev pub scalar_of : WideNumber → LooseInit
-scalar_of n = Scalar n
+abbrev pub as_loose_scalar : WideNumber → LooseInit
+as_loose_scalar n = Scalar n
 
 -- WIDE | array
 abbrev pub loose_init : Form LooseInit
-loose_init = either (is_next kinds.OpenBrace) array (as_value scalar_of wide_int)
+loose_init = either (is_next kinds.OpenBrace) loose_array (as_value as_loose_scalar wide_int)
 
-abbrev pub signal_of : Name × (Number × (LooseInit × (Name × List Name))) → LooseSignal
-signal_of p = record {
+abbrev pub as_loose_signal : Name × (Number × (LooseInit × (Name × List Name))) → LooseSignal
+as_loose_signal p = record {
   name = p.0;
   size = p.1.0;
   init = p.1.1.0;
@@ -300,20 +300,20 @@ signal_of p = record {
 -- WORD ':' INT ',' init ',' WORD { ',' WORD }* ';'
 abbrev pub loose_signal : List (List ℕ) → Form LooseSignal
 loose_signal seen =
-    as_value signal_of
+    as_value as_loose_signal
     (new_word seen <& colon & int <& comma & loose_init <& comma & word & other_words <& semicolon)
 
-abbrev pub with_signal : List (List ℕ) → LooseSignal → List (List ℕ)
-with_signal seen s = seen ++ s.name.text ∷ []
+abbrev pub with_loose_signal : List (List ℕ) → LooseSignal → List (List ℕ)
+with_loose_signal seen s = seen ++ s.name.text ∷ []
 
 -- ---- frames
 
 -- [ ',' INT ]
-abbrev pub frame_size : Form (Option Number)
-frame_size = optional (is_next kinds.Comma) (comma &> int)
+abbrev pub optional_size : Form (Option Number)
+optional_size = optional (is_next kinds.Comma) (comma &> int)
 
-abbrev pub frame_of : Name × (Number × (Name × (Option Number × List PlacedSignal))) → LooseFrame
-frame_of p = record {
+abbrev pub as_loose_frame : Name × (Number × (Name × (Option Number × List PlacedSignal))) → LooseFrame
+as_loose_frame p = record {
   name = p.0;
   id = p.1.0;
   publisher = p.1.1.0;
@@ -323,24 +323,24 @@ frame_of p = record {
 
 -- WORD ':' INT ',' WORD [ ',' INT ] placed_signals
 abbrev pub loose_frame : List (List ℕ) → Form LooseFrame
-loose_frame seen = as_value frame_of (frame_before (word & frame_size & placed_signals) seen)
+loose_frame seen = as_value as_loose_frame (frame_before (word & optional_size & placed_signals) seen)
 
-abbrev pub with_frame : List (List ℕ) → LooseFrame → List (List ℕ)
-with_frame seen f = seen ++ f.name.text ∷ []
+abbrev pub with_loose_frame : List (List ℕ) → LooseFrame → List (List ℕ)
+with_loose_frame seen f = seen ++ f.name.text ∷ []
 
 -- [ WORD ',' ]
 abbrev pub event_table : Form (Option Name)
 event_table = optional (is_next kinds.Word) (word <& comma)
 
-abbrev pub event_of : Name × (Option Name × (Number × List Name)) → LooseEvent
-event_of p = record { name = p.0; table = p.1.0; id = p.1.1.0; members = p.1.1.1 }
+abbrev pub as_loose_event : Name × (Option Name × (Number × List Name)) → LooseEvent
+as_loose_event p = record { name = p.0; table = p.1.0; id = p.1.1.0; members = p.1.1.1 }
 
 -- WORD ':' [ WORD ',' ] INT ',' words ';'
 abbrev pub loose_event : List (List ℕ) → Form LooseEvent
-loose_event seen = as_value event_of (new_word seen <& colon & event_table & event_rest)
+loose_event seen = as_value as_loose_event (new_word seen <& colon & event_table & event_rest)
 
-abbrev pub with_event : List (List ℕ) → LooseEvent → List (List ℕ)
-with_event seen e = seen ++ e.name.text ∷ []
+abbrev pub with_loose_event : List (List ℕ) → LooseEvent → List (List ℕ)
+with_loose_event seen e = seen ++ e.name.text ∷ []
 
 -- ---- node attributes
 
@@ -350,14 +350,14 @@ initial_word = codes "initial_NAD" ∷ []
 abbrev pub with_initial : LooseSettings → Number → LooseSettings
 with_initial s n = record s { initial_nad = Some n }
 
-abbrev pub with_settings : LooseSettings → Settings → LooseSettings
+abbrev pub with_settings : LooseSettings → AttributeSettings → LooseSettings
 with_settings s plain = record s { plain = plain }
 
 -- attr = 'initial_NAD' '=' INT ';' | .., the first once at most
 abbrev pub loose_attr : LooseSettings → Form LooseSettings
 loose_attr s =
     either (is_word_next (codes "initial_NAD"))
-    (as_value (with_initial s) (once s.initial_nad (nad (codes "initial_NAD"))))
+    (as_value (with_initial s) (once s.initial_nad (nad_attribute (codes "initial_NAD"))))
     (as_value (with_settings s) (unless initial_word (attr s.plain)))
 
 abbrev pub no_loose_settings : LooseSettings
@@ -367,8 +367,8 @@ no_loose_settings = record { plain = no_settings; initial_nad = None }
 abbrev pub loose_settings : Form LooseSettings
 loose_settings = open_brace &> gathering no_word loose_attr no_loose_settings <& close_brace
 
-abbrev pub attributes_of : Name × LooseSettings → LooseAttributes
-attributes_of p = record {
+abbrev pub as_loose_attributes : Name × LooseSettings → LooseAttributes
+as_loose_attributes p = record {
   block = record {
     node = p.0;
     protocol = p.1.plain.protocol;
@@ -380,39 +380,39 @@ attributes_of p = record {
 
 -- WORD settings, where the WORD isn't a node that has a block
 abbrev pub loose_block : NodeBlocks → Form LooseAttributes
-loose_block s = as_value attributes_of (new_word s.seen & loose_settings)
+loose_block s = as_value as_loose_attributes (new_word s.seen & loose_settings)
 
-abbrev pub with_block : NodeBlocks → LooseAttributes → NodeBlocks
-with_block s a = with_node s a.block.node.text
+abbrev pub with_loose_block : NodeBlocks → LooseAttributes → NodeBlocks
+with_loose_block s a = with_node s a.block.node.text
 
-abbrev pub address_of : Name × Number → NodeAddress
-address_of p = record { node = p.0; nad = p.1 }
+abbrev pub as_node_address : Name × Number → NodeAddress
+as_node_address p = record { node = p.0; nad = p.1 }
 
 -- WORD ':' INT ';'
-abbrev pub address : Form NodeAddress
-address = as_value address_of (word <& colon & int <& semicolon)
+abbrev pub node_address : Form NodeAddress
+node_address = as_value as_node_address (word <& colon & int <& semicolon)
 
 -- ---- schedule tables
 
-abbrev pub entry_of : Name × (Bool × Decimal) → LooseEntry
-entry_of p = record { name = p.0; has_group = p.1.0; delay = p.1.1 }
+abbrev pub as_loose_entry : Name × (Bool × RoundedDecimal) → LooseEntry
+as_loose_entry p = record { name = p.0; has_group = p.1.0; delay = p.1.1 }
 
 -- WORD [ group ] 'delay' DECR 'ms' ';'
 abbrev pub loose_entry : Form LooseEntry
-loose_entry = as_value entry_of (entry_before (decimal_in (codes "ms") kinds.Semicolon))
+loose_entry = as_value as_loose_entry (entry_before (decimal_in (codes "ms") kinds.Semicolon))
 
 abbrev pub loose_entries : Form (List LooseEntry)
 loose_entries = block same_state (λ (s : Unit {0}). loose_entry) tt
 
-abbrev pub table_of : Name × List LooseEntry → LooseTable
-table_of p = record { name = p.0; entries = p.1 }
+abbrev pub as_loose_table : Name × List LooseEntry → LooseTable
+as_loose_table p = record { name = p.0; entries = p.1 }
 
 -- WORD entries
 abbrev pub loose_table : List (List ℕ) → Form LooseTable
-loose_table seen = as_value table_of (new_word seen & loose_entries)
+loose_table seen = as_value as_loose_table (new_word seen & loose_entries)
 
-abbrev pub with_table : List (List ℕ) → LooseTable → List (List ℕ)
-with_table seen t = seen ++ t.name.text ∷ []
+abbrev pub with_loose_table : List (List ℕ) → LooseTable → List (List ℕ)
+with_loose_table seen t = seen ++ t.name.text ∷ []
 
 -- ---- sections
 
@@ -438,59 +438,59 @@ front_word ts = field_word (front ts).text
 abbrev pub with_plain : LooseSections → Sections → LooseSections
 with_plain s plain = record s { plain = plain }
 
-abbrev pub with_signals : LooseSections → List LooseSignal → LooseSections
-with_signals s x = record s { signals = Some x }
+abbrev pub with_loose_signals : LooseSections → List LooseSignal → LooseSections
+with_loose_signals s x = record s { signals = Some x }
 
-abbrev pub with_frames : LooseSections → List LooseFrame → LooseSections
-with_frames s x = record s {
+abbrev pub with_loose_frames : LooseSections → List LooseFrame → LooseSections
+with_loose_frames s x = record s {
   frames = Some x;
-  plain = record s.plain { frame_names = fold with_frame s.plain.frame_names x };
+  plain = record s.plain { frame_names = fold with_loose_frame s.plain.frame_names x };
 }
 
-abbrev pub with_events : LooseSections → List LooseEvent → LooseSections
-with_events s x = record s {
+abbrev pub with_loose_events : LooseSections → List LooseEvent → LooseSections
+with_loose_events s x = record s {
   events = Some x;
-  plain = record s.plain { frame_names = fold with_event s.plain.frame_names x };
+  plain = record s.plain { frame_names = fold with_loose_event s.plain.frame_names x };
 }
 
-abbrev pub with_attributes : LooseSections → List LooseAttributes → LooseSections
-with_attributes s x = record s {
+abbrev pub with_loose_attributes : LooseSections → List LooseAttributes → LooseSections
+with_loose_attributes s x = record s {
   attributes = Some x;
-  plain = record s.plain { blocks = fold with_block s.plain.blocks x };
+  plain = record s.plain { blocks = fold with_loose_block s.plain.blocks x };
 }
 
 abbrev pub with_addresses : LooseSections → List NodeAddress → LooseSections
 with_addresses s x = record s { addresses = Some x }
 
-abbrev pub with_tables : LooseSections → List LooseTable → LooseSections
-with_tables s x = record s { tables = Some x }
+abbrev pub with_loose_tables : LooseSections → List LooseTable → LooseSections
+with_loose_tables s x = record s { tables = Some x }
 
 -- a section after others: each used one stands once at most, and the names of frames, sporadic
 -- frames and event-triggered frames differ
 abbrev pub loose_section_of : FieldWord → LooseSections → Form LooseSections
 loose_section_of field_words.Signals s =
-    as_value (with_signals s)
-    (once s.signals (keyword (codes "Signals") &> block with_signal loose_signal []))
+    as_value (with_loose_signals s)
+    (once s.signals (keyword (codes "Signals") &> block with_loose_signal loose_signal []))
 loose_section_of field_words.Frames s =
-    as_value (with_frames s)
+    as_value (with_loose_frames s)
     (once s.frames
-    (keyword (codes "Frames") &> block with_frame loose_frame s.plain.frame_names))
+    (keyword (codes "Frames") &> block with_loose_frame loose_frame s.plain.frame_names))
 loose_section_of field_words.Event s =
-    as_value (with_events s)
+    as_value (with_loose_events s)
     (once s.events
-    (keyword (codes "Event_triggered_frames") &> block with_event loose_event s.plain.frame_names))
+    (keyword (codes "Event_triggered_frames") &> block with_loose_event loose_event s.plain.frame_names))
 loose_section_of field_words.Attributes s =
-    as_value (with_attributes s)
+    as_value (with_loose_attributes s)
     (once s.attributes
-    (keyword (codes "Node_attributes") &> block with_block loose_block s.plain.blocks))
+    (keyword (codes "Node_attributes") &> block with_loose_block loose_block s.plain.blocks))
 loose_section_of field_words.Addresses s =
     as_value (with_addresses s)
     (once s.addresses
     (keyword (codes "Diagnostic_addresses")
-    &> block same_state (λ (s : Unit {0}). address) tt))
+    &> block same_state (λ (s : Unit {0}). node_address) tt))
 loose_section_of field_words.Tables s =
-    as_value (with_tables s)
-    (once s.tables (keyword (codes "Schedule_tables") &> block with_table loose_table []))
+    as_value (with_loose_tables s)
+    (once s.tables (keyword (codes "Schedule_tables") &> block with_loose_table loose_table []))
 loose_section_of field_words.Plain s =
     as_value (with_plain s) (unless field_section_words (section s.plain))
 
@@ -528,5 +528,5 @@ loose_of p = record {
 abbrev pub field_file : Form Loose
 field_file =
     as_value loose_of
-    ((header & nodes)
-    &= λ p. gathering no_word loose_section (no_loose_sections (node_names p.1)) <& end)
+    ((loose_header & loose_nodes)
+    &= λ p. gathering no_word loose_section (no_loose_sections (loose_node_names p.1)) <& end)

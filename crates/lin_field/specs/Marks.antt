@@ -16,10 +16,10 @@ is_extra kind next =
     || (is_kind Semicolon kind && is_kind Semicolon next)
 
 -- the tokens without those
-abbrev pub mended : List Symbol → List Symbol
-mended [] = []
-mended (t ∷ ts) =
-    if is_front (λ u. is_extra t.kind u.kind) ts then mended ts else t ∷ mended ts
+abbrev pub without_extra_marks : List Symbol → List Symbol
+without_extra_marks [] = []
+without_extra_marks (t ∷ ts) =
+    if is_front (λ u. is_extra t.kind u.kind) ts then without_extra_marks ts else t ∷ without_extra_marks ts
 
 -- those
 abbrev pub extra_after : Token → List Token → List Token
@@ -40,5 +40,5 @@ AreExtraMarks source marks =
 abbrev pub blank_at : List ℕ → Token → List ℕ
 blank_at source mark = slice_set source mark.start 0x20
 
-abbrev pub blanked : List ℕ → List Token → List ℕ
-blanked source marks = fold blank_at source marks
+abbrev pub text_with_blanks : List ℕ → List Token → List ℕ
+text_with_blanks source marks = fold blank_at source marks

@@ -11,8 +11,8 @@ node_list n = n.master ∷ n.slaves
 abbrev pub is_slave : LooseNodes → Name → Bool
 is_slave n x = list_any (λ m. same_name m x) n.slaves
 
-abbrev pub is_node : LooseNodes → Name → Bool
-is_node n x = same_name n.master x || is_slave n x
+abbrev pub is_loose_node : LooseNodes → Name → Bool
+is_loose_node n x = same_name n.master x || is_slave n x
 
-abbrev pub is_responder : LooseNodes → Name → Bool
-is_responder n x = not (same_name n.master x) && is_slave n x
+abbrev pub is_loose_responder : LooseNodes → Name → Bool
+is_loose_responder n x = not (same_name n.master x) && is_slave n x

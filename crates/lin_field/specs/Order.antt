@@ -18,14 +18,14 @@ use Rattle.lin_field.specs.declared.loose.LooseSignal.{LooseSignal}
 abbrev pub is_across : ℕ → ℕ → Bool
 is_across offset size = nat_lt 8 (offset % 8 + size)
 
-abbrev pub size_of : ℕ → LooseInit → Option ℕ
-size_of size (Scalar n) = Some size
-size_of size (Array place items) = None
+abbrev pub size_if_scalar : ℕ → LooseInit → Option ℕ
+size_if_scalar size (Scalar n) = Some size
+size_if_scalar size (Array place items) = None
 
 -- the size of a scalar of this name; wide ones are scalars in the text
 abbrev pub scalar_size : List LooseSignal → Name → Option ℕ
 scalar_size signals n =
-    option_and_then (λ s. size_of s.size.value s.init) (find (λ s. same_name s.name n) signals)
+    option_and_then (λ s. size_if_scalar s.size.value s.init) (find (λ s. same_name s.name n) signals)
 
 -- 25 ByteOrder
 abbrev pub placed_order : List LooseSignal → PlacedSignal → List Finding

@@ -11,7 +11,7 @@ use Rattle.std.specs.Option.{option_map_or}
 use Rattle.std.specs.Str.{bytes_eq}
 use Rattle.lin_ldf.specs.Names.{has_name}
 use Rattle.lin_ldf.specs.Symbols.{is_kind}
-use Rattle.lin_ldf.specs.UpTo.{is_open, is_close}
+use Rattle.lin_ldf.specs.UpTo.{is_open_brace, is_close_brace}
 use Rattle.lin_ldf.specs.declared.token.Token.{Token}
 use Rattle.lin_ldf.specs.declared.token.TokenKind.{TokenKind}
 use Rattle.lin_ldf.specs.declared.token.TokenKind.TheVariants as kinds
@@ -34,26 +34,26 @@ use Rattle.lin_field.specs.declared.loose.Header.{Header}
 -- ---- parts of a text: WORD '=' list ';', WORD ';' or WORD group
 
 -- how many braces are open after a token
-abbrev pub depth_after : ℕ → TokenKind → ℕ
-depth_after depth kind =
-    if is_open kind then depth + 1 else (if is_close kind then depth - 1 else depth)
+abbrev pub brace_depth : ℕ → TokenKind → ℕ
+brace_depth depth kind =
+    if is_open_brace kind then depth + 1 else (if is_close_brace kind then depth - 1 else depth)
 
 -- the tokens up to the first one of a kind outside of braces, with it, and those after it
 abbrev pub before_end : TokenKind → ℕ → List Token → List Token × List Token
 before_end end depth [] = ([], [])
 before_end end depth (t ∷ ts) =
-    if depth_after depth t.kind == 0 && is_kind end t.kind then (t ∷ [], ts)
+    if brace_depth depth t.kind == 0 && is_kind end t.kind then (t ∷ [], ts)
     else (
-      t ∷ (before_end end (depth_after depth t.kind) ts).0,
-      (before_end end (depth_after depth t.kind) ts).1,
+      t ∷ (before_end end (brace_depth depth t.kind) ts).0,
+      (before_end end (brace_depth depth t.kind) ts).1,
     )
 
-abbrev pub is_next : TokenKind → List Token → Bool
-is_next kind [] = false
-is_next kind (t ∷ ts) = is_kind kind t.kind
+abbrev pub is_token_next : TokenKind → List Token → Bool
+is_token_next kind [] = false
+is_token_next kind (t ∷ ts) = is_kind kind t.kind
 
 abbrev pub part_end : List Token → TokenKind
-part_end ts = if is_next kinds.OpenBrace ts then kinds.CloseBrace else kinds.Semicolon
+part_end ts = if is_token_next kinds.OpenBrace ts then kinds.CloseBrace else kinds.Semicolon
 
 -- the parts of so many tokens at most
 abbrev pub parts_in : ℕ → List Token → List (List Token)
@@ -66,59 +66,59 @@ abbrev pub parts : List Token → List (List Token)
 parts ts = parts_in (length ts) ts
 
 -- the first part, and the tokens after it
-abbrev pub IsPart : List Token → Option (Bor (List Token) × Bor (List Token)) → Type 0
-IsPart ts None = ts ≡ []
-IsPart ts (Some p) = (parts ts ≡ p.0.now ∷ parts p.1.now) × (length p.1.now < length ts)
+abbrev pub IsFirstPart : List Token → Option (Bor (List Token) × Bor (List Token)) → Type 0
+IsFirstPart ts None = ts ≡ []
+IsFirstPart ts (Some p) = (parts ts ≡ p.0.now ∷ parts p.1.now) × (length p.1.now < length ts)
 
-abbrev pub word_of : List ℕ → List Token → List ℕ
-word_of source [] = []
-word_of source (t ∷ ts) = slice_range source t.start t.end
+abbrev pub first_token_text : List ℕ → List Token → List ℕ
+first_token_text source [] = []
+first_token_text source (t ∷ ts) = slice_range source t.start t.end
 
 abbrev pub is_line : List Token → Bool
 is_line [] = false
-is_line (t ∷ ts) = is_next kinds.Equals ts
+is_line (t ∷ ts) = is_token_next kinds.Equals ts
 
 abbrev pub is_section : List Token → Bool
 is_section [] = false
-is_section (t ∷ ts) = is_next kinds.OpenBrace ts
+is_section (t ∷ ts) = is_token_next kinds.OpenBrace ts
 
-abbrev pub last_end : ℕ → List Token → ℕ
-last_end at [] = at
-last_end at (t ∷ ts) = last_end t.end ts
+abbrev pub end_of_tokens : ℕ → List Token → ℕ
+end_of_tokens at [] = at
+end_of_tokens at (t ∷ ts) = end_of_tokens t.end ts
 
 -- the bytes of a part as they stand
-abbrev pub bytes_of : List ℕ → List Token → List ℕ
-bytes_of source [] = []
-bytes_of source (t ∷ ts) = slice_range source t.start (last_end t.end ts)
+abbrev pub source_bytes : List ℕ → List Token → List ℕ
+source_bytes source [] = []
+source_bytes source (t ∷ ts) = slice_range source t.start (end_of_tokens t.end ts)
 
 -- ---- words and numbers
 
 -- a text between two others
-abbrev pub between : List ℕ → List ℕ → List ℕ → List ℕ
-between before text after = before ++ (text ++ after)
+abbrev pub text_between : List ℕ → List ℕ → List ℕ → List ℕ
+text_between before text after = before ++ (text ++ after)
 
 abbrev pub digit_text : ℕ → ℕ → List ℕ
 digit_text digit from = if not (from == 0) then decimal digit else []
 
 -- thousandths after a point, with no more digits than they need
-abbrev pub decimals : ℕ → List ℕ
-decimals rest =
+abbrev pub decimals_text : ℕ → List ℕ
+decimals_text rest =
     if not (rest == 0)
     then codes "." ++ (decimal (rest / 100) ++ (digit_text (rest / 10 % 10) (rest % 100)
     ++ digit_text (rest % 10) (rest % 10)))
     else []
 
-abbrev pub thousandths : ℕ → List ℕ
-thousandths n = decimal (n / 1000) ++ decimals (n % 1000)
+abbrev pub thousandths_text : ℕ → List ℕ
+thousandths_text n = decimal (n / 1000) ++ decimals_text (n % 1000)
 
 -- items, each after a comma
 abbrev pub after_commas : {A : Type 0} → (A → List ℕ) → List A → List ℕ
 after_commas text xs = flat_map (λ x. codes ", " ++ text x) xs
 
 -- items with commas between them
-abbrev pub listed : {A : Type 0} → (A → List ℕ) → List A → List ℕ
-listed text [] = []
-listed text (x ∷ xs) = text x ++ after_commas text xs
+abbrev pub comma_list : {A : Type 0} → (A → List ℕ) → List A → List ℕ
+comma_list text [] = []
+comma_list text (x ∷ xs) = text x ++ after_commas text xs
 
 abbrev pub name_text : Name → List ℕ
 name_text n = n.text
@@ -130,11 +130,11 @@ number_text n = decimal n.value
 
 abbrev pub init_text : Init → List ℕ
 init_text (Scalar n) = number_text n
-init_text (Array place ns) = codes "{" ++ (listed number_text ns ++ codes "}")
+init_text (Array place ns) = codes "{" ++ (comma_list number_text ns ++ codes "}")
 
 abbrev pub signal_text : Signal → List ℕ
 signal_text s =
-    between (codes "  ") s.name.text (codes ": ") ++ ((number_text s.size ++ codes ", ")
+    text_between (codes "  ") s.name.text (codes ": ") ++ ((number_text s.size ++ codes ", ")
     ++ (init_text s.init ++ (codes ", " ++ (s.publisher.text
     ++ (after_commas name_text s.subscribers ++ codes ";\n")))))
 
@@ -143,22 +143,22 @@ placed_text p = p.signal.text ++ (codes ", " ++ (number_text p.offset ++ codes "
 
 abbrev pub frame_text : Frame → List ℕ
 frame_text f =
-    between (codes "  ") f.name.text (codes ": ") ++ ((number_text f.id ++ codes ", ")
+    text_between (codes "  ") f.name.text (codes ": ") ++ ((number_text f.id ++ codes ", ")
     ++ (f.publisher.text ++ (codes ", " ++ ((number_text f.size ++ codes " { ")
     ++ (flat_map placed_text f.placed ++ codes "}\n")))))
 
 abbrev pub sporadic_text : Sporadic → List ℕ
 sporadic_text f =
-    between (codes "  ") f.name.text (codes ": ")
-    ++ (listed name_text f.members ++ codes ";\n")
+    text_between (codes "  ") f.name.text (codes ": ")
+    ++ (comma_list name_text f.members ++ codes ";\n")
 
 -- a section of this word that says these, where there are some
-abbrev pub braced : {A : Type 0} → List ℕ → List A → List ℕ → List ℕ
-braced word xs text =
+abbrev pub braced_section : {A : Type 0} → List ℕ → List A → List ℕ → List ℕ
+braced_section word xs text =
     if length xs == 0 then [] else (word ++ codes " {\n") ++ (text ++ codes "}\n")
 
 abbrev pub section_text : {A : Type 0} → List ℕ → (A → List ℕ) → List A → List ℕ
-section_text word text xs = braced word xs (flat_map text xs)
+section_text word text xs = braced_section word xs (flat_map text xs)
 
 -- ---- names of tables
 
@@ -191,23 +191,23 @@ without_last (t ∷ []) = []
 without_last (t ∷ (u ∷ ts)) = t ∷ without_last (u ∷ ts)
 
 -- what stands in the braces of WORD group
-abbrev pub inside : List Token → List Token
-inside ts = without_last (drop 2 ts)
+abbrev pub tokens_in_braces : List Token → List Token
+tokens_in_braces ts = without_last (drop 2 ts)
 
 -- a section of this word; a line of the header may begin with it, too
 abbrev pub is_section_of : List ℕ → List ℕ → List Token → Bool
-is_section_of source word p = is_section p && bytes_eq (word_of source p) word
+is_section_of source word p = is_section p && bytes_eq (first_token_text source p) word
 
 -- what stands in the braces of the section of this word
 abbrev pub inside_of : List ℕ → List (List Token) → List ℕ → List Token
 inside_of source ps word =
-    option_map_or inside (find (is_section_of source word) ps) []
+    option_map_or tokens_in_braces (find (is_section_of source word) ps) []
 
 abbrev pub kept_text : List ℕ → List ℕ → List Token → List ℕ
-kept_text source before part = between before (bytes_of source part) (codes "\n")
+kept_text source before part = text_between before (source_bytes source part) (codes "\n")
 
-abbrev pub read_lines : List (List ℕ)
-read_lines =
+abbrev pub header_words_read : List (List ℕ)
+header_words_read =
     codes "LIN_protocol_version" ∷ codes "LIN_language_version" ∷ codes "LIN_speed" ∷ []
 
 abbrev pub read_sections : List (List ℕ)
@@ -226,7 +226,7 @@ read_attributes = codes "LIN_protocol" ∷ codes "configured_NAD" ∷ []
 -- a line of the header, where it isn't used
 abbrev pub kept_line : List ℕ → List Token → List ℕ
 kept_line source p =
-    if is_line p && not (has_name read_lines (word_of source p)) then kept_text source [] p else []
+    if is_line p && not (has_name header_words_read (first_token_text source p)) then kept_text source [] p else []
 
 abbrev pub kept_lines : List ℕ → List (List Token) → List ℕ
 kept_lines source ps = flat_map (kept_line source) ps
@@ -242,8 +242,8 @@ kept_sections source ps word = flat_map (kept_section source word) ps
 -- a section, where it has no place between those that are read
 abbrev pub other_section : List ℕ → List Token → List ℕ
 other_section source p =
-    if is_section p && (not (has_name read_sections (word_of source p))
-    && not (has_name sections_between (word_of source p)))
+    if is_section p && (not (has_name read_sections (first_token_text source p))
+    && not (has_name sections_between (first_token_text source p)))
     then kept_text source [] p else []
 
 abbrev pub other_sections : List ℕ → List (List Token) → List ℕ
@@ -251,9 +251,9 @@ other_sections source ps = flat_map (other_section source) ps
 
 -- ---- attributes and tables
 
-abbrev pub protocol_text : Option (List ℕ) → List ℕ
-protocol_text None = []
-protocol_text (Some p) = between (codes "    LIN_protocol = \"") p (codes "\";\n")
+abbrev pub protocol_line : Option (List ℕ) → List ℕ
+protocol_line None = []
+protocol_line (Some p) = text_between (codes "    LIN_protocol = \"") p (codes "\";\n")
 
 abbrev pub nad_text : Option Number → List ℕ
 nad_text None = []
@@ -262,7 +262,7 @@ nad_text (Some n) = codes "    configured_NAD = " ++ (number_text n ++ codes ";\
 -- an attribute, where it isn't used
 abbrev pub attribute_text : List ℕ → List Token → List ℕ
 attribute_text source p =
-    if not (has_name read_attributes (word_of source p))
+    if not (has_name read_attributes (first_token_text source p))
     then kept_text source (codes "    ") p else []
 
 abbrev pub kept_attributes : List ℕ → List Token → List ℕ
@@ -271,48 +271,48 @@ kept_attributes source ts = flat_map (attribute_text source) (parts ts)
 -- a block, of which these are the tokens in the text
 abbrev pub block_text : List ℕ → Attributes → List Token → List ℕ
 block_text source a ts =
-    between (codes "  ") a.node.text (codes " {\n") ++ (protocol_text a.protocol
+    text_between (codes "  ") a.node.text (codes " {\n") ++ (protocol_line a.protocol
     ++ (nad_text a.configured_nad ++ (kept_attributes source ts ++ codes "  }\n")))
 
-abbrev pub node_names : Description → List (List ℕ)
-node_names d = d.master.text ∷ map name_text d.slaves
+abbrev pub described_node_names : Description → List (List ℕ)
+described_node_names d = d.master.text ∷ map name_text d.slaves
 
 -- the text's blocks of these nodes
-abbrev pub blocks_of : List ℕ → List (List Token) → List (List ℕ) → List (List Token)
-blocks_of source ps nodes =
-    filter (λ p. has_name nodes (word_of source p))
+abbrev pub blocks_of_nodes : List ℕ → List (List Token) → List (List ℕ) → List (List Token)
+blocks_of_nodes source ps nodes =
+    filter (λ p. has_name nodes (first_token_text source p))
     (parts (inside_of source ps (codes "Node_attributes")))
 
 -- the tokens in the braces of the n-th part, where there is one
 abbrev pub inside_at : List (List Token) → ℕ → List Token
-inside_at ps n = inside (slice_index_or ps n [])
+inside_at ps n = tokens_in_braces (slice_index_or ps n [])
 
 -- an event-triggered frame, with the name of its table
 abbrev pub event_text_by : EventFrame → List ℕ → List ℕ
 event_text_by e table =
-    between (codes "  ") e.name.text (codes ": ") ++ (table ++ (codes ", "
-    ++ ((number_text e.id ++ codes ", ") ++ (listed name_text e.members ++ codes ";\n"))))
+    text_between (codes "  ") e.name.text (codes ": ") ++ (table ++ (codes ", "
+    ++ ((number_text e.id ++ codes ", ") ++ (comma_list name_text e.members ++ codes ";\n"))))
 
 -- the group between an entry's name and its delay
 abbrev pub group_text : List ℕ → TableEntry → List Token → List ℕ
 group_text source e ts =
-    if e.has_group then bytes_of source (before_end kinds.CloseBrace 0 (drop 1 ts)).0 ++ codes " "
+    if e.has_group then source_bytes source (before_end kinds.CloseBrace 0 (drop 1 ts)).0 ++ codes " "
     else []
 
 abbrev pub entry_text : List ℕ → TableEntry → List Token → List ℕ
 entry_text source e ts =
-    between (codes "    ") e.name.text (codes " ") ++ (group_text source e ts
-    ++ (codes "delay " ++ (thousandths e.delay.value ++ codes " ms;\n")))
+    text_between (codes "    ") e.name.text (codes " ") ++ (group_text source e ts
+    ++ (codes "delay " ++ (thousandths_text e.delay.value ++ codes " ms;\n")))
 
 -- entries, each with its tokens
-abbrev pub entries_text : List ℕ → List TableEntry → List Token → List ℕ
-entries_text source [] ts = []
-entries_text source (e ∷ es) ts =
-    entry_text source e ts ++ entries_text source es (before_end kinds.Semicolon 0 ts).1
+abbrev pub table_entries_text : List ℕ → List TableEntry → List Token → List ℕ
+table_entries_text source [] ts = []
+table_entries_text source (e ∷ es) ts =
+    entry_text source e ts ++ table_entries_text source es (before_end kinds.Semicolon 0 ts).1
 
 -- the text's tables that aren't left out
 abbrev pub is_filled_part : List Token → Bool
-is_filled_part p = nat_lt 0 (length (inside p))
+is_filled_part p = nat_lt 0 (length (tokens_in_braces p))
 
 abbrev pub table_parts : List ℕ → List (List Token) → List (List Token)
 table_parts source ps =
@@ -322,8 +322,8 @@ table_parts source ps =
 -- a table by its name, of which these are the tokens in the text
 abbrev pub table_text_by : List ℕ → Table → List ℕ → List Token → List ℕ
 table_text_by source t name ts =
-    between (codes "  ") name (codes " {\n")
-    ++ (entries_text source t.entries ts ++ codes "  }\n")
+    text_between (codes "  ") name (codes " {\n")
+    ++ (table_entries_text source t.entries ts ++ codes "  }\n")
 
 -- items one after the other, each with the part of its number
 abbrev pub with_parts : {A : Type 0} → (A → List Token → List ℕ) → List (List Token) → ℕ → List A
@@ -339,16 +339,16 @@ language h = option_map_or (λ l. l) h.language h.version
 abbrev pub header_text : Header → Number → List ℕ
 header_text h speed =
     codes "LIN_description_file;\n"
-    ++ (between (codes "LIN_protocol_version = \"") h.version (codes "\";\n")
-    ++ (between (codes "LIN_language_version = \"") (language h) (codes "\";\n")
-    ++ (codes "LIN_speed = " ++ (thousandths speed.value ++ codes " kbps;\n"))))
+    ++ (text_between (codes "LIN_protocol_version = \"") h.version (codes "\";\n")
+    ++ (text_between (codes "LIN_language_version = \"") (language h) (codes "\";\n")
+    ++ (codes "LIN_speed = " ++ (thousandths_text speed.value ++ codes " kbps;\n"))))
 
 abbrev pub nodes_text : Description → List ℕ
 nodes_text d =
-    between (codes "Nodes {\n  Master: ") d.master.text (codes ", ")
-    ++ ((thousandths d.time_base.value ++ codes " ms, ")
-    ++ ((thousandths d.jitter.value ++ codes " ms;\n  Slaves: ")
-    ++ (listed name_text d.slaves ++ codes ";\n}\n")))
+    text_between (codes "Nodes {\n  Master: ") d.master.text (codes ", ")
+    ++ ((thousandths_text d.time_base.value ++ codes " ms, ")
+    ++ ((thousandths_text d.jitter.value ++ codes " ms;\n  Slaves: ")
+    ++ (comma_list name_text d.slaves ++ codes ";\n}\n")))
 
 -- a description, with the source that it was read in, and the source's tokens
 pub record PlainData : Type 0 where
@@ -365,7 +365,7 @@ abbrev pub sections_of : PlainData → List (List Token)
 sections_of d = parts (drop 2 d.tokens)
 
 abbrev pub blocks_in : PlainData → List (List Token)
-blocks_in d = blocks_of d.source (sections_of d) (node_names d.description)
+blocks_in d = blocks_of_nodes d.source (sections_of d) (described_node_names d.description)
 
 abbrev pub tables_in : PlainData → List (List Token)
 tables_in d = table_parts d.source (sections_of d)
@@ -379,16 +379,16 @@ names_of_events d = map (λ e. plain_name (declared_names d) e.table) d.events
 -- event-triggered frames, with the names of their tables
 abbrev pub events_text : List EventFrame → List (List ℕ) → List ℕ
 events_text events tables =
-    braced (codes "Event_triggered_frames") events
+    braced_section (codes "Event_triggered_frames") events
     (flat_map (λ p. event_text_by p.0 p.1) (zip events tables))
 
 abbrev pub blocks_text : List ℕ → List Attributes → List (List Token) → List ℕ
 blocks_text source blocks ps =
-    braced (codes "Node_attributes") blocks (with_parts (block_text source) ps 0 blocks)
+    braced_section (codes "Node_attributes") blocks (with_parts (block_text source) ps 0 blocks)
 
 abbrev pub tables_text : List ℕ → List Table → List (List ℕ) → List (List Token) → List ℕ
 tables_text source tables names ps =
-    braced (codes "Schedule_tables") tables
+    braced_section (codes "Schedule_tables") tables
     (with_parts (λ p. table_text_by source p.0 p.1) ps 0 (zip tables names))
 
 -- the header and the nodes

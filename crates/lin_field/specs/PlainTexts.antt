@@ -17,10 +17,10 @@ use Rattle.lin_parts.specs.declared.description.Table.{Table}
 use Rattle.lin_parts.specs.declared.description.TableEntry.{TableEntry}
 use Rattle.lin_ldf.specs.declared.token.Token.{Token}
 use Rattle.lin_field.specs.Order.{byte_order}
-use Rattle.lin_field.specs.Settled.{settled, warnings_of}
+use Rattle.lin_field.specs.Settled.{normalized_description, warnings_of}
 use Rattle.lin_field.specs.Tables.{is_members_name}
 use Rattle.lin_field.specs.Times.{tight_slots}
-use Rattle.lin_field.specs.declared.loose.Decimal.{Decimal}
+use Rattle.lin_field.specs.declared.loose.RoundedDecimal.{RoundedDecimal}
 use Rattle.lin_field.specs.declared.loose.Header.{Header}
 use Rattle.lin_field.specs.declared.loose.Loose.{Loose}
 use Rattle.lin_field.specs.declared.loose.LooseAttributes.{LooseAttributes}
@@ -36,7 +36,7 @@ use Rattle.lin_field.specs.declared.loose.WideNumber.{WideNumber}
 
 -- ---- a plain description as a text of the field says it
 
-abbrev pub exact : Number → Decimal
+abbrev pub exact : Number → RoundedDecimal
 exact n = record { number = n; is_rounded = false }
 
 abbrev pub nodes_in : Description → LooseNodes
@@ -95,8 +95,8 @@ header_in version language d = record {
   unknown = [];
 }
 
-abbrev pub loosened : List ℕ → Option (List ℕ) → Description → Loose
-loosened version language d = record {
+abbrev pub as_loose : List ℕ → Option (List ℕ) → Description → Loose
+as_loose version language d = record {
   header = header_in version language d;
   nodes = nodes_in d;
   signals = map loose_signal d.signals;
@@ -116,7 +116,7 @@ NamesTables d = All (λ e. is_members_name e.table ≡ false) d.events
 
 -- it is settled to the description itself, and nothing is told but marks that are left out
 pub record StaysPlain (l : Loose) (d : Description) : Type 0 where
-  pub description : settled l ≡ d
+  pub description : normalized_description l ≡ d
   pub warnings : (marks : List Token)
       → warnings_of l marks ≡ map (λ t. finding_at ExtraMark t.line t.column) marks
   pub byte_order : byte_order l ≡ []
@@ -126,4 +126,4 @@ abbrev pub PlainTextsStay : Type 0
 PlainTextsStay =
     (version : List ℕ) (language : Option (List ℕ)) (d : Description)
     → starts_with nat_eq version (codes "1.") ≡ false → NamesTables d → IsFree d
-    → StaysPlain (loosened version language d) d
+    → StaysPlain (as_loose version language d) d

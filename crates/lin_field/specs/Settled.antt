@@ -21,7 +21,7 @@ use Rattle.lin_field.specs.declared.loose.Header.{Header}
 use Rattle.lin_field.specs.declared.loose.Loose.{Loose}
 use Rattle.lin_field.specs.declared.loose.LooseNodes.{LooseNodes}
 use Rattle.lin_field.specs.declared.loose.NodeAddress.{NodeAddress}
-use Rattle.lin_field.specs.declared.reading.FieldText.{FieldText}
+use Rattle.lin_field.specs.declared.field_text.FieldText.{FieldText}
 
 -- ---- the version
 
@@ -45,8 +45,8 @@ elsewhere l = elsewhere_by l.header l.nodes l.addresses
 -- ---- the description
 
 -- before its times: without tables
-abbrev pub untimed : Loose → Description
-untimed l = record {
+abbrev pub without_tables : Loose → Description
+without_tables l = record {
   speed = l.header.speed.number;
   master = l.nodes.master;
   time_base = l.nodes.time_base.number;
@@ -60,11 +60,11 @@ untimed l = record {
   tables = [];
 }
 
-abbrev pub with_tables : Description → List Table → Description
-with_tables d ts = record d { tables = all_tables d ts }
+abbrev pub with_kept_tables : Description → List Table → Description
+with_kept_tables d ts = record d { tables = all_tables d ts }
 
-abbrev pub settled : Loose → Description
-settled l = with_tables (untimed l) (kept_tables l.tables)
+abbrev pub normalized_description : Loose → Description
+normalized_description l = with_kept_tables (without_tables l) (kept_tables l.tables)
 
 -- the signals that frames of the text have which the description hasn't: the diagnostic ones (LIN 2.2A,
 -- section 9.2.4)
@@ -86,7 +86,7 @@ warnings_of l marks =
     ++ attribute_warnings (elsewhere l) l.attributes
     ++ flat_map (frame_warnings (is_old l.header)) l.frames
     ++ flat_map (event_warnings (tells_tables l.header) l.tables) l.events
-    ++ table_warnings l.tables ++ timing_warnings (untimed l) (kept_tables l.tables)
+    ++ table_warnings l.tables ++ timing_warnings (without_tables l) (kept_tables l.tables)
 
 abbrev pub warnings : FieldText → List Finding
 warnings t = warnings_of t.loose t.marks

@@ -11,7 +11,7 @@ use Rattle.lin_parts.specs.declared.description.Init.TheVariants.{Scalar, Array}
 use Rattle.lin_parts.specs.declared.description.Name.{Name}
 use Rattle.lin_parts.specs.declared.description.Number.{Number}
 use Rattle.lin_parts.specs.declared.description.Signal.{Signal}
-use Rattle.lin_field.specs.Names.{is_node}
+use Rattle.lin_field.specs.Names.{is_loose_node}
 use Rattle.lin_field.specs.declared.loose.LooseInit.{LooseInit}
 use Rattle.lin_field.specs.declared.loose.LooseInit.TheVariants as loose
 use Rattle.lin_field.specs.declared.loose.LooseNodes.{LooseNodes}
@@ -35,14 +35,14 @@ kept_bits size = if is_narrow size then size else 32
 abbrev pub with_value : Number → ℕ → Number
 with_value n value = record { value = value; line = n.line; column = n.column }
 
-abbrev pub value_at : WideNumber → ℕ → Number
-value_at n value = record { value = value; line = n.place.line; column = n.place.column }
+abbrev pub number_with_value : WideNumber → ℕ → Number
+number_with_value n value = record { value = value; line = n.place.line; column = n.place.column }
 
 -- so many bytes of a value, the lowest first, each at this number's place
 abbrev pub bytes_from : WideNumber → ℕ → ℕ → List Number
 bytes_from n value zero = []
 bytes_from n value (suc count) =
-    value_at n (value % 256) ∷ bytes_from n (value / 256) count
+    number_with_value n (value % 256) ∷ bytes_from n (value / 256) count
 
 abbrev pub byte_numbers : WideNumber → ℕ → List Number
 byte_numbers n count = bytes_from n n.value count
@@ -50,7 +50,7 @@ byte_numbers n count = bytes_from n n.value count
 abbrev pub settled_init : ℕ → LooseInit → Init
 settled_init size (loose.Scalar n) =
     if is_wide size then Array n.place (byte_numbers n (size / 8))
-    else Scalar (value_at n (low_bits n.value (kept_bits size)))
+    else Scalar (number_with_value n (low_bits n.value (kept_bits size)))
 settled_init size (loose.Array place items) = Array place items
 
 -- 21 WideSignal at the size, 8 BadInit at a value that is too large
@@ -67,8 +67,8 @@ abbrev pub size_warnings : LooseSignal → List Finding
 size_warnings s = init_warnings s.size s.init
 
 -- 1 UnknownName of what is left out
-abbrev pub unknown_node : LooseNodes → Name → List Finding
-unknown_node nodes n = when (not (is_node nodes n)) (at_name UnknownName n)
+abbrev pub unknown_loose_node : LooseNodes → Name → List Finding
+unknown_loose_node nodes n = when (not (is_loose_node nodes n)) (at_name UnknownName n)
 
 abbrev pub settled_signal : LooseNodes → LooseSignal → Signal
 settled_signal nodes s = record {
@@ -76,8 +76,8 @@ settled_signal nodes s = record {
   size = s.size;
   init = settled_init s.size.value s.init;
   publisher = s.publisher;
-  subscribers = filter (is_node nodes) s.subscribers;
+  subscribers = filter (is_loose_node nodes) s.subscribers;
 }
 
 abbrev pub signal_warnings : LooseNodes → LooseSignal → List Finding
-signal_warnings nodes s = size_warnings s ++ flat_map (unknown_node nodes) s.subscribers
+signal_warnings nodes s = size_warnings s ++ flat_map (unknown_loose_node nodes) s.subscribers

@@ -14,13 +14,13 @@ use Rattle.lin_parts.specs.declared.description.Name.{Name}
 use Rattle.lin_parts.specs.declared.description.Number.{Number}
 use Rattle.lin_parts.specs.declared.description.Table.{Table}
 use Rattle.lin_parts.specs.declared.description.TableEntry.{TableEntry}
-use Rattle.lin_field.specs.declared.loose.Decimal.{Decimal}
+use Rattle.lin_field.specs.declared.loose.RoundedDecimal.{RoundedDecimal}
 use Rattle.lin_field.specs.declared.loose.LooseEntry.{LooseEntry}
 use Rattle.lin_field.specs.declared.loose.LooseEvent.{LooseEvent}
 use Rattle.lin_field.specs.declared.loose.LooseTable.{LooseTable}
 
 -- 22 Rounded
-abbrev pub rounded_warnings : Decimal → List Finding
+abbrev pub rounded_warnings : RoundedDecimal → List Finding
 rounded_warnings d = when d.is_rounded (at_number Rounded d.number)
 
 abbrev pub entry_rounded : LooseEntry → List Finding
@@ -72,13 +72,13 @@ names_left_out ts n =
 abbrev pub kept_name : List LooseTable → Name → Option Name
 kept_name ts n = if names_left_out ts n then None else Some n
 
-abbrev pub named_table : List LooseTable → Option Name → Option Name
-named_table ts table = option_and_then (kept_name ts) table
+abbrev pub kept_table_name : List LooseTable → Option Name → Option Name
+kept_table_name ts table = option_and_then (kept_name ts) table
 
 abbrev pub settled_event : List LooseTable → LooseEvent → EventFrame
 settled_event ts e = record {
   name = e.name;
-  table = option_map_or (λ n. n) (named_table ts e.table) (members_name e.name e.id);
+  table = option_map_or (λ n. n) (kept_table_name ts e.table) (members_name e.name e.id);
   id = e.id;
   members = e.members;
 }
@@ -86,4 +86,4 @@ settled_event ts e = record {
 -- 20 NoTable, but in LIN 2.0 and before, where none has one
 abbrev pub event_warnings : Bool → List LooseTable → LooseEvent → List Finding
 event_warnings is_told ts e =
-    when (is_told && is_none (named_table ts e.table)) (at_number NoTable e.id)
+    when (is_told && is_none (kept_table_name ts e.table)) (at_number NoTable e.id)

@@ -31,8 +31,8 @@ abbrev pub rounded_up : ℕ → ℕ → ℕ
 rounded_up us base = if base == 0 then us else (us + (base - 1)) / base * base
 
 -- as a multiple of the time base, where a number can be it
-abbrev pub time_of : Description → TableEntry → Option ℕ
-time_of d e =
+abbrev pub rounded_delay : Description → TableEntry → Option ℕ
+rounded_delay d e =
     option_and_then (λ us. number_in_limit (rounded_up us d.time_base.value)) (asked_us d e)
 
 abbrev pub with_delay : TableEntry → Number → TableEntry
@@ -43,7 +43,7 @@ timed_by e None = e
 timed_by e (Some us) = with_delay e (with_value e.delay us)
 
 abbrev pub timed_entry : Description → TableEntry → TableEntry
-timed_entry d e = if e.delay.value == 0 then timed_by e (time_of d e) else e
+timed_entry d e = if e.delay.value == 0 then timed_by e (rounded_delay d e) else e
 
 abbrev pub timed_table : Description → Table → Table
 timed_table d t = record { name = t.name; entries = map (timed_entry d) t.entries }
@@ -52,12 +52,12 @@ abbrev pub timed_tables : Description → List Table → List Table
 timed_tables d ts = map (timed_table d) ts
 
 -- 10 ZeroDelay, where the time is known
-abbrev pub entry_warnings : Description → TableEntry → List Finding
-entry_warnings d e =
-    when (e.delay.value == 0 && is_some (time_of d e)) (at_number ZeroDelay e.delay)
+abbrev pub delay_warnings : Description → TableEntry → List Finding
+delay_warnings d e =
+    when (e.delay.value == 0 && is_some (rounded_delay d e)) (at_number ZeroDelay e.delay)
 
 abbrev pub timing_warnings : Description → List Table → List Finding
-timing_warnings d ts = flat_map (λ t. flat_map (entry_warnings d) t.entries) ts
+timing_warnings d ts = flat_map (λ t. flat_map (delay_warnings d) t.entries) ts
 
 -- ---- tables of members (LIN 2.0, section 2.3.3.2)
 
@@ -69,8 +69,8 @@ calls ts = flat_map (λ t. filter (λ e. not e.has_group) t.entries) ts
 abbrev pub first_delay : List Table → Name → Option Number
 first_delay ts n = option_map (λ e. e.delay) (find (λ e. same_name e.name n) (calls ts))
 
-abbrev pub entry_at : Name → Number → TableEntry
-entry_at member delay = record { name = member; has_group = false; delay = delay }
+abbrev pub entry_of_member : Name → Number → TableEntry
+entry_of_member member delay = record { name = member; has_group = false; delay = delay }
 
 -- a delay within its limit: of a slot whose time isn't known, since something else is wrong, so that
 -- no more is found of it
@@ -80,15 +80,15 @@ longest_us = 1000000000
 -- the member's own time
 abbrev pub own_entry : Description → Number → Name → TableEntry
 own_entry d id member =
-    entry_at member
+    entry_of_member member
     (with_value id
-    (option_map_or (λ us. us) (time_of d (entry_at member (with_value id 0))) longest_us))
+    (option_map_or (λ us. us) (rounded_delay d (entry_of_member member (with_value id 0))) longest_us))
 
 -- its frame's delay, where an entry names that with one
 abbrev pub member_entry : Description → Number → Option Number → Name → TableEntry
 member_entry d id None member = own_entry d id member
 member_entry d id (Some delay) member =
-    if delay.value == 0 then own_entry d id member else entry_at member delay
+    if delay.value == 0 then own_entry d id member else entry_of_member member delay
 
 -- a slot without a frame
 abbrev pub idle_entry : EventFrame → TableEntry

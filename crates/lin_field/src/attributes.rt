@@ -3,17 +3,17 @@
 ghost use Rattle.std.specs.Prelude.{◌≡◌, ◌++◌, ◌==◌, ◌&&◌, flat_map, map, length, is_none, true, All};
 ghost use Rattle.std.specs.Prelude.{IfOk, OnOk};
 ghost use Rattle.lin_cluster.specs.Names.{NumbersFirst};
-ghost use Rattle.lin_field.specs.Names.{is_node, node_list};
+ghost use Rattle.lin_field.specs.Names.{is_loose_node, node_list};
 ghost use Rattle.lin_field.specs.Attributes.{line_nad, chosen_nad, draft, told_nad, new_draft};
 ghost use Rattle.lin_field.specs.Attributes.{new_drafts, drafts, draft_warnings, responder_nad};
-ghost use Rattle.lin_field.specs.Attributes.{responder_nads, is_nad, settled_block, nad_warnings};
+ghost use Rattle.lin_field.specs.Attributes.{responder_nads, is_nad_number, settled_block, nad_warnings};
 ghost use Rattle.lin_field.specs.Attributes.{settled_draft, draft_nad_warnings, line_warnings};
 ghost use Rattle.lin_field.specs.Attributes.{settled_attributes, attribute_warnings};
 ghost use Rattle.lin_field.specs.Attributes.{address_warnings, initial_warning, beside_configured};
 ghost use Rattle.lin_field.specs.Attributes.{is_there, line_warning};
 
 use crate::loose::{LooseAttributes, NodeAddress};
-use crate::names::{NodeNames, copied, is_named};
+use crate::node_names::{NodeNames, copied, is_named};
 use lin_cluster::{
     Finding, FindingKind, Numbers, Repeats, at_name, at_number, find_by, numbers_of, push_when,
 };
@@ -24,14 +24,14 @@ use std::marker::Model;
 
 /// What attributes are settled by: the nodes, the lines of `Diagnostic_addresses`, and the header's
 /// version where it begins with `1.`.
-pub struct Told<'a, 'n> {
+pub struct AttributeSources<'a, 'n> {
     pub nodes: &'a NodeNames<'n>,
     pub lines: &'a [NodeAddress],
     pub numbers: Numbers<'a>,
     pub version: Option<&'a [u8]>,
 }
 
-impl<'a, 'n> Model for Told<'a, 'n> {
+impl<'a, 'n> Model for AttributeSources<'a, 'n> {
     ghost use Rattle.std.specs.Option.{option_map};
     ghost use Rattle.lin_cluster.specs.Names.{NumbersFirst};
     ghost use Rattle.lin_field.specs.Attributes.{Elsewhere, elsewhere_of};
@@ -44,9 +44,9 @@ impl<'a, 'n> Model for Told<'a, 'n> {
 }
 
 // (written out, so that an owner has one call)
-impl<'a, 'n> Drop for Told<'a, 'n> {
+impl<'a, 'n> Drop for AttributeSources<'a, 'n> {
     fn drop(self) {
-        let Told {
+        let AttributeSources {
             nodes: _,
             lines: _,
             numbers: _numbers,
@@ -55,7 +55,7 @@ impl<'a, 'n> Drop for Told<'a, 'n> {
     }
 }
 
-impl<'a, 'n> Told<'a, 'n> {
+impl<'a, 'n> AttributeSources<'a, 'n> {
     /// The address of a responder's line.
     fn line_nad(&self, node: &Name) -> Option<Number>
         ensures { result ≡ line_nad self.now node.now }
@@ -98,7 +98,7 @@ impl<'a, 'n> Told<'a, 'n> {
 
     /// The block of a node with what is told of the node elsewhere.
     fn draft(&self, alloc: Global, attributes: LooseAttributes) -> Result<Attributes, AllocError>
-        requires { is_node self.now.nodes attributes.block.node ≡ true }
+        requires { is_loose_node self.now.nodes attributes.block.node ≡ true }
         ensures { IfOk result (λ block. block ≡ draft self.now attributes) }
     {
         let nad = self.chosen_nad(&attributes);
@@ -148,7 +148,7 @@ impl<'a, 'n> Told<'a, 'n> {
         attributes: &LooseAttributes,
         is_known: bool,
     ) -> Result<(), AllocError>
-        requires { is_known ≡ is_node self.now.nodes attributes.now.block.node }
+        requires { is_known ≡ is_loose_node self.now.nodes attributes.now.block.node }
         ensures { OnOk result
             (warned.new.items ≡ warned.old.items ++ draft_warnings self.now attributes.now) }
     {
@@ -248,7 +248,7 @@ fn warn_beside(
 
 fn add_new_draft(
     alloc: Global,
-    told: &Told<'_, '_>,
+    told: &AttributeSources<'_, '_>,
     blocks: &[LooseAttributes],
     numbers: &Numbers<'_>,
     node: &Name,
@@ -270,7 +270,7 @@ fn add_new_draft(
 /// Blocks for nodes that have none, in the order of the nodes.
 fn new_drafts(
     alloc: Global,
-    told: &Told<'_, '_>,
+    told: &AttributeSources<'_, '_>,
     blocks: &[LooseAttributes],
 ) -> Result<Vec<Attributes>, AllocError>
     ensures { IfOk result
@@ -293,7 +293,7 @@ fn new_drafts(
 /// The blocks of nodes, with the address that each responder is told.
 fn drafts(
     alloc: Global,
-    told: &Told<'_, '_>,
+    told: &AttributeSources<'_, '_>,
     attributes: Many<LooseAttributes>,
     warned: &mut Vec<Finding>,
 ) -> Result<Vec<Attributes>, AllocError>
@@ -316,7 +316,7 @@ fn drafts(
 
 /// The address that a node is told, where it is a responder.
 fn responder_nad(nodes: &NodeNames<'_>, draft: &Attributes) -> Option<Number>
-    requires { is_node nodes.now draft.now.node ≡ true }
+    requires { is_loose_node nodes.now draft.now.node ≡ true }
     ensures { result ≡ responder_nad nodes.now draft.now }
 {
     if nodes.is_responding_node(&draft.node) {
@@ -332,7 +332,7 @@ fn responder_nads(
     nodes: &NodeNames<'_>,
     drafts: &[Attributes],
 ) -> Result<Vec<Number>, AllocError>
-    requires { All (λ a. is_node nodes.now a.node ≡ true) drafts.now }
+    requires { All (λ a. is_loose_node nodes.now a.node ≡ true) drafts.now }
     ensures { IfOk result (λ n. n.items ≡ responder_nads nodes.now drafts.now) }
 {
     let mut nads = Vec::new(alloc);
@@ -346,7 +346,7 @@ fn responder_nads(
 }
 
 fn is_nad(nad: Number) -> bool
-    ensures { result ≡ is_nad nad }
+    ensures { result ≡ is_nad_number nad }
 {
     1 <= nad.value && nad.value <= 125
 }
@@ -373,7 +373,10 @@ fn settle_block(
     Ok(())
 }
 
-fn warn_of_lines(told: &Told<'_, '_>, warned: &mut Vec<Finding>) -> Result<(), AllocError>
+fn warn_of_lines(
+    told: &AttributeSources<'_, '_>,
+    warned: &mut Vec<Finding>,
+) -> Result<(), AllocError>
     ensures { OnOk result (warned.new.items ≡ warned.old.items ++ line_warnings told.now) }
 {
     for line in told.lines {
@@ -384,12 +387,12 @@ fn warn_of_lines(told: &Told<'_, '_>, warned: &mut Vec<Finding>) -> Result<(), A
 
 /// A node's block: a responder has its address where it may have it.
 fn settle_draft(
-    told: &Told<'_, '_>,
+    told: &AttributeSources<'_, '_>,
     nads: &Repeats,
     draft: &mut Attributes,
     warned: &mut Vec<Finding>,
 ) -> Result<(), AllocError>
-    requires { is_node told.now.nodes draft.old.node ≡ true }
+    requires { is_loose_node told.now.nodes draft.old.node ≡ true }
     ensures settled { OnOk result (draft.new ≡ settled_draft told.now nads.now draft.old) }
     ensures warned { OnOk result
         (warned.new.items ≡ warned.old.items ++ draft_nad_warnings told.now nads.now draft.old) }
@@ -401,12 +404,12 @@ fn settle_draft(
 }
 
 fn settle_drafts(
-    told: &Told<'_, '_>,
+    told: &AttributeSources<'_, '_>,
     nads: &Repeats,
     drafts: &mut [Attributes],
     warned: &mut Vec<Finding>,
 ) -> Result<(), AllocError>
-    requires { All (λ a. is_node told.now.nodes a.node ≡ true) drafts.old }
+    requires { All (λ a. is_loose_node told.now.nodes a.node ≡ true) drafts.old }
     ensures settled { OnOk result (drafts.new ≡ map (settled_draft told.now nads.now) drafts.old) }
     ensures warned { OnOk result
         (warned.new.items
@@ -421,7 +424,7 @@ fn settle_drafts(
 /// The blocks of nodes, one for each that something is told of.
 pub fn settle_attributes(
     alloc: Global,
-    told: &Told<'_, '_>,
+    told: &AttributeSources<'_, '_>,
     attributes: Many<LooseAttributes>,
     warned: &mut Vec<Finding>,
 ) -> Result<Many<Attributes>, AllocError>

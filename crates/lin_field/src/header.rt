@@ -3,13 +3,13 @@
 ghost use Rattle.std.specs.Prelude.{◌≡◌};
 ghost use Rattle.std.specs.Prelude.{◌++◌, OnOk};
 ghost use Rattle.lin_ldf.specs.Forms.{Gives, Gathers};
-ghost use Rattle.lin_field.specs.Grammar.{line_word, version, speed, other_line, order_line, line};
-ghost use Rattle.lin_field.specs.Grammar.{lines, header, no_lines, is_line_next, order_left_out};
+ghost use Rattle.lin_field.specs.Grammar.{line_word, loose_version, loose_speed, other_line, order_line, header_line};
+ghost use Rattle.lin_field.specs.Grammar.{header_lines, loose_header, no_lines, is_line_next, order_left_out};
 
-use crate::decimals::decimal_in;
-use crate::loose::{Decimal, Header};
+use crate::loose::{Header, RoundedDecimal};
+use crate::rounded_decimals::decimal_in;
 use lin_ldf::{LdfFault, Parser, TokenKind, once};
-use lin_parts::Place;
+use lin_parts::Location;
 use lin_parts::description::Name;
 use lin_text::{Many, Text};
 use std::alloc::{AllocError, Global};
@@ -19,7 +19,7 @@ use std::alloc::{AllocError, Global};
 pub struct Lines {
     pub version: Option<Text>,
     pub language: Option<Text>,
-    pub speed: Option<Decimal>,
+    pub speed: Option<RoundedDecimal>,
     pub little_endian: Option<Name>,
     pub big_endian: Option<Name>,
     pub unknown: Many<Name>,
@@ -60,7 +60,7 @@ fn line_word(word: &[u8]) -> LineWord
 
 // version = word '=' ( TEXT | NUM ) ';'
 fn version(parser: &mut Parser<'_>, word: &[u8]) -> Result<Text, LdfFault>
-    ensures { Gives result parser.new ((version word.now).read parser.old) }
+    ensures { Gives result parser.new ((loose_version word.now).read parser.old) }
 {
     parser.keyword_before(word, TokenKind::Equals)?;
     let text = parser.protocol_text()?;
@@ -69,8 +69,8 @@ fn version(parser: &mut Parser<'_>, word: &[u8]) -> Result<Text, LdfFault>
 }
 
 // speed = 'LIN_speed' '=' DECR 'kbps' ';'
-fn speed(parser: &mut Parser<'_>) -> Result<Decimal, LdfFault>
-    ensures { Gives result parser.new (speed.read parser.old) }
+fn speed(parser: &mut Parser<'_>) -> Result<RoundedDecimal, LdfFault>
+    ensures { Gives result parser.new (loose_speed.read parser.old) }
 {
     parser.keyword_before(b"LIN_speed", TokenKind::Equals)?;
     decimal_in(parser, b"kbps", TokenKind::Semicolon)
@@ -83,7 +83,7 @@ fn order_line(parser: &mut Parser<'_>, word: &[u8]) -> Result<Name, LdfFault>
     if !parser.is_at_word(word) {
         return Err(LdfFault::Unexpected(parser.place()));
     }
-    let Place { line, column } = parser.place();
+    let Location { line, column } = parser.place();
     let text = Text::copied(parser.alloc(), parser.text())?;
     parser.skip();
     parser.mark(TokenKind::Semicolon)?;
@@ -120,7 +120,7 @@ impl Lines {
 
     // line = version | language | speed | byte order | other, the first five once at most
     fn add(&mut self, parser: &mut Parser<'_>) -> Result<(), LdfFault>
-        ensures { Gathers result self.new parser.new ((line self.old).read parser.old) }
+        ensures { Gathers result self.new parser.new ((header_line self.old).read parser.old) }
     {
         let twice = LdfFault::NameTwice(parser.place());
         match line_word(parser.text()) {
@@ -164,7 +164,7 @@ fn is_at_line(parser: &Parser<'_>) -> bool
 
 // 'LIN_description_file' ';' { line }*
 fn read_lines(parser: &mut Parser<'_>) -> Result<Lines, LdfFault>
-    ensures { Gives result parser.new (lines.read parser.old) }
+    ensures { Gives result parser.new (header_lines.read parser.old) }
 {
     parser.keyword_before(b"LIN_description_file", TokenKind::Semicolon)?;
     let mut lines = Lines::new(parser.alloc());
@@ -192,7 +192,7 @@ fn add_left_out(
 
 /// Reads the header: lines in any order, among them a version and a speed.
 pub fn read_header(parser: &mut Parser<'_>) -> Result<Header, LdfFault>
-    ensures { Gives result parser.new (header.read parser.old) }
+    ensures { Gives result parser.new (loose_header.read parser.old) }
 {
     let lines = read_lines(parser)?;
     let mut unknown = lines.unknown;

@@ -2,17 +2,17 @@
 
 ghost use Rattle.std.specs.Prelude.{◌≡◌};
 ghost use Rattle.lin_ldf.specs.Forms.{Gives};
-ghost use Rattle.lin_field.specs.Grammar.{loose_init, frame_size, event_table, loose_settings};
+ghost use Rattle.lin_field.specs.Grammar.{loose_init, optional_size, event_table, loose_settings};
 
-use crate::decimals::decimal_in;
 use crate::loose::{
     LooseAttributes, LooseEntry, LooseEvent, LooseFrame, LooseInit, LooseSignal, LooseTable,
     NodeAddress,
 };
+use crate::rounded_decimals::decimal_in;
 use crate::wide::wide_int;
 use lin_ldf::{
-    Gathered, Item, LdfFault, Listed, Names, NodeBlocks, Parser, Settings, TokenKind, Whole, block,
-    gather, once, one_or_more,
+    AttributeSettings, Gathered, ItemForm, LdfFault, ListItem, Names, NodeBlocks, Parser,
+    TokenKind, Whole, block, gather, once, one_or_more,
 };
 use lin_parts::description::{Attributes, Name, Number};
 
@@ -28,13 +28,13 @@ fn init(parser: &mut Parser<'_>) -> Result<LooseInit, LdfFault>
     Ok(LooseInit::Array(place, values))
 }
 
-impl<'a> Listed<Names<'a>> for LooseSignal {
-    ghost use Rattle.lin_field.specs.Items.{signal_items};
+impl<'a> ItemForm<Names<'a>> for LooseSignal {
+    ghost use Rattle.lin_field.specs.Items.{loose_signal_items};
 
-    ghost items = { signal_items };
+    ghost items = { loose_signal_items };
 }
 
-impl<'a> Item<'a, Names<'a>> for LooseSignal {
+impl<'a> ListItem<'a, Names<'a>> for LooseSignal {
     // signal = WORD ':' INT ',' init ',' WORD { ',' WORD }* ';'
     fn parse(parser: &mut Parser<'a>, seen: &mut Names<'a>) -> Result<LooseSignal, LdfFault> {
         let name = parser.declared_before(seen, TokenKind::Colon)?;
@@ -55,7 +55,7 @@ impl<'a> Item<'a, Names<'a>> for LooseSignal {
 
 // [ ',' INT ]
 fn frame_size(parser: &mut Parser<'_>) -> Result<Option<Number>, LdfFault>
-    ensures { Gives result parser.new (frame_size.read parser.old) }
+    ensures { Gives result parser.new (optional_size.read parser.old) }
 {
     if !parser.is_at(TokenKind::Comma) {
         return Ok(None);
@@ -64,13 +64,13 @@ fn frame_size(parser: &mut Parser<'_>) -> Result<Option<Number>, LdfFault>
     Ok(Some(parser.int()?))
 }
 
-impl<'a> Listed<Names<'a>> for LooseFrame {
-    ghost use Rattle.lin_field.specs.Items.{frame_items};
+impl<'a> ItemForm<Names<'a>> for LooseFrame {
+    ghost use Rattle.lin_field.specs.Items.{loose_frame_items};
 
-    ghost items = { frame_items };
+    ghost items = { loose_frame_items };
 }
 
-impl<'a> Item<'a, Names<'a>> for LooseFrame {
+impl<'a> ListItem<'a, Names<'a>> for LooseFrame {
     // frame = WORD ':' INT ',' WORD [ ',' INT ] '{' { placed }* '}'
     fn parse(parser: &mut Parser<'a>, seen: &mut Names<'a>) -> Result<LooseFrame, LdfFault> {
         let name = parser.declared_before(seen, TokenKind::Colon)?;
@@ -98,13 +98,13 @@ fn event_table(parser: &mut Parser<'_>) -> Result<Option<Name>, LdfFault>
     Ok(Some(parser.word_before(TokenKind::Comma)?))
 }
 
-impl<'a> Listed<Names<'a>> for LooseEvent {
-    ghost use Rattle.lin_field.specs.Items.{event_items};
+impl<'a> ItemForm<Names<'a>> for LooseEvent {
+    ghost use Rattle.lin_field.specs.Items.{loose_event_items};
 
-    ghost items = { event_items };
+    ghost items = { loose_event_items };
 }
 
-impl<'a> Item<'a, Names<'a>> for LooseEvent {
+impl<'a> ListItem<'a, Names<'a>> for LooseEvent {
     // event = WORD ':' [ WORD ',' ] INT ',' words ';'
     fn parse(parser: &mut Parser<'a>, seen: &mut Names<'a>) -> Result<LooseEvent, LdfFault> {
         let name = parser.declared_before(seen, TokenKind::Colon)?;
@@ -123,7 +123,7 @@ impl<'a> Item<'a, Names<'a>> for LooseEvent {
 /// What was read of a block of attributes.
 #[derive(Drop)]
 pub struct LooseSettings {
-    pub plain: Settings,
+    pub plain: AttributeSettings,
     pub initial_nad: Option<Number>,
 }
 
@@ -154,7 +154,7 @@ fn settings(parser: &mut Parser<'_>) -> Result<LooseSettings, LdfFault>
 {
     parser.mark(TokenKind::OpenBrace)?;
     let mut settings = LooseSettings {
-        plain: Settings {
+        plain: AttributeSettings {
             protocol: None,
             configured_nad: None,
             response_error: None,
@@ -166,13 +166,13 @@ fn settings(parser: &mut Parser<'_>) -> Result<LooseSettings, LdfFault>
     Ok(settings)
 }
 
-impl<'a> Listed<NodeBlocks<'a>> for LooseAttributes {
-    ghost use Rattle.lin_field.specs.Items.{attribute_items};
+impl<'a> ItemForm<NodeBlocks<'a>> for LooseAttributes {
+    ghost use Rattle.lin_field.specs.Items.{loose_attribute_items};
 
-    ghost items = { attribute_items };
+    ghost items = { loose_attribute_items };
 }
 
-impl<'a> Item<'a, NodeBlocks<'a>> for LooseAttributes {
+impl<'a> ListItem<'a, NodeBlocks<'a>> for LooseAttributes {
     // attribute_block = WORD settings
     fn parse(
         parser: &mut Parser<'a>,
@@ -192,13 +192,13 @@ impl<'a> Item<'a, NodeBlocks<'a>> for LooseAttributes {
     }
 }
 
-impl Listed<()> for NodeAddress {
+impl ItemForm<()> for NodeAddress {
     ghost use Rattle.lin_field.specs.Items.{address_items};
 
     ghost items = { address_items };
 }
 
-impl<'a> Item<'a, ()> for NodeAddress {
+impl<'a> ListItem<'a, ()> for NodeAddress {
     // address = WORD ':' INT ';'
     fn parse(parser: &mut Parser<'a>, _state: &mut ()) -> Result<NodeAddress, LdfFault> {
         let node = parser.word_before(TokenKind::Colon)?;
@@ -207,13 +207,13 @@ impl<'a> Item<'a, ()> for NodeAddress {
     }
 }
 
-impl Listed<()> for LooseEntry {
-    ghost use Rattle.lin_field.specs.Items.{entry_items};
+impl ItemForm<()> for LooseEntry {
+    ghost use Rattle.lin_field.specs.Items.{loose_entry_items};
 
-    ghost items = { entry_items };
+    ghost items = { loose_entry_items };
 }
 
-impl<'a> Item<'a, ()> for LooseEntry {
+impl<'a> ListItem<'a, ()> for LooseEntry {
     // entry = WORD [ group ] 'delay' DECR 'ms' ';'
     fn parse(parser: &mut Parser<'a>, _state: &mut ()) -> Result<LooseEntry, LdfFault> {
         let name = parser.word()?;
@@ -228,13 +228,13 @@ impl<'a> Item<'a, ()> for LooseEntry {
     }
 }
 
-impl<'a> Listed<Names<'a>> for LooseTable {
-    ghost use Rattle.lin_field.specs.Items.{table_items};
+impl<'a> ItemForm<Names<'a>> for LooseTable {
+    ghost use Rattle.lin_field.specs.Items.{loose_table_items};
 
-    ghost items = { table_items };
+    ghost items = { loose_table_items };
 }
 
-impl<'a> Item<'a, Names<'a>> for LooseTable {
+impl<'a> ListItem<'a, Names<'a>> for LooseTable {
     // table = WORD '{' { entry }* '}'
     fn parse(parser: &mut Parser<'a>, seen: &mut Names<'a>) -> Result<LooseTable, LdfFault> {
         let name = parser.declared(seen)?;

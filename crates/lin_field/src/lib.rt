@@ -8,33 +8,33 @@
 #![tactic(auto)]
 
 mod attributes;
-mod checking;
-mod decimals;
+mod field_check;
+mod field_text;
 mod file;
 mod frames;
 mod header;
 mod items;
-mod laws;
+mod law;
 mod loose;
 mod marks;
-mod names;
+mod node_names;
 mod nodes;
+mod normalizing;
 mod order;
 mod plain;
-mod reading;
-mod settling;
+mod rounded_decimals;
 mod signals;
 mod tables;
 mod times;
 mod wide;
 
-pub use checking::{Checked, FieldFault, Remark, check_field};
-pub use laws::{plain_texts_stay, silence_is_free};
+pub use field_check::{Checked, FieldFault, Remark, check_field};
+pub use field_text::{FieldText, read_field};
+pub use law::{plain_texts_stay, silence_is_free};
 pub use loose::{
-    Decimal, Header, Loose, LooseAttributes, LooseEntry, LooseEvent, LooseFrame, LooseInit,
-    LooseNodes, LooseSignal, LooseTable, NodeAddress, WideNumber,
+    Header, Loose, LooseAttributes, LooseEntry, LooseEvent, LooseFrame, LooseInit, LooseNodes,
+    LooseSignal, LooseTable, NodeAddress, RoundedDecimal, WideNumber,
 };
 pub use marks::read_over_bytes;
+pub use normalizing::{Normalized, settle};
 pub use plain::write_plain;
-pub use reading::{FieldText, read_field};
-pub use settling::{Settled, settle};

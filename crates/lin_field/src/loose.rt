@@ -1,12 +1,12 @@
 //! What a text of the field describes, before it is settled.
 
-use lin_parts::Place;
+use lin_parts::Location;
 use lin_parts::description::{Attributes, Name, Number, PlacedSignal, Sporadic};
 use lin_text::{Many, OneOrMore, Text};
 
 /// A number in thousandths of a unit, and whether its text has more decimals, so that it is rounded.
 #[derive(Clone, Copy, Debug)]
-pub struct Decimal {
+pub struct RoundedDecimal {
     pub number: Number,
     pub is_rounded: bool,
 }
@@ -19,7 +19,7 @@ pub struct Header {
     pub version: Text,
     /// `LIN_language_version`, likewise.
     pub language: Option<Text>,
-    pub speed: Decimal,
+    pub speed: RoundedDecimal,
     pub is_big_endian: bool,
     pub unknown: Many<Name>,
 }
@@ -28,8 +28,8 @@ pub struct Header {
 #[derive(Debug, Drop)]
 pub struct LooseNodes {
     pub master: Name,
-    pub time_base: Decimal,
-    pub jitter: Decimal,
+    pub time_base: RoundedDecimal,
+    pub jitter: RoundedDecimal,
     pub slaves: OneOrMore<Name>,
 }
 
@@ -37,7 +37,7 @@ pub struct LooseNodes {
 #[derive(Clone, Copy, Debug)]
 pub struct WideNumber {
     pub value: u64,
-    pub place: Place,
+    pub place: Location,
 }
 
 /// The initial value of a signal: a number, or for an array the place of its brace and the value of
@@ -45,7 +45,7 @@ pub struct WideNumber {
 #[derive(Debug, Drop)]
 pub enum LooseInit {
     Scalar(WideNumber),
-    Array(Place, OneOrMore<Number>),
+    Array(Location, OneOrMore<Number>),
 }
 
 /// A signal whose initial value may have up to 64 bits: its size is in bits.
@@ -96,7 +96,7 @@ pub struct NodeAddress {
 pub struct LooseEntry {
     pub name: Name,
     pub has_group: bool,
-    pub delay: Decimal,
+    pub delay: RoundedDecimal,
 }
 
 /// A schedule table.

@@ -4,7 +4,7 @@ ghost use Rattle.std.specs.Prelude.{◌≡◌, IfOk, IfErr};
 ghost use Rattle.lin_ldf.specs.Bytes.{is_separator};
 ghost use Rattle.lin_ldf.specs.Tokens.{AreTokens, IsLexFault};
 ghost use Rattle.lin_field.specs.Bytes.{field_bytes};
-ghost use Rattle.lin_field.specs.Marks.{is_extra, AreExtraMarks, blanked};
+ghost use Rattle.lin_field.specs.Marks.{is_extra, AreExtraMarks, text_with_blanks};
 ghost use Rattle.lin_field.specs.Suspects.{behind_separators, is_suspect, has_suspect};
 
 use lin_ldf::{LdfFault, Lexer, Token, TokenKind};
@@ -104,7 +104,7 @@ pub fn extra_marks(alloc: Global, source: &[u8]) -> Result<Vec<Token>, LdfFault>
 
 /// A space in the place of each mark. (No other token changes, since a mark is a token of one byte.)
 pub fn read_over_marks(bytes: &mut [u8], marks: &[Token])
-    ensures { bytes.new ≡ blanked bytes.old marks.now }
+    ensures { bytes.new ≡ text_with_blanks bytes.old marks.now }
 {
     for mark in marks {
         if mark.start < bytes.len() {

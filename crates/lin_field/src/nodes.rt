@@ -3,10 +3,10 @@
 ghost use Rattle.std.specs.Prelude.{◌≡◌, [], IfOk};
 ghost use Rattle.lin_ldf.specs.Forms.{Gives};
 ghost use Rattle.lin_ldf.specs.Words.{with_name};
-ghost use Rattle.lin_field.specs.Grammar.{master, master_rest, nodes, node_names};
+ghost use Rattle.lin_field.specs.Grammar.{loose_master, master_rest, loose_nodes, loose_node_names};
 
-use crate::decimals::{decimal_in, read_decimal};
-use crate::loose::{Decimal, LooseNodes};
+use crate::loose::{LooseNodes, RoundedDecimal};
+use crate::rounded_decimals::{decimal_in, read_decimal};
 use lin_ldf::{LdfFault, Names, Parser, TokenKind};
 use lin_parts::description::Name;
 
@@ -26,8 +26,8 @@ fn master_rest(parser: &mut Parser<'_>) -> Result<(), LdfFault>
 fn master<'a>(
     parser: &mut Parser<'a>,
     seen: &mut Names<'a>,
-) -> Result<(Name, (Decimal, Decimal)), LdfFault>
-    ensures read { Gives result parser.new ((master seen.old).read parser.old) }
+) -> Result<(Name, (RoundedDecimal, RoundedDecimal)), LdfFault>
+    ensures read { Gives result parser.new ((loose_master seen.old).read parser.old) }
     ensures names { IfOk result (λ m. seen.new ≡ with_name seen.old m.0) }
 {
     parser.keyword_before(b"Master", TokenKind::Colon)?;
@@ -42,8 +42,8 @@ fn master<'a>(
 /// Reads the nodes: `'Nodes' '{' master slaves`. `seen` has their names afterwards.
 pub fn nodes<'a>(parser: &mut Parser<'a>, seen: &mut Names<'a>) -> Result<LooseNodes, LdfFault>
     requires { seen.old ≡ [] }
-    ensures read { Gives result parser.new (nodes.read parser.old) }
-    ensures names { IfOk result (λ n. seen.new ≡ node_names n) }
+    ensures read { Gives result parser.new (loose_nodes.read parser.old) }
+    ensures names { IfOk result (λ n. seen.new ≡ loose_node_names n) }
 {
     parser.keyword_before(b"Nodes", TokenKind::OpenBrace)?;
     let (master, (time_base, jitter)) = master(parser, seen)?;

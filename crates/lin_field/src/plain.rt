@@ -14,29 +14,29 @@ ghost use Rattle.lin_field.specs.Plain.{header_text, nodes_text, section_text, e
 ghost use Rattle.lin_field.specs.Plain.{blocks_text, tables_text, header_part, frames_part};
 ghost use Rattle.lin_field.specs.Plain.{tables_part, plain_data, plain_text};
 
-mod declarations;
-mod names;
-mod parts;
-mod words;
+mod declaration_lines;
+mod table_names;
+mod text_parts;
+mod written_words;
 
 use crate::loose::Header;
-use crate::settling::Settled;
-use declarations::{
+use crate::normalizing::Normalized;
+use declaration_lines::{
     put_all_events, put_all_frames, put_all_signals, put_all_sporadic, put_entries, put_nad,
     put_protocol,
 };
 use lin_ldf::Token;
 use lin_parts::description::{Attributes, Description, EventFrame, Frame, Signal, Sporadic, Table};
 use lin_text::{Text, TextBuffer, TextWriter, WriteFailed};
-use names::{declared_names, event_tables, node_names, table_names};
-use parts::{
-    behind_head, bytes_of, filled_parts, inside_at, is_line, is_one_of, is_section, is_section_of,
-    next_part, node_blocks, parts, tokens_of, word_of,
-};
 use std::alloc::{AllocError, Global};
 use std::io::Write;
 use std::marker::Model;
-use words::{put_between, put_names, put_thousandths};
+use table_names::{declared_names, event_tables, node_names, table_names};
+use text_parts::{
+    behind_head, bytes_of, filled_parts, inside_at, is_line, is_one_of, is_section, is_section_of,
+    next_part, node_blocks, parts, tokens_of, word_of,
+};
+use written_words::{put_between, put_names, put_thousandths};
 
 /// The lines of a header that are read.
 static LINES: [&[u8]; 3] = [
@@ -403,7 +403,7 @@ impl<'a> Plain<'a> {
     /// An error means out of memory.
     fn new(
         alloc: Global,
-        settled: &'a Settled,
+        settled: &'a Normalized,
         source: &'a [u8],
         tokens: &'a [Token],
     ) -> Result<Plain<'a>, AllocError>
@@ -486,7 +486,7 @@ impl<'a> Plain<'a> {
 /// Out of memory, after which nothing was written; otherwise as of `TextWriter::finish`.
 pub fn write_plain<W: Write>(
     alloc: Global,
-    settled: &Settled,
+    settled: &Normalized,
     source: &[u8],
     writer: &mut W,
 ) -> Result<Result<(), WriteFailed>, AllocError>

@@ -3,13 +3,13 @@
 
 ghost use Rattle.std.specs.Prelude.{◌≡◌, ◌++◌, ◌≤◌, ◌<◌, flat_map, map, filter, IfOk, OnOk};
 ghost use Rattle.std.specs.List.{list_all};
-ghost use Rattle.lin_field.specs.Names.{is_node};
-ghost use Rattle.lin_field.specs.Signals.{is_wide, is_narrow, low_bits, kept_bits, value_at};
+ghost use Rattle.lin_field.specs.Names.{is_loose_node};
+ghost use Rattle.lin_field.specs.Signals.{is_wide, is_narrow, low_bits, kept_bits, number_with_value};
 ghost use Rattle.lin_field.specs.Signals.{byte_numbers, settled_init, size_warnings};
-ghost use Rattle.lin_field.specs.Signals.{settled_signal, signal_warnings, unknown_node};
+ghost use Rattle.lin_field.specs.Signals.{settled_signal, signal_warnings, unknown_loose_node};
 
 use crate::loose::{LooseInit, LooseSignal, WideNumber};
-use crate::names::NodeNames;
+use crate::node_names::NodeNames;
 use lin_cluster::{Finding, FindingKind, at_name, at_number, push_when};
 use lin_parts::description::{Init, Name, Number, Signal};
 use lin_text::{Many, OneOrMore};
@@ -49,7 +49,7 @@ fn low_bits(value: u64, size: u32) -> u64
 
 /// A number with this value, at the place of another.
 fn value_at(number: WideNumber, value: u32) -> Number
-    ensures { result ≡ value_at number value }
+    ensures { result ≡ number_with_value number value }
 {
     Number {
         value,
@@ -61,7 +61,7 @@ fn value_at(number: WideNumber, value: u32) -> Number
 /// The low bits of a number, at its place.
 fn low_number(number: WideNumber, bits: u32) -> Number
     requires { bits ≤ 32 }
-    ensures { result ≡ value_at number (low_bits number.value bits) }
+    ensures { result ≡ number_with_value number (low_bits number.value bits) }
 {
     value_at(number, low_bits(number.value, bits) as u32)
 }
@@ -118,7 +118,7 @@ fn warn_of_size(warned: &mut Vec<Finding>, signal: &LooseSignal) -> Result<(), A
 }
 
 fn are_nodes(nodes: &NodeNames<'_>, names: &[Name]) -> bool
-    ensures { result ≡ list_all (is_node nodes.now) names.now }
+    ensures { result ≡ list_all (is_loose_node nodes.now) names.now }
 {
     names.iter().all(|name| nodes.is_node(name))
 }
@@ -130,9 +130,9 @@ fn kept_nodes(
     names: Many<Name>,
     warned: &mut Vec<Finding>,
 ) -> Result<Many<Name>, AllocError>
-    ensures kept { IfOk result (λ n. n ≡ filter (is_node nodes.now) names) }
+    ensures kept { IfOk result (λ n. n ≡ filter (is_loose_node nodes.now) names) }
     ensures warned { OnOk result
-        (warned.new.items ≡ warned.old.items ++ flat_map (unknown_node nodes.now) names) }
+        (warned.new.items ≡ warned.old.items ++ flat_map (unknown_loose_node nodes.now) names) }
 {
     if are_nodes(nodes, names.as_slice()) {
         return Ok(names);

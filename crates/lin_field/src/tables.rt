@@ -4,10 +4,10 @@ ghost use Rattle.std.specs.Prelude.{◌≡◌, ◌++◌, flat_map, map, IfOk, On
 ghost use Rattle.std.specs.List.{list_any};
 ghost use Rattle.lin_field.specs.Tables.{is_filled, plain_entry, rounded_warnings, entry_rounded};
 ghost use Rattle.lin_field.specs.Tables.{kept_tables, table_warnings, names_left_out};
-ghost use Rattle.lin_field.specs.Tables.{members_name, is_members_name, named_table};
+ghost use Rattle.lin_field.specs.Tables.{members_name, is_members_name, kept_table_name};
 ghost use Rattle.lin_field.specs.Tables.{settled_event, event_warnings};
 
-use crate::loose::{Decimal, LooseEntry, LooseEvent, LooseTable};
+use crate::loose::{LooseEntry, LooseEvent, LooseTable, RoundedDecimal};
 use lin_cluster::{
     Finding, FindingKind, Numbers, at_name, at_number, find_by, numbers_of, push_when,
 };
@@ -20,7 +20,10 @@ use std::marker::Model;
 const MEMBERS: &[u8] = b".members";
 
 /// Adds a warning (22 Rounded) if a number was rounded to thousandths.
-pub fn warn_of_rounding(warned: &mut Vec<Finding>, decimal: &Decimal) -> Result<(), AllocError>
+pub fn warn_of_rounding(
+    warned: &mut Vec<Finding>,
+    decimal: &RoundedDecimal,
+) -> Result<(), AllocError>
     ensures { OnOk result (warned.new.items ≡ warned.old.items ++ rounded_warnings decimal.now) }
 {
     push_when(
@@ -168,7 +171,7 @@ impl<'a> TableNames<'a> {
 
     /// The table that an event-triggered frame names, where it isn't left out.
     fn named_table(&self, table: Option<Name>) -> Option<Name>
-        ensures { result ≡ named_table self.now table }
+        ensures { result ≡ kept_table_name self.now table }
     {
         let name = table?;
         if self.is_left_out(&name) {

@@ -8,14 +8,14 @@ ghost use Rattle.std.specs.List.{list_any};
 ghost use Rattle.lin_cluster.specs.FindingsNames.{same_name};
 ghost use Rattle.lin_cluster.specs.Names.{NumbersFirst};
 ghost use Rattle.lin_field.specs.Tables.{is_members_name};
-ghost use Rattle.lin_field.specs.Times.{nominal_us, rounded_up, asked_us, time_of, timed_entry};
-ghost use Rattle.lin_field.specs.Times.{entry_warnings, timed_tables, timing_warnings};
+ghost use Rattle.lin_field.specs.Times.{nominal_us, rounded_up, asked_us, rounded_delay, timed_entry};
+ghost use Rattle.lin_field.specs.Times.{delay_warnings, timed_tables, timing_warnings};
 ghost use Rattle.lin_field.specs.Times.{member_entry, member_table_by, member_tables, or_idle, calls};
 ghost use Rattle.lin_field.specs.Times.{has_no_delay, is_timed, all_tables};
 ghost use Rattle.lin_field.specs.Times.{tight_slot, tight_slots};
-ghost use Rattle.lin_field.specs.Attributes.{listed};
+ghost use Rattle.lin_field.specs.Attributes.{as_list};
 
-use crate::names::copied;
+use crate::node_names::copied;
 use crate::tables::is_members_name;
 use lin_cluster::{
     Finding, FindingKind, Named, Numbers, SlotSizes, at_name, at_number, find_by, is_speed,
@@ -27,12 +27,12 @@ use std::alloc::{AllocError, Global};
 use std::marker::Model;
 
 /// A description, and the sizes of its slots. Contracts see the description.
-pub struct Slots<'a> {
+pub struct SizedDescription<'a> {
     description: &'a Description,
     sizes: SlotSizes<'a>,
 }
 
-impl<'a> Model for Slots<'a> {
+impl<'a> Model for SizedDescription<'a> {
     ghost use Rattle.std.specs.Prelude.{◌≡◌};
     ghost use Rattle.lin_parts.specs.declared.description.Description.{Description};
 
@@ -44,9 +44,9 @@ impl<'a> Model for Slots<'a> {
 }
 
 // (written out, so that an owner has one call)
-impl<'a> Drop for Slots<'a> {
+impl<'a> Drop for SizedDescription<'a> {
     fn drop(self) {
-        let Slots {
+        let SizedDescription {
             description: _,
             sizes: _sizes,
         } = self;
@@ -99,12 +99,15 @@ fn add_idle(
     Ok(())
 }
 
-impl<'a> Slots<'a> {
+impl<'a> SizedDescription<'a> {
     /// An error means out of memory.
-    pub fn new(alloc: Global, description: &'a Description) -> Result<Slots<'a>, AllocError>
+    pub fn new(
+        alloc: Global,
+        description: &'a Description,
+    ) -> Result<SizedDescription<'a>, AllocError>
         ensures { IfOk result (λ s. s ≡ description.now) }
     {
-        Ok(Slots {
+        Ok(SizedDescription {
             description,
             sizes: SlotSizes::new(alloc, description)?,
         })
@@ -126,7 +129,7 @@ impl<'a> Slots<'a> {
 
     /// That time as a multiple of the time base, where it is known and a number can be it.
     fn time_of(&self, entry: &TableEntry) -> Option<u32>
-        ensures { result ≡ time_of self.now entry.now }
+        ensures { result ≡ rounded_delay self.now entry.now }
     {
         let us = self.asked_us(entry)?;
         u32::try_from(rounded_up(us, self.description.time_base().value)).ok()
@@ -140,7 +143,7 @@ impl<'a> Slots<'a> {
     ) -> Result<(), AllocError>
         ensures timed { OnOk result (entry.new ≡ timed_entry self.now entry.old) }
         ensures warned { OnOk result
-            (warned.new.items ≡ warned.old.items ++ entry_warnings self.now entry.old) }
+            (warned.new.items ≡ warned.old.items ++ delay_warnings self.now entry.old) }
     {
         if entry.delay.value == 0
             && let Some(time) = self.time_of(entry)
@@ -159,7 +162,7 @@ impl<'a> Slots<'a> {
     ) -> Result<Many<TableEntry>, AllocError>
         ensures timed { IfOk result (λ e. e ≡ map (timed_entry self.now) entries) }
         ensures warned { OnOk result
-            (warned.new.items ≡ warned.old.items ++ flat_map (entry_warnings self.now) entries) }
+            (warned.new.items ≡ warned.old.items ++ flat_map (delay_warnings self.now) entries) }
     {
         let mut timed = Vec::new(alloc);
         for mut entry in entries.into_vec() {
@@ -256,7 +259,7 @@ impl<'a> Slots<'a> {
 
     /// That a slot is shorter than it may take, where the frame's own time fits.
     fn tight_slot(&self, entry: &TableEntry) -> Option<Finding>
-        ensures { listed result ≡ tight_slot self.now entry.now }
+        ensures { as_list result ≡ tight_slot self.now entry.now }
     {
         let size = self.sizes.of(entry)?;
         let needed_us = self.asked_us(entry)?;
@@ -333,7 +336,7 @@ pub fn all_tables(
     if !is_timed(description.events(), tables.as_slice()) {
         return Ok(tables);
     }
-    let slots = Slots::new(alloc, description)?;
+    let slots = SizedDescription::new(alloc, description)?;
     let mut timed = slots.time_tables(alloc, tables, warned)?;
     for table in slots.member_tables(alloc, timed.as_slice())? {
         timed.push(table)?;

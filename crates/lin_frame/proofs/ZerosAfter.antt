@@ -3,7 +3,7 @@ use Rattle.std.proofs.Common.{◌≡◌, ◌<◌, ◌≤◌, ◌++◌, ℕ, zero
 use Rattle.std.specs.Prelude.{slice_index, nat_lt}
 use Rattle.std.proofs.lemmas.Bool.Decides.{nat_tests}
 use Rattle.std.proofs.lemmas.List.{get_or_past, length-take, take-append-le}
-use Rattle.lin_frame.specs.Short.{with_zeros, IsShort}
+use Rattle.lin_frame.specs.Short.{with_zeros, IsFilledWithZeros}
 
 zero-read : (n k : ℕ) → slice_index (replicate n 0) k ≡ 0
 zero-read zero k = refl
@@ -26,9 +26,9 @@ take-read xs n m k false t =
     in get_or_past (take m (xs ++ replicate n 0)) k 0 (omega arith) ∙ sym (get_or_past (take m xs) k 0 (omega arith))
 
 -- the first bytes of the place are those that are meant
-pub first-read : (size len m k : ℕ) (bytes : List ℕ) → IsShort size len bytes → slice_index (take m bytes) k ≡ slice_index (take m (take len bytes)) k
+pub first-read : (size len m k : ℕ) (bytes : List ℕ) → IsFilledWithZeros size len bytes → slice_index (take m bytes) k ≡ slice_index (take m (take len bytes)) k
 first-read size len m k bytes s =
     ap (λ xs. slice_index (take m xs) k) (sym s.zeros_after) ∙ take-read (take len bytes) _ m k (nat_lt k m) refl
 
-pub first-whole : (size len m : ℕ) (bytes : List ℕ) → IsShort size len bytes → m ≤ length (take len bytes) → take m bytes ≡ take m (take len bytes)
+pub first-whole : (size len m : ℕ) (bytes : List ℕ) → IsFilledWithZeros size len bytes → m ≤ length (take len bytes) → take m bytes ≡ take m (take len bytes)
 first-whole size len m bytes s l = ap (λ xs. take m xs) (sym s.zeros_after) ∙ take-append-le m (take len bytes) _ l

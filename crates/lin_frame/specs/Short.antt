@@ -6,7 +6,7 @@ abbrev pub with_zeros : ℕ → List ℕ → List ℕ
 with_zeros size bytes = bytes ++ replicate (size - length bytes) 0
 
 -- the first `len` bytes are meant, and zeros stand after them
-pub record IsShort (size len : ℕ) (bytes : List ℕ) : Type 0 where
+pub record IsFilledWithZeros (size len : ℕ) (bytes : List ℕ) : Type 0 where
   pub few : len ≤ size
   pub len_is : length (take len bytes) ≡ len
   pub zeros_after : with_zeros size (take len bytes) ≡ bytes

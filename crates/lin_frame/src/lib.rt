@@ -7,22 +7,22 @@
 //! ```
 #![tactic(auto)]
 
-mod answering;
 mod bits;
 mod identifier;
 mod inverse;
 mod layout;
 mod packing;
+mod responding;
 mod response;
 mod short;
 mod sums;
 mod value;
 
-pub use answering::answer;
 pub use identifier::{FrameId, protected, unprotect};
 pub use inverse::packing_is_inverse;
 pub use layout::{Layout, Place};
 pub use packing::{pack, unpack};
+pub use responding::answer;
 pub use response::Answer;
 pub use sums::{SumKind, checksum, passes};
 pub use value::{Value, ValueBytes};

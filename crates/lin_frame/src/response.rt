@@ -20,13 +20,13 @@ pub struct Answer {
 impl Model for Answer {
     ghost use Rattle.std.specs.Prelude.{List, ℕ, length, take};
     ghost use Rattle.std.proofs.Common.{ap, ◌∙◌};
-    ghost use Rattle.lin_frame.specs.Short.{with_zeros, IsShort};
+    ghost use Rattle.lin_frame.specs.Short.{with_zeros, IsFilledWithZeros};
 
     ghost Value = { List ℕ };
 
     ghost view = { λ a. take a.len a.bytes };
 
-    ghost invariant = { λ a. IsShort 9 a.len a.bytes };
+    ghost invariant = { λ a. IsFilledWithZeros 9 a.len a.bytes };
 
     ghost inverse = { λ xs. record { bytes = with_zeros 9 xs; len = length xs } };
 

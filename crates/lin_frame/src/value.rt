@@ -19,13 +19,13 @@ pub struct ValueBytes {
 impl Model for ValueBytes {
     ghost use Rattle.std.specs.Prelude.{List, ℕ, length, take};
     ghost use Rattle.std.proofs.Common.{ap, ◌∙◌};
-    ghost use Rattle.lin_frame.specs.Short.{with_zeros, IsShort};
+    ghost use Rattle.lin_frame.specs.Short.{with_zeros, IsFilledWithZeros};
 
     ghost Value = { List ℕ };
 
     ghost view = { λ v. take v.len v.bytes };
 
-    ghost invariant = { λ v. IsShort 8 v.len v.bytes };
+    ghost invariant = { λ v. IsFilledWithZeros 8 v.len v.bytes };
 
     ghost inverse = { λ xs. record { bytes = with_zeros 8 xs; len = length xs } };
 

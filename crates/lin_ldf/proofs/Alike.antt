@@ -4,7 +4,7 @@ use Rattle.std.proofs.Common.{◌≡◌, ℕ, zero, suc, ◌+◌, Bool, cond, Li
 use Rattle.std.specs.Prelude.{◌==◌, ◌&&◌, ◌||◌, drop, if◌then◌else◌}
 use Rattle.std.specs.List.{prefix_len}
 use Rattle.lin_ldf.specs.Bytes.{is_separator, is_letter, is_digit, is_hex_digit, is_word_byte, is_bad, is_not_newline, is_not_quote}
-use Rattle.lin_ldf.specs.Scanning.{begins, option_shift, close_at, single, block_piece, slash_piece, text_piece, has_fraction, has_hex, fraction_len, number_len, piece_at}
+use Rattle.lin_ldf.specs.Scanning.{begins_with, option_shift, close_at, single, block_piece, slash_piece, text_piece, has_fraction, has_hex, fraction_len, number_len, piece_at}
 use Rattle.lin_ldf.specs.declared.token.TokenKind.TheVariants as kinds
 use Rattle.lin_ldf.specs.declared.lexer.Scanned.{Scanned}
 use Rattle.lin_ldf.specs.declared.lexer.Scanned.TheVariants as pieces
@@ -49,7 +49,7 @@ same_prefix test h (a ∷ us) (b ∷ vs) l =
     ap (λ t. cond t (1 + prefix_len test us) 0) (same_test test h a b l.0)
     ∙ ap (λ n. cond (test b) (1 + n) 0) (same_prefix test h us vs l.1)
 
-same_begins : (test : ℕ → Bool) → Blind test → (us vs : List ℕ) → Alike us vs → begins test us ≡ begins test vs
+same_begins : (test : ℕ → Bool) → Blind test → (us vs : List ℕ) → Alike us vs → begins_with test us ≡ begins_with test vs
 same_begins test h [] [] l = refl
 same_begins test h [] (b ∷ vs) l = absurd l
 same_begins test h (a ∷ us) [] l = absurd l
@@ -75,9 +75,9 @@ same_close [] [] l = refl
 same_close [] (b ∷ vs) l = absurd l
 same_close (a ∷ us) [] l = absurd l
 same_close (a ∷ us) (b ∷ vs) l =
-    ap (λ t. cond (t && begins (λ d. d == 47) us) (Some 0) (option_shift 1 (close_at us))) (same_test (λ d. d == 42) (refl, refl) a b l.0)
+    ap (λ t. cond (t && begins_with (λ d. d == 47) us) (Some 0) (option_shift 1 (close_at us))) (same_test (λ d. d == 42) (refl, refl) a b l.0)
     ∙ ap (λ t. cond ((b == 42) && t) (Some 0) (option_shift 1 (close_at us))) (same_begins (λ d. d == 47) (refl, refl) us vs l.1)
-    ∙ ap (λ o. cond ((b == 42) && begins (λ d. d == 47) vs) (Some 0) (option_shift 1 o)) (same_close us vs l.1)
+    ∙ ap (λ o. cond ((b == 42) && begins_with (λ d. d == 47) vs) (Some 0) (option_shift 1 o)) (same_close us vs l.1)
 
 abbrev slash_shape : Bool → Bool → ℕ → Option ℕ → Scanned
 slash_shape line block n o = cond line (pieces.Gap (n + 2)) (cond block (block_piece o) (pieces.Token kinds.Other 1))
@@ -105,7 +105,7 @@ same_fraction [] [] l = refl
 same_fraction [] (b ∷ vs) l = absurd l
 same_fraction (a ∷ us) [] l = absurd l
 same_fraction (a ∷ us) (b ∷ vs) l =
-    ap (λ t. t && begins is_digit us) (same_test (λ d. d == 46) (refl, refl) a b l.0)
+    ap (λ t. t && begins_with is_digit us) (same_test (λ d. d == 46) (refl, refl) a b l.0)
     ∙ ap (λ t. (b == 46) && t) (same_begins is_digit (refl, refl) us vs l.1)
 
 same_hex : (us vs : List ℕ) → Alike us vs → has_hex us ≡ has_hex vs
@@ -113,7 +113,7 @@ same_hex [] [] l = refl
 same_hex [] (b ∷ vs) l = absurd l
 same_hex (a ∷ us) [] l = absurd l
 same_hex (a ∷ us) (b ∷ vs) l =
-    ap (λ t. t && begins is_hex_digit us) (same_test (λ d. d == 120 || d == 88) (refl, refl) a b l.0)
+    ap (λ t. t && begins_with is_hex_digit us) (same_test (λ d. d == 120 || d == 88) (refl, refl) a b l.0)
     ∙ ap (λ t. (b == 120 || b == 88) && t) (same_begins is_hex_digit (refl, refl) us vs l.1)
 
 same_fraction_len : (us vs : List ℕ) → Alike us vs → fraction_len us ≡ fraction_len vs

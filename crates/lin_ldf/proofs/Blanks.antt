@@ -4,7 +4,7 @@ use Rattle.std.specs.Prelude.{slice_range, min}
 use Rattle.std.proofs.lemmas.Bool.{cases_lt}
 use Rattle.std.proofs.lemmas.List.{length-take, length-drop, take-append-drop, take-append-le, drop-append-le}
 use Rattle.std.proofs.Math.Seq.{drop-append_seam, drop-append-add, set-append_seam}
-use Rattle.lin_parts.specs.declared.place.Place.{Place}
+use Rattle.lin_parts.specs.declared.place.Location.{Location}
 use Rattle.lin_ldf.specs.Symbols.{symbol_in, symbols_in}
 use Rattle.lin_ldf.specs.Advance.{step, first_place}
 use Rattle.lin_ldf.specs.Scanning.{piece_at}
@@ -69,38 +69,38 @@ is_clean r e = ap (λ (f : Option LdfFault). record { tokens = r.tokens; fault =
 rest_clean : (t : Token) (r : Ahead) (ts : List Token) → more t r ≡ clean ts → r ≡ clean r.tokens
 rest_clean t r ts e = is_clean r (ap (λ (x : Ahead). x.fault) e)
 
-no_stop : (f : LdfFault) (p : Place) (ts : List Token) → stop_with f p ≡ clean ts → ⊥
+no_stop : (f : LdfFault) (p : Location) (ts : List Token) → stop_with f p ≡ clean ts → ⊥
 no_stop f p ts e =
     let bad : Some f ≡ None = ap (λ (x : Ahead). x.fault) e in
     absurd cc
 
-gap_is : (at : ℕ) (p : Place) (c : ℕ) (cs : List ℕ) (k : ℕ) → piece_at c cs ≡ pieces.Gap k → ahead_at zero at p (c ∷ cs) ≡ ahead_at (k - 1) (at + 1) (step p c) cs
+gap_is : (at : ℕ) (p : Location) (c : ℕ) (cs : List ℕ) (k : ℕ) → piece_at c cs ≡ pieces.Gap k → ahead_at zero at p (c ∷ cs) ≡ ahead_at (k - 1) (at + 1) (step p c) cs
 unfolding ahead_at
 gap_is at p c cs k h = rw (h, ahead_at) refl
 
-token_is : (at : ℕ) (p : Place) (c : ℕ) (cs : List ℕ) (kind : TokenKind) (k : ℕ) → piece_at c cs ≡ pieces.Token kind k
+token_is : (at : ℕ) (p : Location) (c : ℕ) (cs : List ℕ) (kind : TokenKind) (k : ℕ) → piece_at c cs ≡ pieces.Token kind k
     → ahead_at zero at p (c ∷ cs) ≡ more (token_from kind at (length (take k (c ∷ cs))) p) (ahead_at (k - 1) (at + 1) (step p c) cs)
 unfolding ahead_at
 token_is at p c cs kind k h = rw (h, ahead_at) refl
 
-bad_byte_is : (at : ℕ) (p : Place) (c : ℕ) (cs : List ℕ) → piece_at c cs ≡ pieces.BadByte → ahead_at zero at p (c ∷ cs) ≡ stop_with (faults.BadByte p) p
+bad_byte_is : (at : ℕ) (p : Location) (c : ℕ) (cs : List ℕ) → piece_at c cs ≡ pieces.BadByte → ahead_at zero at p (c ∷ cs) ≡ stop_with (faults.BadByte p) p
 unfolding ahead_at
 bad_byte_is at p c cs h = rw (h, ahead_at) refl
 
-open_comment_is : (at : ℕ) (p : Place) (c : ℕ) (cs : List ℕ) → piece_at c cs ≡ pieces.OpenComment → ahead_at zero at p (c ∷ cs) ≡ stop_with (faults.OpenComment p) p
+open_comment_is : (at : ℕ) (p : Location) (c : ℕ) (cs : List ℕ) → piece_at c cs ≡ pieces.OpenComment → ahead_at zero at p (c ∷ cs) ≡ stop_with (faults.OpenComment p) p
 unfolding ahead_at
 open_comment_is at p c cs h = rw (h, ahead_at) refl
 
-open_text_is : (at : ℕ) (p : Place) (c : ℕ) (cs : List ℕ) → piece_at c cs ≡ pieces.OpenText → ahead_at zero at p (c ∷ cs) ≡ stop_with (faults.OpenText p) p
+open_text_is : (at : ℕ) (p : Location) (c : ℕ) (cs : List ℕ) → piece_at c cs ≡ pieces.OpenText → ahead_at zero at p (c ∷ cs) ≡ stop_with (faults.OpenText p) p
 unfolding ahead_at
 open_text_is at p c cs h = rw (h, ahead_at) refl
 
-skip_is : (n at : ℕ) (p : Place) (c : ℕ) (cs : List ℕ) → ahead_at (suc n) at p (c ∷ cs) ≡ ahead_at n (at + 1) (step p c) cs
+skip_is : (n at : ℕ) (p : Location) (c : ℕ) (cs : List ℕ) → ahead_at (suc n) at p (c ∷ cs) ≡ ahead_at n (at + 1) (step p c) cs
 unfolding ahead_at
 skip_is n at p c cs = refl
 
 -- tokens begin behind what is passed over
-all_from : (text : List ℕ) (n at : ℕ) (p : Place) (ts : List Token) → ahead_at n at p text ≡ clean ts → AllFrom (at + n) ts
+all_from : (text : List ℕ) (n at : ℕ) (p : Location) (ts : List Token) → ahead_at n at p text ≡ clean ts → AllFrom (at + n) ts
 all_from [] n at p ts e =
     let none : [] ≡ ts = tokens_are _ ts (sym (nothing_ahead n at p) ∙ e) in
     subst (AllFrom (at + n)) none tt
@@ -122,7 +122,7 @@ all_from (c ∷ cs) zero at p ts e = elim (piece_at c cs) as (λ s. piece_at c c
 -- ---- one mark
 
 -- in these bytes it is this one; with a space there, what is ahead lacks it, and nothing else
-pub record Gone (n at : ℕ) (p : Place) (text : List ℕ) (before : List Token) (t : Token) (after : List Token) : Type 0 where
+pub record Gone (n at : ℕ) (p : Location) (text : List ℕ) (before : List Token) (t : Token) (after : List Token) : Type 0 where
   pub front : List ℕ
   pub byte : ℕ
   pub back : List ℕ
@@ -159,12 +159,12 @@ mark_size kind k c cs (inr is) e =
     let same : piece_at 59 cs ≡ pieces.Token kind k = subst (λ (b : ℕ). piece_at b cs ≡ pieces.Token kind k) is e in
     one_byte kind kinds.Semicolon k same
 
-mark_step : (p : Place) (c : ℕ) → IsMarkByte c → step p c ≡ step p 32
+mark_step : (p : Location) (c : ℕ) → IsMarkByte c → step p c ≡ step p 32
 mark_step p c (inl is) = ap (step p) is
 mark_step p c (inr is) = ap (step p) is
 
 -- the mark is the first byte
-gone_here : (at : ℕ) (p : Place) (c : ℕ) (cs : List ℕ) (kind : TokenKind) (k : ℕ) (t : Token) (after : List Token) → IsMarkByte c → k ≡ 1 → t ≡ token_from kind at (length (take k (c ∷ cs))) p
+gone_here : (at : ℕ) (p : Location) (c : ℕ) (cs : List ℕ) (kind : TokenKind) (k : ℕ) (t : Token) (after : List Token) → IsMarkByte c → k ≡ 1 → t ≡ token_from kind at (length (take k (c ∷ cs))) p
     → ahead_at (k - 1) (at + 1) (step p c) cs ≡ clean after → Gone zero at p (c ∷ cs) [] t after
 gone_here at p c cs kind k t after is one same e =
     let none : k - 1 ≡ zero = omega arith in
@@ -184,7 +184,7 @@ gone_here at p c cs kind k t after is one same e =
     }
 
 -- it stands behind a first byte of which nothing is a token here
-gone_behind : (n m at : ℕ) (p q : Place) (c : ℕ) (cs : List ℕ) (before : List Token) (t : Token) (after : List Token)
+gone_behind : (n m at : ℕ) (p q : Location) (c : ℕ) (cs : List ℕ) (before : List Token) (t : Token) (after : List Token)
     → ((ds : List ℕ) → Alike cs ds → ahead_at n at p (c ∷ ds) ≡ ahead_at m (at + 1) q ds) → Gone m (at + 1) q cs before t after → Gone n at p (c ∷ cs) before t after
 gone_behind n m at p q c cs before t after is g =
     let alike : Alike cs (g.front ++ 32 ∷ g.back) = subst (λ (xs : List ℕ). Alike xs (g.front ++ 32 ∷ g.back)) (sym g.split) (alike_at g.front g.back g.byte g.is_mark) in
@@ -201,7 +201,7 @@ gone_behind n m at p q c cs before t after is g =
     }
 
 -- it stands behind a token
-gone_later : (at : ℕ) (p : Place) (c : ℕ) (cs : List ℕ) (kind : TokenKind) (k : ℕ) (b : Token) (before : List Token) (t : Token) (after : List Token) → piece_at c cs ≡ pieces.Token kind k
+gone_later : (at : ℕ) (p : Location) (c : ℕ) (cs : List ℕ) (kind : TokenKind) (k : ℕ) (b : Token) (before : List Token) (t : Token) (after : List Token) → piece_at c cs ≡ pieces.Token kind k
     → b ≡ token_from kind at (length (take k (c ∷ cs))) p → at + 1 + (k - 1) ≤ t.start → Gone (k - 1) (at + 1) (step p c) cs before t after → Gone zero at p (c ∷ cs) (b ∷ before) t after
 gone_later at p c cs kind k b before t after is same le g =
     let ds : List ℕ = g.front ++ 32 ∷ g.back in
@@ -226,7 +226,7 @@ gone_later at p c cs kind k b before t after is same le g =
     }
 
 -- behind a piece that is a token, this one or one before it
-gone_at_token : (at : ℕ) (p : Place) (c : ℕ) (cs : List ℕ) (t : Token) (after : List Token) → IsMarkKind t.kind
+gone_at_token : (at : ℕ) (p : Location) (c : ℕ) (cs : List ℕ) (t : Token) (after : List Token) → IsMarkKind t.kind
     → ((k : ℕ) (before : List Token) → ahead_at (k - 1) (at + 1) (step p c) cs ≡ clean (before ++ t ∷ after) → Gone (k - 1) (at + 1) (step p c) cs before t after)
     → (kind : TokenKind) (k : ℕ) → piece_at c cs ≡ pieces.Token kind k → (before : List Token) → ahead_at zero at p (c ∷ cs) ≡ clean (before ++ t ∷ after) → Gone zero at p (c ∷ cs) before t after
 gone_at_token at p c cs t after is later kind k h [] e =
@@ -247,7 +247,7 @@ gone_at_token at p c cs t after is later kind k h (b ∷ before) e =
     let behind : r ≡ clean (before ++ t ∷ after) = rest_clean x r _ whole ∙ ap clean others in
     gone_later at p c cs kind k b before t after h (sym same) (from_mid _ before t after (all_from cs (k - 1) (at + 1) (step p c) _ behind)) (later k before behind)
 
-gone_from : (text : List ℕ) (n at : ℕ) (p : Place) (before : List Token) (t : Token) (after : List Token) → IsMarkKind t.kind → ahead_at n at p text ≡ clean (before ++ t ∷ after) → Gone n at p text before t after
+gone_from : (text : List ℕ) (n at : ℕ) (p : Location) (before : List Token) (t : Token) (after : List Token) → IsMarkKind t.kind → ahead_at n at p text ≡ clean (before ++ t ∷ after) → Gone n at p text before t after
 gone_from [] n at p before t after is e = absurd (no_nil before t after (tokens_are _ _ (sym (nothing_ahead n at p) ∙ e)))
 gone_from (c ∷ cs) (suc n) at p before t after is e =
     gone_behind (suc n) n at p (step p c) c cs before t after (λ ds l. skip_is n at p c ds) (gone_from cs n (at + 1) (step p c) before t after is (sym (skip_is n at p c cs) ∙ e))

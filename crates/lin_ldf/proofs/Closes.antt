@@ -4,7 +4,7 @@ use Rattle.std.specs.Prelude.{◌==◌, slice_index}
 use Rattle.std.proofs.lemmas.Bool.{false_from_ne_true}
 use Rattle.std.proofs.Math.Seq.{drop-length}
 use Rattle.memchr.specs.Find.{IsFirstByte, is_byte}
-use Rattle.lin_ldf.specs.Scanning.{begins, close_at, option_shift}
+use Rattle.lin_ldf.specs.Scanning.{begins_with, close_at, option_shift}
 
 abbrev is_slash : ℕ → Bool
 is_slash d = d == 47
@@ -30,22 +30,22 @@ skipped (x ∷ xs) (suc n) h =
     rw none (ap (option_shift 1) (skipped xs n (λ k lt. h (suc k) (omega arith))) ∙ more_shifted 1 n (close_at (drop n xs)) ∙ ap (λ (k : ℕ). option_shift k (close_at (drop n xs))) same)
 
 -- a star, and what is after it
-at_star : (xs : List ℕ) (n : ℕ) → n < length xs → is_star xs n ≡ true → close_at (drop n xs) ≡ cond (begins is_slash (drop (n + 1) xs)) (Some 0) (option_shift 1 (close_at (drop (n + 1) xs)))
+at_star : (xs : List ℕ) (n : ℕ) → n < length xs → is_star xs n ≡ true → close_at (drop n xs) ≡ cond (begins_with is_slash (drop (n + 1) xs)) (Some 0) (option_shift 1 (close_at (drop (n + 1) xs)))
 at_star [] n lt h = absurd (omega arith)
 at_star (x ∷ xs) zero lt h = rw h refl
 at_star (x ∷ xs) (suc n) lt h =
     let same : suc (n + 1) ≡ suc n + 1 = omega arith in
-    subst (λ (k : ℕ). close_at (drop n xs) ≡ cond (begins is_slash (drop k (x ∷ xs))) (Some 0) (option_shift 1 (close_at (drop k (x ∷ xs))))) same (at_star xs n (omega arith) h)
+    subst (λ (k : ℕ). close_at (drop n xs) ≡ cond (begins_with is_slash (drop k (x ∷ xs))) (Some 0) (option_shift 1 (close_at (drop k (x ∷ xs))))) same (at_star xs n (omega arith) h)
 
-from_star : (xs : List ℕ) (n : ℕ) → IsFirstByte (is_byte 42) xs (Some n) → close_at xs ≡ option_shift n (cond (begins is_slash (drop (n + 1) xs)) (Some 0) (option_shift 1 (close_at (drop (n + 1) xs))))
+from_star : (xs : List ℕ) (n : ℕ) → IsFirstByte (is_byte 42) xs (Some n) → close_at xs ≡ option_shift n (cond (begins_with is_slash (drop (n + 1) xs)) (Some 0) (option_shift 1 (close_at (drop (n + 1) xs))))
 from_star xs n h = skipped xs n (λ k lt. h.0.before k (omega arith) lt) ∙ ap (option_shift n) (at_star xs n h.0.high h.1)
 
-pub closes_here : (xs behind : List ℕ) (n : ℕ) → IsFirstByte (is_byte 42) xs (Some n) → behind ≡ drop (n + 1) xs → begins is_slash behind ≡ true → close_at xs ≡ Some n
+pub closes_here : (xs behind : List ℕ) (n : ℕ) → IsFirstByte (is_byte 42) xs (Some n) → behind ≡ drop (n + 1) xs → begins_with is_slash behind ≡ true → close_at xs ≡ Some n
 closes_here xs behind n h e slash =
     let same : n + 0 ≡ n = omega arith in
     from_star xs n h ∙ rw (← e, slash) (ap Some same)
 
-pub goes_on : (xs behind : List ℕ) (n : ℕ) → IsFirstByte (is_byte 42) xs (Some n) → behind ≡ drop (n + 1) xs → begins is_slash behind ≡ false → close_at xs ≡ option_shift (n + 1) (close_at behind)
+pub goes_on : (xs behind : List ℕ) (n : ℕ) → IsFirstByte (is_byte 42) xs (Some n) → behind ≡ drop (n + 1) xs → begins_with is_slash behind ≡ false → close_at xs ≡ option_shift (n + 1) (close_at behind)
 goes_on xs behind n h e other = from_star xs n h ∙ rw (← e, other) (more_shifted n 1 (close_at behind))
 
 pub none_closes : (xs : List ℕ) → IsFirstByte (is_byte 42) xs None → close_at xs ≡ None

@@ -6,7 +6,7 @@ use Rattle.std.proofs.lemmas.Bool.Decides.{nat_tests}
 use Rattle.memchr.specs.Find.{IsFirstByte, is_byte}
 use Rattle.lin_ldf.specs.Bytes.{is_not_newline}
 use Rattle.lin_ldf.specs.Advance.{place_behind}
-use Rattle.lin_parts.specs.declared.place.Place.{Place}
+use Rattle.lin_parts.specs.declared.place.Location.{Location}
 
 not_true : (b : Bool) → (b ≡ true → ⊥) → not b ≡ true
 not_true true h = absurd (h refl)
@@ -27,13 +27,13 @@ byte_stands b (x ∷ xs) =
       | false ↦ let h = byte_stands b xs in grind (arith, nat_tests)
     ]
 
-abbrev place : ℕ → ℕ → Place
+abbrev place : ℕ → ℕ → Location
 place l k = record { line = l; column = k }
 
 abbrev line_of : List ℕ → ℕ
 line_of cs = prefix_len is_not_newline cs
 
-next : (p : Place) (rest : List ℕ) → 1 ≤ length (drop (line_of rest) rest) → place_behind p rest ≡ place_behind (place (p.line + 1) 1) (drop 1 (drop (line_of rest) rest))
+next : (p : Location) (rest : List ℕ) → 1 ≤ length (drop (line_of rest) rest) → place_behind p rest ≡ place_behind (place (p.line + 1) 1) (drop 1 (drop (line_of rest) rest))
 next p [] h = absurd (omega arith)
 next p (x ∷ xs) h =
     elim (eqb x 10) as (λ b. 1 ≤ length (drop (cond (not b) (1 + line_of xs) 0) (x ∷ xs)) → place_behind (cond b (place (p.line + 1) 1) (place p.line (p.column + 1))) xs ≡ place_behind (place (p.line + 1) 1) (drop 1 (drop (cond (not b) (1 + line_of xs) 0) (x ∷ xs)))) [
@@ -43,7 +43,7 @@ next p (x ∷ xs) h =
           subst (λ (k : ℕ). 1 ≤ length (drop k (x ∷ xs)) → place_behind (place p.line (p.column + 1)) xs ≡ place_behind (place (p.line + 1) 1) (drop 1 (drop k (x ∷ xs)))) one (next (place p.line (p.column + 1)) xs)
     ] h
 
-last : (p : Place) (rest : List ℕ) → length (drop (line_of rest) rest) < 1 → place_behind p rest ≡ place p.line (p.column + length rest)
+last : (p : Location) (rest : List ℕ) → length (drop (line_of rest) rest) < 1 → place_behind p rest ≡ place p.line (p.column + length rest)
 last p [] h = let same : p.column ≡ p.column + 0 = omega arith in ap (λ (k : ℕ). place p.line k) same
 last p (x ∷ xs) h =
     elim (eqb x 10) as (λ b. length (drop (cond (not b) (1 + line_of xs) 0) (x ∷ xs)) < 1 → place_behind (cond b (place (p.line + 1) 1) (place p.line (p.column + 1))) xs ≡ place p.line (p.column + suc (length xs))) [
@@ -56,10 +56,10 @@ last p (x ∷ xs) h =
     ] h
 
 -- a line feed is found
-pub next_line : (p : Place) (rest found : List ℕ) → found ≡ drop (line_of rest) rest → 1 ≤ length found → place_behind p rest ≡ place_behind (place (p.line + 1) 1) (drop 1 found)
+pub next_line : (p : Location) (rest found : List ℕ) → found ≡ drop (line_of rest) rest → 1 ≤ length found → place_behind p rest ≡ place_behind (place (p.line + 1) 1) (drop 1 found)
 next_line p rest found e some =
     next p rest (subst (λ (cs : List ℕ). 1 ≤ length cs) e some) ∙ ap (λ (cs : List ℕ). place_behind (place (p.line + 1) 1) (drop 1 cs)) (sym e)
 
 -- none is left
-pub last_line : (p : Place) (rest found : List ℕ) → found ≡ drop (line_of rest) rest → length found < 1 → place_behind p rest ≡ place p.line (p.column + length rest)
+pub last_line : (p : Location) (rest found : List ℕ) → found ≡ drop (line_of rest) rest → length found < 1 → place_behind p rest ≡ place p.line (p.column + length rest)
 last_line p rest found e none = last p rest (subst (λ (cs : List ℕ). length cs < 1) e none)

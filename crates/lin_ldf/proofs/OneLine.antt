@@ -13,7 +13,7 @@ use Rattle.lin_ldf.specs.Tokens.{IsAll, IsToken}
 use Rattle.lin_ldf.specs.declared.token.TokenKind.{TokenKind}
 use Rattle.lin_ldf.specs.declared.token.TokenKind.TheVariants.{Word, Number, Text, OpenBrace, CloseBrace, Colon, Semicolon, Comma, Equals, Other}
 use Rattle.lin_ldf.specs.declared.lexer.Scanned.TheVariants as pieces
-use Rattle.lin_parts.specs.declared.place.Place.{Place}
+use Rattle.lin_parts.specs.declared.place.Location.{Location}
 use Rattle.lin_ldf.proofs.Runs.{run_all}
 use Rattle.lin_ldf.proofs.Pieces.{Found, found}
 
@@ -61,11 +61,11 @@ plain Other w other (c, e, v, b, m, q) = rw (e, visible c v) refl
 
 -- ---- places
 
-abbrev place : ℕ → ℕ → Place
+abbrev place : ℕ → ℕ → Location
 place l k = record { line = l; column = k }
 
 -- bytes without a line feed move the column alone
-along : (p : Place) (w : List ℕ) → IsAll is_not_newline w → place_behind p w ≡ place p.line (p.column + length w)
+along : (p : Location) (w : List ℕ) → IsAll is_not_newline w → place_behind p w ≡ place p.line (p.column + length w)
 along p [] h = let same : p.column ≡ p.column + 0 = omega arith in ap (λ (k : ℕ). place p.line k) same
 along p (c ∷ cs) h =
     let parts = and_parts (is_not_newline c) (list_all is_not_newline cs) h in
@@ -75,7 +75,7 @@ along p (c ∷ cs) h =
       | false ↦ λ n. along (place p.line (p.column + 1)) cs parts.1 ∙ ap (λ (k : ℕ). place p.line k) same
     ] parts.0
 
-pub one_line : (p : Place) (text : List ℕ) (k : TokenKind) (n : ℕ) → is_kind Text k ≡ false → n ≤ length text → front_piece text ≡ pieces.Token k n → place_behind p (take n text) ≡ place p.line (p.column + n)
+pub one_line : (p : Location) (text : List ℕ) (k : TokenKind) (n : ℕ) → is_kind Text k ≡ false → n ≤ length text → front_piece text ≡ pieces.Token k n → place_behind p (take n text) ≡ place p.line (p.column + n)
 one_line p [] k n other within e = absurd cc
 one_line p (c ∷ cs) k n other within e =
     let piece = subst (λ s. Found s (c ∷ cs)) e (found c cs) in

@@ -10,7 +10,7 @@ use Rattle.lin_ldf.specs.declared.lexer.Scanned.{Scanned}
 use Rattle.lin_ldf.specs.declared.lexer.Scanned.TheVariants as pieces
 use Rattle.lin_ldf.specs.declared.fault.LdfFault.{LdfFault}
 use Rattle.lin_ldf.specs.declared.fault.LdfFault.TheVariants.{BadByte, OpenComment, OpenText, OutOfMemory}
-use Rattle.lin_parts.specs.declared.place.Place.{Place}
+use Rattle.lin_parts.specs.declared.place.Location.{Location}
 use Rattle.lin_ldf.proofs.CutLaws.{GoesOn, at_start, gap_goes_on, token_goes_on, nothing_left, stands_at}
 use Rattle.lin_ldf.proofs.Pieces.{Found, found}
 use Rattle.lin_ldf.proofs.Ranges.{form_length}
@@ -20,19 +20,19 @@ abbrev pub HasTokens : ℕ → List ℕ → List Token → Ahead → Type 0
 HasTokens start text before r = AreTokensIn start text (before ++ r.tokens) × (r.fault ≡ None)
 
 abbrev pub HasFault : List ℕ → Ahead → Type 0
-HasFault text r = (e : LdfFault) × IsFaultIn text e × (e ≢ OutOfMemory) × (r.fault ≡ Some e) × (ts : List Token) × (p : Place) × (r.tokens ≡ ts ++ stop p ∷ [])
+HasFault text r = (e : LdfFault) × IsFaultIn text e × (e ≢ OutOfMemory) × (r.fault ≡ Some e) × (ts : List Token) × (p : Location) × (r.tokens ≡ ts ++ stop p ∷ [])
 
 abbrev pub Outcome : ℕ → List ℕ → List Token → Ahead → Type 0
 Outcome start text before r = HasTokens start text before r ⊎ HasFault text r
 
 abbrev AtMost : ℕ → List ℕ → ℕ → Type 0
-AtMost start text n = (before : List Token) (at : ℕ) (place : Place) (rest : List ℕ) → length rest ≤ n → GoesOn text start before at place rest → Outcome start text before (ahead_at 0 at place rest)
+AtMost start text n = (before : List Token) (at : ℕ) (place : Location) (rest : List ℕ) → length rest ≤ n → GoesOn text start before at place rest → Outcome start text before (ahead_at 0 at place rest)
 
 one_more : (start : ℕ) (text : List ℕ) (before : List Token) (t : Token) (r : Ahead) → Outcome start text (before ++ t ∷ []) r → Outcome start text before (more t r)
 one_more start text before t r (inl (are, none)) = inl (subst (AreTokensIn start text) (append_assoc before (t ∷ []) r.tokens) are, none)
 one_more start text before t r (inr (f, is, other, some, ts, p, same)) = inr (f, is, other, some, t ∷ ts, p, ap (λ (ys : List Token). t ∷ ys) same)
 
-stops : (start : ℕ) (text : List ℕ) (before : List Token) (e : LdfFault) (p : Place) (r : Ahead) → r ≡ stop_with e p → IsFaultIn text e → e ≢ OutOfMemory → Outcome start text before r
+stops : (start : ℕ) (text : List ℕ) (before : List Token) (e : LdfFault) (p : Location) (r : Ahead) → r ≡ stop_with e p → IsFaultIn text e → e ≢ OutOfMemory → Outcome start text before r
 stops start text before e p r same is other = inr (e, is, other, ap (λ (x : Ahead). x.fault) same, [], p, ap (λ (x : Ahead). x.tokens) same)
 
 fewer : (rest p after : List ℕ) (m : ℕ) → p ++ after ≡ rest → 0 < length p → length rest ≤ suc m → length after ≤ m
@@ -44,7 +44,7 @@ some_bytes : (n : ℕ) (rest : List ℕ) → 0 < length (take n rest) → 0 < n
 some_bytes zero rest h = h
 some_bytes (suc n) rest h = omega arith
 
-one_piece : (start : ℕ) (text : List ℕ) (m : ℕ) → AtMost start text m → (before : List Token) (at : ℕ) (place : Place) (c : ℕ) (cs : List ℕ) → length (c ∷ cs) ≤ suc m → GoesOn text start before at place (c ∷ cs)
+one_piece : (start : ℕ) (text : List ℕ) (m : ℕ) → AtMost start text m → (before : List Token) (at : ℕ) (place : Location) (c : ℕ) (cs : List ℕ) → length (c ∷ cs) ≤ suc m → GoesOn text start before at place (c ∷ cs)
     → (s : Scanned) → piece_at c cs ≡ s → Found s (c ∷ cs) → Outcome start text before (ahead_at 0 at place (c ∷ cs))
 one_piece start text m later before at place c cs le g (pieces.Gap n) h piece =
     let p : List ℕ = take n (c ∷ cs) in

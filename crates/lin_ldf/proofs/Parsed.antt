@@ -2,7 +2,7 @@
 use Rattle.std.proofs.Common.{◌≡◌, ◌≢◌, ℕ, List, Option, Some, None, Result, Ok, MatchResult, sym, ap, subst, ◌∙◌, inl, inr}
 use Rattle.std.proofs.lemmas.List.{append-nil}
 use Rattle.lin_ldf.specs.Symbols.{Symbol, symbols_in}
-use Rattle.lin_ldf.specs.Stream.{Ahead, nothing, start_of}
+use Rattle.lin_ldf.specs.Stream.{Ahead, empty_ahead, start_of}
 use Rattle.lin_ldf.specs.Forms.{Gives}
 use Rattle.lin_ldf.specs.Grammar.{file}
 use Rattle.lin_ldf.specs.Tokens.{AreTokens, IsLexFault, mark_len, behind_mark}
@@ -72,7 +72,7 @@ all_tokens source e = elim (outcome source) [
 ]
 
 -- what came of it before nothing was left is all
-pub lexed : (source : List ℕ) (ts : List Token) → start_of source ≡ added ts nothing → AreTokens source ts
+pub lexed : (source : List ℕ) (ts : List Token) → start_of source ≡ added ts empty_ahead → AreTokens source ts
 lexed source ts e =
     subst (AreTokens source) (ap (λ (r : Ahead). r.tokens) e ∙ append-nil ts) (all_tokens source (ap (λ (r : Ahead). r.fault) e))
 

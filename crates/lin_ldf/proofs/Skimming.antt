@@ -2,8 +2,8 @@
 use Rattle.std.proofs.Common.{◌≡◌, ℕ, ◌+◌, ◌<◌, ◌≤◌, true, false, List, [], ◌∷◌, length, take, drop, Option, Some, None, refl, sym, ap, subst, ◌∙◌, arith}
 use Rattle.lin_ldf.specs.Symbols.{Symbol, symbols_in}
 use Rattle.lin_ldf.specs.Stream.{Ahead, ahead_at, more, still, symbols_left, symbols_of, token_from}
-use Rattle.lin_ldf.specs.Scanning.{front_piece, piece_at, IsWithin}
-use Rattle.lin_ldf.specs.Skimming.{Over, Passes, Skims}
+use Rattle.lin_ldf.specs.Scanning.{front_piece, piece_at, TakesSomeOf}
+use Rattle.lin_ldf.specs.Skimming.{Over, SkipsPiece, Skims}
 use Rattle.lin_ldf.specs.Advance.{place_behind}
 use Rattle.lin_ldf.specs.Forms.{has_front, tail}
 use Rattle.lin_ldf.specs.UpTo.{is_end, depth_behind}
@@ -15,7 +15,7 @@ use Rattle.lin_ldf.specs.declared.token.Token.{Token}
 use Rattle.lin_ldf.specs.declared.token.TokenKind.{TokenKind}
 use Rattle.lin_ldf.proofs.Ending.{goes_on}
 use Rattle.lin_ldf.proofs.Stream.{gap_here, passed, passed_in, token_here}
-use Rattle.lin_parts.specs.declared.place.Place.{Place}
+use Rattle.lin_parts.specs.declared.place.Location.{Location}
 
 -- what is ahead on both sides of a piece
 abbrev OverIn : List ℕ → TokenKind → ℕ → ℕ → Ahead → Ahead → Type 0
@@ -32,7 +32,7 @@ over_token end d n source t r h b le = record {
   counted = omega (arith, le);
 }
 
-over_piece : (end : TokenKind) (d n size at : ℕ) (p : Place) (c : ℕ) (cs : List ℕ) (source : List ℕ) (s : Scanned) → piece_at c cs ≡ s → 0 < size → Passes end d s size n → n ≤ d + 1
+over_piece : (end : TokenKind) (d n size at : ℕ) (p : Location) (c : ℕ) (cs : List ℕ) (source : List ℕ) (s : Scanned) → piece_at c cs ≡ s → 0 < size → SkipsPiece end d s size n → n ≤ d + 1
     → OverIn source end d n (ahead_at 0 at p (c ∷ cs)) (ahead_at size at p (c ∷ cs))
 over_piece end d n size at p c cs source (pieces.Gap k) e lt (same, deep) le =
     subst (λ (a : Ahead). OverIn source end d n a (ahead_at size at p (c ∷ cs))) (sym (gap_here at p c cs size lt (e ∙ ap pieces.Gap (sym same))))
@@ -51,7 +51,7 @@ over_more end d m n ts us vs h k = record {
   counted = omega (arith, h.counted, k.counted);
 }
 
-pub passes_within : (end : TokenKind) (d size n len : ℕ) (s : Scanned) → Passes end d s size n → IsWithin s len → (0 < size) × (size ≤ len)
+pub passes_within : (end : TokenKind) (d size n len : ℕ) (s : Scanned) → SkipsPiece end d s size n → TakesSomeOf s len → (0 < size) × (size ≤ len)
 passes_within end d size n len (pieces.Gap k) (same, deep) within = rw same within
 passes_within end d size n len (pieces.Token kind k) (same, h, b) within = rw same within
 passes_within end d size n len pieces.BadByte h within = absurd h
@@ -61,7 +61,7 @@ passes_within end d size n len pieces.OpenText h within = absurd h
 pub skims_nothing : (end : TokenKind) (d : ℕ) (text : List ℕ) → Skims end d text 0 d
 skims_nothing end d text source at p = over_nothing end d (symbols_in source (ahead_at 0 at p text).tokens)
 
-pub skims_more : (end : TokenKind) (d m n k size : ℕ) (text rest : List ℕ) → Skims end d text k m → rest ≡ drop k text → 0 < length rest → 0 < size → Passes end m (front_piece rest) size n → n ≤ m + 1
+pub skims_more : (end : TokenKind) (d m n k size : ℕ) (text rest : List ℕ) → Skims end d text k m → rest ≡ drop k text → 0 < length rest → 0 < size → SkipsPiece end m (front_piece rest) size n → n ≤ m + 1
     → Skims end d text (k + size) n
 skims_more end d m n k size text [] h e some lt passes le source at p = absurd (omega arith)
 skims_more end d m n k size text (c ∷ cs) h e some lt passes le source at p =
@@ -74,7 +74,7 @@ skims_more end d m n k size text (c ∷ cs) h e some lt passes le source at p =
     over_more end d m n (symbols_in source (ahead_at 0 at p text).tokens) (symbols_in source (ahead_at k at p text).tokens) (symbols_in source (ahead_at (k + size) at p text).tokens) (h source at p) over
 
 -- what stands behind the next token, where the lexer is this one
-behind_front : (k : Option TokenKind) (text : List ℕ) (place : Place) (l m : Lexer) → has_front (symbols_left k text place l) ≡ true
+behind_front : (k : Option TokenKind) (text : List ℕ) (place : Location) (l m : Lexer) → has_front (symbols_left k text place l) ≡ true
     → tail (symbols_left k text place m) ≡ symbols_in m.source.now (still m).tokens
 behind_front None text place l m h = absurd cc
 behind_front (Some kind) text place l m h = refl

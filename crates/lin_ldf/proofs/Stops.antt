@@ -4,20 +4,20 @@ use Rattle.std.proofs.lemmas.List.{reverse-append, map-append}
 use Rattle.lin_ldf.specs.Symbols.{Symbol, is_kind, symbol_in, symbols_in}
 use Rattle.lin_ldf.specs.Stream.{stop}
 use Rattle.lin_ldf.specs.Forms.{Form, never, as_value, choice, ◌&>◌, ◌<&◌, ◌&=◌}
-use Rattle.lin_ldf.specs.Loops.{Steps}
+use Rattle.lin_ldf.specs.Loops.{ItemSteps}
 use Rattle.lin_ldf.specs.Words.{block, is_word_but, group, once, close_brace, with_name}
 use Rattle.lin_ldf.specs.Laws.{Behind, Lawful, Taking, anything, token_takes, mark_takes, keyword_takes}
 use Rattle.lin_ldf.specs.LoopLaws.{several_lawful}
 use Rattle.lin_ldf.specs.UpToLaws.{up_to_lawful}
-use Rattle.lin_ldf.specs.Grammar.{signal, section_words, with_signal, frame, with_frame, sporadic_frame, with_sporadic, event_frame, with_event, attribute_block, with_block, table, with_table, with_signals, with_frames, with_sporadics, with_events, with_attributes, with_tables, section_of, section, slaves, nodes, nodes_of, node_names, no_sections}
-use Rattle.lin_ldf.specs.GrammarLaws.{is_of, keyword_before, words_end, new_words_lawful, header_takes, master_takes, signal_takes, frame_takes, sporadic_frame_takes, event_frame_takes, attribute_block_takes, table_takes}
+use Rattle.lin_ldf.specs.Grammar.{signal, section_words, with_signal, frame_declaration, with_frame, sporadic_frame, with_sporadic, event_frame, with_event, attribute_block, with_block, table, with_table, with_signals, with_frames, with_sporadics, with_events, with_attributes, with_tables, section_of, section, slaves, nodes_section, as_nodes, declared_node_names, no_sections}
+use Rattle.lin_ldf.specs.GrammarLaws.{has_kind, keyword_before, words_end, new_words_lawful, header_takes, master_takes, signal_takes, frame_takes, sporadic_frame_takes, event_frame_takes, attribute_block_takes, table_takes}
 use Rattle.lin_ldf.specs.Describes.{Spells}
 use Rattle.lin_ldf.specs.declared.token.TokenKind.TheVariants as kinds
 use Rattle.lin_ldf.specs.declared.section.SectionWord.{SectionWord}
 use Rattle.lin_ldf.specs.declared.section.SectionWord.TheVariants as words_of
 use Rattle.lin_ldf.specs.declared.section.Sections.{Sections}
 use Rattle.lin_ldf.specs.declared.token.Token.{Token}
-use Rattle.lin_parts.specs.declared.place.Place.{Place}
+use Rattle.lin_parts.specs.declared.place.Location.{Location}
 use Rattle.lin_parts.specs.declared.description.Description.{Description}
 
 -- some symbols, the last of them a closing brace, and then the rest
@@ -55,8 +55,8 @@ pub closes_once : {A B : Type 0} (o : Option A) {f : Form B} → Closes f → Cl
 closes_once None q = q
 closes_once (Some x) q = never_closes
 
-pub block_closes : {A S : Type 0} (next : S → A → S) (f : S → Form A) → ((s : S) → Taking (is_of kinds.Word) anything (f s)) → (s : S) → Closes (block next f s)
-block_closes next f p s = closes_right (mark_takes kinds.OpenBrace).lawful (closes_left (several_lawful (is_of kinds.Word) next f p s))
+pub block_closes : {A S : Type 0} (next : S → A → S) (f : S → Form A) → ((s : S) → Taking (has_kind kinds.Word) anything (f s)) → (s : S) → Closes (block next f s)
+block_closes next f p s = closes_right (mark_takes kinds.OpenBrace).lawful (closes_left (several_lawful (has_kind kinds.Word) next f p s))
 
 group_closes : Closes group
 group_closes = closes_right (mark_takes kinds.OpenBrace).lawful (closes_left (up_to_lawful kinds.CloseBrace))
@@ -64,12 +64,12 @@ group_closes = closes_right (mark_takes kinds.OpenBrace).lawful (closes_left (up
 pub slaves_close : (seen : List (List ℕ)) → Closes (slaves seen)
 slaves_close seen = closes_right (keyword_before _ kinds.Colon).lawful (closes_left (words_end (new_words_lawful seen)))
 
-nodes_close : Closes nodes
-nodes_close = closes_value nodes_of (closes_right (keyword_before _ kinds.OpenBrace).lawful (closes_then (master_takes []).lawful (λ m. slaves_close (with_name [] m.0))))
+nodes_close : Closes nodes_section
+nodes_close = closes_value as_nodes (closes_right (keyword_before _ kinds.OpenBrace).lawful (closes_then (master_takes []).lawful (λ m. slaves_close (with_name [] m.0))))
 
 section_closes : (s : Sections) (w : SectionWord) → Closes (section_of w s)
 section_closes s words_of.Signals = closes_value (with_signals s) (closes_once s.signals (closes_right (keyword_takes _).lawful (block_closes with_signal signal signal_takes [])))
-section_closes s words_of.Frames = closes_value (with_frames s) (closes_once s.frames (closes_right (keyword_takes _).lawful (block_closes with_frame frame frame_takes s.frame_names)))
+section_closes s words_of.Frames = closes_value (with_frames s) (closes_once s.frames (closes_right (keyword_takes _).lawful (block_closes with_frame frame_declaration frame_takes s.frame_names)))
 section_closes s words_of.Sporadic = closes_value (with_sporadics s) (closes_once s.sporadic (closes_right (keyword_takes _).lawful (block_closes with_sporadic sporadic_frame sporadic_frame_takes s.frame_names)))
 section_closes s words_of.Event = closes_value (with_events s) (closes_once s.events (closes_right (keyword_takes _).lawful (block_closes with_event event_frame event_frame_takes s.frame_names)))
 section_closes s words_of.Attributes = closes_value (with_attributes s) (closes_once s.attributes (closes_right (keyword_takes _).lawful (block_closes with_block attribute_block attribute_block_takes s.blocks)))
@@ -80,7 +80,7 @@ section_closes s words_of.Unused = closes_value (λ u. s) (closes_right (token_t
 pub sections_close : (s : Sections) → Closes (section s)
 sections_close s = closes_choice (section_closes s)
 
-pub steps_close : {S : Type 0} (form : S → Form S) → ((s : S) → Closes (form s)) → (n : ℕ) (whole : List Symbol) (s : S) (ts : List Symbol) (last : S) (rest : List Symbol) → Closed whole ts → Steps (λ x. (form x).spells) n s ts last rest → Closed whole rest
+pub steps_close : {S : Type 0} (form : S → Form S) → ((s : S) → Closes (form s)) → (n : ℕ) (whole : List Symbol) (s : S) (ts : List Symbol) (last : S) (rest : List Symbol) → Closed whole ts → ItemSteps (λ x. (form x).spells) n s ts last rest → Closed whole rest
 steps_close form closes zero whole s ts last rest c h = subst (Closed whole) (sym h.1) c
 steps_close form closes (suc n) whole s ts last rest c h =
     steps_close form closes n whole h.0 h.1 last rest (after whole ts h.1 (as_behind whole ts c) ((closes s).closed ts h.0 h.1 h.2)) h.3
@@ -91,7 +91,7 @@ file_closes ss d h =
     let first = h.1.1 in
     let begun : Closed ss h.1.0 = after ss first.0 h.1.0 (header_takes.lawful.behind ss h.0.0.0 first.0 first.1) (nodes_close.closed first.0 h.0.0.1 h.1.0 first.2) in
     let sections = h.1.2 in
-    subst (Closed ss) sections.3.0 (steps_close section sections_close sections.2.0 ss (no_sections (node_names h.0.0.1)) h.1.0 h.0.1 sections.0 begun sections.2.1)
+    subst (Closed ss) sections.3.0 (steps_close section sections_close sections.2.0 ss (no_sections (declared_node_names h.0.0.1)) h.1.0 h.0.1 sections.0 begun sections.2.1)
 
 same_last : (xs ys : List Symbol) (s t : Symbol) → xs ++ s ∷ [] ≡ ys ++ t ∷ [] → s ≡ t
 same_last xs ys s t e =
@@ -99,11 +99,11 @@ same_last xs ys s t e =
     cc
 
 -- tokens whose last one is a closing brace don't end in a stop
-pub no_stop : (source : List ℕ) (ts : List Token) (p : Place) → Closed (symbols_in source (ts ++ stop p ∷ [])) [] → ⊥
+pub no_stop : (source : List ℕ) (ts : List Token) (p : Location) → Closed (symbols_in source (ts ++ stop p ∷ [])) [] → ⊥
 no_stop source ts p c =
     let same : c.1 ≡ symbol_in source (stop p) = same_last c.0 (symbols_in source ts) c.1 (symbol_in source (stop p)) (sym c.2 ∙ map-append (symbol_in source) ts (stop p ∷ [])) in
     let bad : false ≡ true = sym (ap (λ (t : Symbol). is_kind kinds.CloseBrace t.kind) same) ∙ c.3 in
     absurd cc
 
-pub never_stops : (source : List ℕ) (ts : List Token) (p : Place) (d : Description) → Spells (symbols_in source (ts ++ stop p ∷ [])) d → ⊥
+pub never_stops : (source : List ℕ) (ts : List Token) (p : Location) (d : Description) → Spells (symbols_in source (ts ++ stop p ∷ [])) d → ⊥
 never_stops source ts p d h = no_stop source ts p (file_closes (symbols_in source (ts ++ stop p ∷ [])) d h)

@@ -2,7 +2,7 @@
 use Rattle.std.specs.Prelude.{ℕ, List}
 use Rattle.lin_ldf.specs.Loops.{Items}
 use Rattle.lin_ldf.specs.Words.{word, new_word, int, same_state, with_name}
-use Rattle.lin_ldf.specs.Grammar.{signal, with_signal, placement, frame, with_frame, sporadic_frame}
+use Rattle.lin_ldf.specs.Grammar.{signal, with_signal, placement, frame_declaration, with_frame, sporadic_frame}
 use Rattle.lin_ldf.specs.Grammar.{with_sporadic, event_frame, with_event, attribute_block}
 use Rattle.lin_ldf.specs.Grammar.{with_block, entry, table, with_table}
 use Rattle.lin_ldf.specs.GrammarLaws.{word_takes, declared_takes, int_takes, signal_takes}
@@ -58,7 +58,7 @@ placed_items = record {
 
 abbrev pub frame_items : Items (List (List ℕ)) Frame
 frame_items = record {
-  form = frame;
+  form = frame_declaration;
   next = with_frame;
   shrinks = λ seen. (frame_takes seen).shrinks;
 }

@@ -6,14 +6,14 @@ use Rattle.lin_ldf.specs.UpTo.{end_at, is_end, depth_behind}
 use Rattle.lin_ldf.specs.declared.lexer.Scanned.{Scanned}
 use Rattle.lin_ldf.specs.declared.lexer.Scanned.TheVariants as pieces
 use Rattle.lin_ldf.specs.declared.token.TokenKind.{TokenKind}
-use Rattle.lin_parts.specs.declared.place.Place.{Place}
+use Rattle.lin_parts.specs.declared.place.Location.{Location}
 
 -- a piece of so many bytes is read over on the way to an `end`, and behind it so many braces are open
-abbrev pub Passes : TokenKind → ℕ → Scanned → ℕ → ℕ → Type 0
-Passes end depth (pieces.Gap k) size n = (size ≡ k) × (n ≡ depth)
-Passes end depth (pieces.Token kind k) size n =
+abbrev pub SkipsPiece : TokenKind → ℕ → Scanned → ℕ → ℕ → Type 0
+SkipsPiece end depth (pieces.Gap k) size n = (size ≡ k) × (n ≡ depth)
+SkipsPiece end depth (pieces.Token kind k) size n =
     (size ≡ k) × (is_end end depth kind ≡ false) × (depth_behind depth kind ≡ Some n)
-Passes end depth piece size n = ⊥
+SkipsPiece end depth piece size n = ⊥
 
 -- what is ahead before and behind tokens that are read over: an `end` stands behind them where it
 -- stands in all; there are no more tokens, and one less for each brace more that is open
@@ -25,6 +25,6 @@ pub record Over (end : TokenKind) (depth : ℕ) (n : ℕ) (before : List Symbol)
 
 -- the tokens of so many bytes at the front of a text are read over, wherever the text stands
 abbrev pub Skims : TokenKind → ℕ → List ℕ → ℕ → ℕ → Type 0
-Skims end depth text size n = (source : List ℕ) (at : ℕ) (p : Place)
+Skims end depth text size n = (source : List ℕ) (at : ℕ) (p : Location)
     → Over end depth n (symbols_in source (ahead_at 0 at p text).tokens)
     (symbols_in source (ahead_at size at p text).tokens)

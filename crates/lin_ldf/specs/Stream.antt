@@ -14,35 +14,35 @@ use Rattle.lin_ldf.specs.declared.token.TokenKind.TheVariants.{Other}
 use Rattle.lin_ldf.specs.declared.front.Front.{Front}
 use Rattle.lin_ldf.specs.declared.lexer.Lexer.{Lexer}
 use Rattle.lin_ldf.specs.declared.lexer.Scanned.TheVariants as pieces
-use Rattle.lin_parts.specs.declared.place.Place.{Place}
+use Rattle.lin_parts.specs.declared.place.Location.{Location}
 
 -- what is ahead: tokens, and the fault that ends them
 pub record Ahead : Type 0 where
   pub tokens : List Token
   pub fault : Option LdfFault
 
-abbrev pub nothing : Ahead
-nothing = record { tokens = []; fault = None }
+abbrev pub empty_ahead : Ahead
+empty_ahead = record { tokens = []; fault = None }
 
 abbrev pub more : Token → Ahead → Ahead
 more t r = record { tokens = t ∷ r.tokens; fault = r.fault }
 
 -- a token of so many bytes at this offset and place
-abbrev pub token_from : TokenKind → ℕ → ℕ → Place → Token
+abbrev pub token_from : TokenKind → ℕ → ℕ → Location → Token
 token_from kind at n p =
     record { kind = kind; start = at; end = at + n; line = p.line; column = p.column }
 
 -- It stands where the lexer finds a fault: no file ends in it, so none is read over it.
-abbrev pub stop : Place → Token
+abbrev pub stop : Location → Token
 stop p = record { kind = Other; start = 0; end = 0; line = p.line; column = p.column }
 
-abbrev pub stop_with : LdfFault → Place → Ahead
+abbrev pub stop_with : LdfFault → Location → Ahead
 stop_with e p = record { tokens = stop p ∷ []; fault = Some e }
 
 -- What is ahead in a text whose first byte, after so many that are passed over, stands at this
 -- offset and place.
-unfoldable pub ahead_at : ℕ → ℕ → Place → List ℕ → Ahead
-ahead_at n at p [] = nothing
+unfoldable pub ahead_at : ℕ → ℕ → Location → List ℕ → Ahead
+ahead_at n at p [] = empty_ahead
 ahead_at zero at p (c ∷ cs) = elim (piece_at c cs) [
   | pieces.Gap k ↦ ahead_at (k - 1) (at + 1) (step p c) cs
   | pieces.Token kind k ↦ more (token_from kind at (length (take k (c ∷ cs))) p)
@@ -71,7 +71,7 @@ still l = ahead_at 0 l.offset l.place (drop l.offset l.source.now)
 abbrev pub Pulls : Result (Option Token) LdfFault → Lexer → Lexer → Type 0
 Pulls (Ok (Some t)) old new =
     (still old ≡ more t (still new)) × (t.start ≤ t.end) × (t.end ≤ length old.source.now)
-Pulls (Ok None) old new = still old ≡ nothing
+Pulls (Ok None) old new = still old ≡ empty_ahead
 Pulls (Err e) old new = still old ≡ stop_with e new.place
 
 -- the same of a call that gives some kinds of tokens alone: where it gives none, all is still ahead
@@ -82,7 +82,7 @@ PullsSome None old new = still old ≡ still new
 -- ---- the parser
 
 -- the next token's kind, text and place, and what is ahead of the lexer
-abbrev pub symbols_left : Option TokenKind → List ℕ → Place → Lexer → List Symbol
+abbrev pub symbols_left : Option TokenKind → List ℕ → Location → Lexer → List Symbol
 symbols_left None text place l = []
 symbols_left (Some kind) text place l =
     record { kind = kind; text = text; line = place.line; column = place.column }

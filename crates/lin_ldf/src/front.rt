@@ -11,7 +11,7 @@ ghost use Rattle.lin_ldf.specs.Words.{place_of};
 use crate::lexer::Lexer;
 use crate::skim::skimmed;
 use crate::token::{Token, TokenKind};
-use lin_parts::Place;
+use lin_parts::Location;
 use lin_text::Text;
 use std::alloc::{AllocError, Global};
 
@@ -37,7 +37,7 @@ impl<'a> Front<'a> {
         ensures symbols { symbols_of result ≡ symbols_in source.now (start_of source.now).tokens }
     {
         let lexer = Lexer::new(source);
-        let Place { line, column } = lexer.place;
+        let Location { line, column } = lexer.place;
         // (it stands before the first token)
         let mut front = Front {
             kind: Some(TokenKind::Other),
@@ -82,12 +82,12 @@ impl<'a> Front<'a> {
     }
 
     /// The place of the next token, or after the text.
-    pub fn place(&self) -> Place
+    pub fn place(&self) -> Location
         ensures { has_front (symbols_of self.now) ≡ true
             → result ≡ place_of (front (symbols_of self.now)) }
     {
         match self.kind {
-            Some(_) => Place {
+            Some(_) => Location {
                 line: self.line,
                 column: self.column,
             },

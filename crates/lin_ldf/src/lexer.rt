@@ -4,9 +4,9 @@ ghost use Rattle.std.specs.Prelude.{◌≡◌, ◌≢◌, ◌⊎◌, ◌+◌, �
 ghost use Rattle.std.specs.Prelude.{List, All, None, false, IfOk, IfErr, IsErrAnd, MatchResult, IfSome, not};
 ghost use Rattle.std.specs.List.{prefix_len};
 ghost use Rattle.lin_ldf.specs.Bytes.{is_digit, is_hex_digit, is_word_byte, is_not_newline};
-ghost use Rattle.lin_ldf.specs.Scanning.{begins, close_at, single, slash_piece, text_piece};
+ghost use Rattle.lin_ldf.specs.Scanning.{begins_with, close_at, single, slash_piece, text_piece};
 ghost use Rattle.lin_ldf.specs.Scanning.{has_fraction, has_hex, fraction_len, number_len, piece_at};
-ghost use Rattle.lin_ldf.specs.Scanning.{front_piece, is_common, IsWithin};
+ghost use Rattle.lin_ldf.specs.Scanning.{front_piece, is_common, TakesSomeOf};
 ghost use Rattle.lin_ldf.specs.Advance.{first_place, place_behind, step};
 ghost use Rattle.lin_ldf.specs.Stream.{IsReady, Pulls, PullsSome, start_of, still, token_from};
 ghost use Rattle.lin_ldf.specs.Tokens.{mark_len, AreTokens, LiesIn, IsLexFault};
@@ -18,7 +18,7 @@ ghost use Rattle.lin_ldf.specs.declared.lexer.Scanned.TheVariants as pieces;
 use crate::classes::{is_alone, is_digit, is_hex_digit, is_letter, is_separator, is_word_byte};
 use crate::fault::LdfFault;
 use crate::token::{Token, TokenKind, same_kind};
-use lin_parts::Place;
+use lin_parts::Location;
 use memchr::memchr;
 use std::alloc::Global;
 
@@ -94,7 +94,7 @@ fn behind_line(text: &[u8]) -> &[u8]
 }
 
 fn begins_digit(text: &[u8]) -> bool
-    ensures { result ≡ begins is_digit text.now }
+    ensures { result ≡ begins_with is_digit text.now }
 {
     match text {
         [c, ..] => is_digit(*c),
@@ -103,7 +103,7 @@ fn begins_digit(text: &[u8]) -> bool
 }
 
 fn begins_hex_digit(text: &[u8]) -> bool
-    ensures { result ≡ begins is_hex_digit text.now }
+    ensures { result ≡ begins_with is_hex_digit text.now }
 {
     match text {
         [c, ..] => is_hex_digit(*c),
@@ -157,7 +157,7 @@ fn number_len(first: u8, rest: &[u8]) -> usize
 }
 
 fn begins(text: &[u8], byte: u8) -> bool
-    ensures { result ≡ begins (λ c. c == byte) text.now }
+    ensures { result ≡ begins_with (λ c. c == byte) text.now }
 {
     match text {
         [c, ..] => *c == byte,
@@ -185,7 +185,7 @@ fn close_at(text: &[u8]) -> Option<usize>
 
 fn slash_piece(rest: &[u8]) -> Scanned
     ensures value { result ≡ slash_piece rest.now }
-    ensures within { IsWithin result (length rest.now + 1) }
+    ensures within { TakesSomeOf result (length rest.now + 1) }
 {
     match rest {
         [b'/', body @ ..] => Scanned::Gap(len_before(b'\n', body) + 2),
@@ -199,7 +199,7 @@ fn slash_piece(rest: &[u8]) -> Scanned
 
 fn text_piece(rest: &[u8]) -> Scanned
     ensures value { result ≡ text_piece rest.now }
-    ensures within { IsWithin result (length rest.now + 1) }
+    ensures within { TakesSomeOf result (length rest.now + 1) }
 {
     let inside = len_before(b'"', rest);
     if inside == rest.len() {
@@ -213,7 +213,7 @@ fn text_piece(rest: &[u8]) -> Scanned
 #[inline(always)]
 fn common_piece_at(first: u8, rest: &[u8]) -> Option<Scanned>
     ensures value { IfSome result (λ piece. piece ≡ piece_at first rest.now) }
-    ensures within { IfSome result (λ piece. IsWithin piece (length rest.now + 1)) }
+    ensures within { IfSome result (λ piece. TakesSomeOf piece (length rest.now + 1)) }
     ensures none { result ≡ None → is_common first ≡ false }
 {
     if is_separator(first) {
@@ -232,7 +232,7 @@ fn common_piece_at(first: u8, rest: &[u8]) -> Option<Scanned>
 fn rare_piece_at(first: u8, rest: &[u8]) -> Scanned
     requires { is_common first ≡ false }
     ensures value { result ≡ piece_at first rest.now }
-    ensures within { IsWithin result (length rest.now + 1) }
+    ensures within { TakesSomeOf result (length rest.now + 1) }
 {
     if is_digit(first) {
         Scanned::Token(TokenKind::Number, number_len(first, rest))
@@ -249,7 +249,7 @@ fn rare_piece_at(first: u8, rest: &[u8]) -> Scanned
 #[inline(always)]
 fn common_piece(text: &[u8]) -> Option<Scanned>
     ensures value { IfSome result (λ piece. piece ≡ front_piece text.now) }
-    ensures within { IfSome result (λ piece. IsWithin piece (length text.now)) }
+    ensures within { IfSome result (λ piece. TakesSomeOf piece (length text.now)) }
 {
     match text {
         [first, rest @ ..] => common_piece_at(*first, rest),
@@ -260,7 +260,7 @@ fn common_piece(text: &[u8]) -> Option<Scanned>
 #[inline(always)]
 fn piece_at(first: u8, rest: &[u8]) -> Scanned
     ensures value { result ≡ piece_at first rest.now }
-    ensures within { IsWithin result (length rest.now + 1) }
+    ensures within { TakesSomeOf result (length rest.now + 1) }
 {
     match common_piece_at(first, rest) {
         Some(piece) => piece,
@@ -273,7 +273,7 @@ fn piece_at(first: u8, rest: &[u8]) -> Scanned
 pub fn front_piece(text: &[u8]) -> Scanned
     requires { 0 < length text.now }
     ensures value { result ≡ front_piece text.now }
-    ensures within { IsWithin result (length text.now) }
+    ensures within { TakesSomeOf result (length text.now) }
 {
     match text {
         [first, rest @ ..] => piece_at(*first, rest),
@@ -286,18 +286,18 @@ const LONG: usize = 32;
 
 /// The place after one byte.
 #[inline(always)]
-fn stepped(from: Place, c: u8) -> Place
+fn stepped(from: Location, c: u8) -> Location
     requires line_fits { from.line + 1 < 2 ^ 64 }
     requires column_fits { from.column + 1 < 2 ^ 64 }
     ensures { result ≡ step from c }
 {
     if c == b'\n' {
-        Place {
+        Location {
             line: from.line + 1,
             column: 1,
         }
     } else {
-        Place {
+        Location {
             line: from.line,
             column: from.column + 1,
         }
@@ -305,7 +305,7 @@ fn stepped(from: Place, c: u8) -> Place
 }
 
 /// The place after a piece that begins at this place.
-fn advanced(from: Place, piece: &[u8]) -> Place
+fn advanced(from: Location, piece: &[u8]) -> Location
     requires line_fits { from.line + length piece.now < 2 ^ 64 }
     requires column_fits { from.column + length piece.now < 2 ^ 64 }
     ensures place { result ≡ place_behind from piece.now }
@@ -320,7 +320,7 @@ fn advanced(from: Place, piece: &[u8]) -> Place
 }
 
 /// The same, line by line.
-fn advanced_by_lines(from: Place, piece: &[u8]) -> Place
+fn advanced_by_lines(from: Location, piece: &[u8]) -> Location
     requires line_fits { from.line + length piece.now < 2 ^ 64 }
     requires column_fits { from.column + length piece.now < 2 ^ 64 }
     ensures place { result ≡ place_behind from piece.now }
@@ -330,13 +330,13 @@ fn advanced_by_lines(from: Place, piece: &[u8]) -> Place
     let mut place = from;
     let mut rest = piece;
     while let [_, behind @ ..] = behind_line(rest) {
-        place = Place {
+        place = Location {
             line: place.line + 1,
             column: 1,
         };
         rest = behind;
     }
-    Place {
+    Location {
         line: place.line,
         column: place.column + rest.len() as u64,
     }
@@ -356,7 +356,7 @@ fn mark_len(source: &[u8]) -> usize
 
 /// A token of so many bytes at this offset and place.
 #[inline(always)]
-fn token_from(kind: TokenKind, start: usize, size: usize, place: Place) -> Token
+fn token_from(kind: TokenKind, start: usize, size: usize, place: Location) -> Token
     requires { start + size < 2 ^ 64 }
     ensures { result ≡ token_from kind start size place }
 {
@@ -374,7 +374,7 @@ fn token_from(kind: TokenKind, start: usize, size: usize, place: Place) -> Token
 pub struct Lexer<'a> {
     pub source: &'a [u8],
     pub offset: usize,
-    pub place: Place,
+    pub place: Location,
 }
 
 impl<'a> Lexer<'a> {
@@ -388,7 +388,7 @@ impl<'a> Lexer<'a> {
         Lexer {
             source,
             offset: mark_len(source),
-            place: Place { line: 1, column: 1 },
+            place: Location { line: 1, column: 1 },
         }
     }
 

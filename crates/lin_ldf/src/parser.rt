@@ -11,7 +11,7 @@ ghost use Rattle.lin_ldf.specs.Describes.{Describes};
 ghost use Rattle.lin_ldf.specs.Forms.{Gives, has_front, front, tail, mark, keyword, end, ◌<&◌};
 ghost use Rattle.lin_ldf.specs.Loops.{is_next};
 ghost use Rattle.lin_ldf.specs.UpTo.{front_kind};
-ghost use Rattle.lin_ldf.specs.Words.{word, name_of, place_of, opening, new_word, number_at, int};
+ghost use Rattle.lin_ldf.specs.Words.{word, name_of, place_of, opening, new_word, next_number, int};
 ghost use Rattle.lin_ldf.specs.Words.{dec, dec_in, is_word_next};
 ghost use Rattle.lin_ldf.specs.Grammar.{header_words, is_extra_next, without_quotes, protocol_text};
 ghost use Rattle.lin_ldf.specs.Grammar.{file, with_node, front_section};
@@ -19,26 +19,28 @@ ghost use Rattle.lin_ldf.specs.declared.fault.LdfFault.{LdfFault};
 ghost use Rattle.lin_ldf.specs.declared.fault.LdfFault.TheVariants.{OutOfMemory};
 ghost use Rattle.lin_parts.specs.declared.description.Description.{Description};
 
+use crate::declared_names::Names;
 use crate::fault::LdfFault;
 use crate::front::Front;
+use crate::known_words::{is_attribute, is_section};
 use crate::lexer::first_fault;
-use crate::names::Names;
 use crate::node_attributes::NodeBlocks;
 use crate::number_values;
 use crate::section::{SectionWord, section_word};
 use crate::token::{TokenKind, same_kind};
-use lin_parts::Place;
+use crate::unknown_words::{UnknownWord, UnknownWords};
+use lin_parts::Location;
 use lin_parts::description::{Description, Name, Number};
 use lin_text::Text;
-use std::alloc::Global;
+use std::alloc::{AllocError, Global};
 use std::marker::Model;
+use std::mem;
 
 /// The tokens that are left. What is read takes memory of `alloc`.
 #[derive(Drop)]
 pub struct Parser<'a> {
     alloc: Global,
-    /// Whether a section or an attribute was read over that no version of LIN has.
-    has_unknown: bool,
+    unknown: UnknownWords<'a>,
     pub(crate) front: Front<'a>,
 }
 
@@ -95,7 +97,7 @@ impl<'a> Parser<'a> {
     {
         Parser {
             alloc,
-            has_unknown: false,
+            unknown: UnknownWords::new(alloc),
             front: Front::new(source),
         }
     }
@@ -113,7 +115,7 @@ impl<'a> Parser<'a> {
     }
 
     /// The place of the next token, or after the text.
-    pub fn place(&self) -> Place
+    pub fn place(&self) -> Location
         ensures { has_front self.now ≡ true → result ≡ place_of (front self.now) }
     {
         self.front.place()
@@ -159,18 +161,43 @@ impl<'a> Parser<'a> {
     {
         Parser {
             alloc: self.alloc,
-            has_unknown: self.has_unknown,
+            unknown: UnknownWords::new(self.alloc),
             front: self.front,
         }
     }
 
-    /// A section or an attribute is read over: whether a version of LIN has its word.
-    pub fn note_word(&mut self, is_known: bool)
+    /// Notes the word of a section, the next token, if no version of LIN has it.
+    ///
+    /// # Errors
+    /// Out of memory.
+    pub fn note_section(&mut self) -> Result<(), AllocError>
         ensures { self.new ≡ self.old }
     {
-        if !is_known {
-            self.has_unknown = true;
+        let text = self.text();
+        if is_section(text) {
+            return Ok(());
         }
+        self.unknown.add(UnknownWord {
+            is_section: true,
+            text,
+        })
+    }
+
+    /// Notes the word of a node attribute, the next token, if no version of LIN has it.
+    ///
+    /// # Errors
+    /// Out of memory.
+    pub fn note_attribute(&mut self) -> Result<(), AllocError>
+        ensures { self.new ≡ self.old }
+    {
+        let text = self.text();
+        if is_attribute(text) {
+            return Ok(());
+        }
+        self.unknown.add(UnknownWord {
+            is_section: false,
+            text,
+        })
     }
 
     /// The next token is passed over.
@@ -192,7 +219,7 @@ impl<'a> Parser<'a> {
     }
 
     /// An opening brace, and its place.
-    pub fn opening(&mut self) -> Result<Place, LdfFault>
+    pub fn opening(&mut self) -> Result<Location, LdfFault>
         ensures { Gives result self.new (opening.read self.old) }
     {
         let place = self.place();
@@ -228,7 +255,7 @@ impl<'a> Parser<'a> {
         requires { has_front self.old ≡ true }
         ensures { Gives result self.new (Some (name_of (front self.old), tail self.old)) }
     {
-        let Place { line, column } = self.place();
+        let Location { line, column } = self.place();
         let text = self.front.copied_text(self.alloc)?;
         self.skip();
         Ok(Name { text, line, column })
@@ -309,9 +336,9 @@ impl<'a> Parser<'a> {
     /// The next token, a number with this value where that is within the limit.
     pub fn number(&mut self, value: Option<u32>) -> Result<Number, LdfFault>
         requires { has_front self.old ≡ true }
-        ensures { Gives result self.new (number_at value self.old) }
+        ensures { Gives result self.new (next_number value self.old) }
     {
-        let Place { line, column } = self.place();
+        let Location { line, column } = self.place();
         match value {
             Some(value) => {
                 self.skip();
@@ -389,13 +416,12 @@ impl<'a> Parser<'a> {
         }
     }
 
-    /// A whole LDF text; and whether a section or an attribute in it was read over that no version of
-    /// LIN has.
-    fn file_noting(&mut self, has_unknown: &mut bool) -> Result<Description, LdfFault>
+    /// Reads an LDF to its end, as `file` does, and returns the unknown words in `unknown`.
+    fn file_noting(&mut self, unknown: &mut UnknownWords<'a>) -> Result<Description, LdfFault>
         ensures { Gives result self.new (file.read self.old) }
     {
         let read = self.file();
-        *has_unknown = self.has_unknown;
+        mem::swap(&mut self.unknown, unknown);
         read
     }
 
@@ -427,17 +453,19 @@ pub fn parse(alloc: Global, source: &[u8]) -> Result<Description, LdfFault>
     ensures first { (e : LdfFault) → IsLexFault source.now e → e ≢ OutOfMemory
         → IsErrAnd result (λ found. (found ≡ e) ⊎ (found ≡ OutOfMemory)) }
 {
-    let mut has_unknown = false;
-    parse_noting(alloc, source, &mut has_unknown)
+    parse_noting(alloc, source, &mut UnknownWords::new(alloc))
 }
 
-/// What an LDF text describes, as of `parse`; and whether it has a section or a node attribute that no
-/// version of LIN has. (No contract says the latter. If the text describes something, it is whether
-/// `unknown_words` of `lin_values` finds any.)
-pub fn parse_noting(
+/// Reads an LDF as `parse` does, and replaces `unknown` by the words of its sections and node attributes
+/// that no version of LIN has. (No contract covers these words. If the LDF has no fault, they are the ones
+/// that `unknown_words` of `lin_values` finds.)
+///
+/// # Errors
+/// Those of `parse`.
+pub fn parse_noting<'a>(
     alloc: Global,
-    source: &[u8],
-    has_unknown: &mut bool,
+    source: &'a [u8],
+    unknown: &mut UnknownWords<'a>,
 ) -> Result<Description, LdfFault>
     ensures found { IfOk result (Describes source.now) }
     ensures only { (d : Description) → Describes source.now d
@@ -447,7 +475,7 @@ pub fn parse_noting(
         → IsErrAnd result (λ found. (found ≡ e) ⊎ (found ≡ OutOfMemory)) }
 {
     let mut parser = Parser::new(alloc, source);
-    match parser.file_noting(has_unknown) {
+    match parser.file_noting(unknown) {
         Ok(found) => Ok(found),
         Err(LdfFault::OutOfMemory) => Err(LdfFault::OutOfMemory),
         Err(fault) => match first_fault(source) {

@@ -1,7 +1,7 @@
 //! Tokens that are read over: of them the kinds alone are looked at.
 
 ghost use Rattle.std.specs.Prelude.{◌≡◌, ◌+◌, ◌<◌, ◌≤◌, ◌^◌, ℕ, List, IfSome, length};
-ghost use Rattle.lin_ldf.specs.Skimming.{Passes, Skims};
+ghost use Rattle.lin_ldf.specs.Skimming.{SkipsPiece, Skims};
 ghost use Rattle.lin_ldf.specs.UpTo.{is_end, depth_behind};
 
 use crate::lexer::{Scanned, front_piece};
@@ -36,7 +36,7 @@ pub fn depth_behind(depth: usize, kind: TokenKind) -> Option<usize>
 #[inline(always)]
 fn passed(end: TokenKind, depth: usize, piece: Scanned) -> Option<(usize, usize)>
     requires { depth + 1 < 2 ^ 64 }
-    ensures passes { IfSome result (λ p. Passes end depth piece p.0 p.1) }
+    ensures passes { IfSome result (λ p. SkipsPiece end depth piece p.0 p.1) }
     ensures one_more { IfSome result (λ p. p.1 ≤ depth + 1) }
 {
     match piece {

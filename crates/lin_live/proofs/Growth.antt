@@ -7,15 +7,15 @@ use Rattle.lin_core.specs.Runs.{entry_of}
 use Rattle.lin_core.specs.declared.log.LogEntry.{LogEntry}
 use Rattle.lin_core.specs.declared.port.PortId.{PortId}
 use Rattle.lin_core.specs.declared.step.Step.{Step}
-use Rattle.lin_bench.specs.Made.{BenchState, course_of, expects, judged, made, made_within, said, slots_made, stepped}
-use Rattle.lin_bench.specs.Added.{added}
-use Rattle.lin_bench.specs.Slots.{Course, after as after_steps, most, past_after, with_entry}
+use Rattle.lin_bench.specs.Made.{BenchState, course_of, expects, bench_with_verdict, made, made_within, said, slots_made, bench_after_steps}
+use Rattle.lin_bench.specs.Added.{added_steps}
+use Rattle.lin_bench.specs.Slots.{Course, course_after as after_steps, most, past_after, with_entry}
 use Rattle.lin_bench.specs.declared.expected.Expected.{Expected}
 use Rattle.lin_bench.specs.declared.got.Verdict.TheVariants.{SlotLimit}
-use Rattle.lin_bench.specs.declared.line.Line.{Line}
-use Rattle.lin_bench.specs.declared.line.Line.TheVariants as line
+use Rattle.lin_bench.specs.declared.line.ScriptLine.{ScriptLine}
+use Rattle.lin_bench.specs.declared.line.ScriptLine.TheVariants as line
 use Rattle.lin_live.specs.Answers.{AnswersAreTheLog, AnswersAreWritten, answers, answers_text}
-use Rattle.lin_live.specs.Told.{HandData, answer_text, answered, heard_as, shown_coding, told, unmarked}
+use Rattle.lin_live.specs.Told.{HandData, answer_text, line_answer, heard_as, shown_coding, heard_answer, without_byte_order_mark}
 use Rattle.lin_bench.specs.Strict.{entries_since}
 use Rattle.lin_live.specs.Transcript.{short}
 use Rattle.lin_live.specs.declared.heard.Heard.{Heard}
@@ -50,28 +50,28 @@ kept-after c opening capacity P keeps at [] h = h
 kept-after c opening capacity P keeps at (s ∷ ss) h =
     let e = entry_of c opening capacity at.past s in
     kept-after c opening capacity P keeps (with_entry c opening capacity at e) ss
-    (kept-past c opening capacity P keeps (e ∷ at.past) (added c e at.past at.rules) (keeps at.past s h))
+    (kept-past c opening capacity P keeps (e ∷ at.past) (added_steps c e at.past at.rules) (keeps at.past s h))
 
-kept-judged : (c : Parts) (opening : ℕ) (P : List LogEntry → Type 0) (b : BenchState) (what : Option Expected) → P b.past → P (judged c opening b what).0.past
+kept-judged : (c : Parts) (opening : ℕ) (P : List LogEntry → Type 0) (b : BenchState) (what : Option Expected) → P b.past → P (bench_with_verdict c opening b what).0.past
 kept-judged c opening P b None h = h
 kept-judged c opening P b (Some what) h = h
 
 kept-within : (c : Parts) (opening capacity : ℕ) (P : List LogEntry → Type 0) → Keeps c opening capacity P → (b : BenchState) (count : ℕ) (steps first : List (PortId × Step)) (what : Option Expected)
     → P b.past → P (made_within c opening capacity b count steps first what).0.past
 kept-within c opening capacity P keeps b count steps first what h =
-    elim (nat_lt b.left count) as (λ t. P (if t then (stepped c opening capacity b b.left first, SlotLimit) else judged c opening (stepped c opening capacity b count steps) what).0.past) [
+    elim (nat_lt b.left count) as (λ t. P (if t then (bench_after_steps c opening capacity b b.left first, SlotLimit) else bench_with_verdict c opening (bench_after_steps c opening capacity b count steps) what).0.past) [
       | true ↦ kept-after c opening capacity P keeps (course_of b) first h
-      | false ↦ kept-judged c opening P (stepped c opening capacity b count steps) what (kept-after c opening capacity P keeps (course_of b) steps h)
+      | false ↦ kept-judged c opening P (bench_after_steps c opening capacity b count steps) what (kept-after c opening capacity P keeps (course_of b) steps h)
     ]
 
-kept-line : (c : Parts) (opening capacity : ℕ) (P : List LogEntry → Type 0) → Keeps c opening capacity P → (b : BenchState) (l : Line) → P b.past
+kept-line : (c : Parts) (opening capacity : ℕ) (P : List LogEntry → Type 0) → Keeps c opening capacity P → (b : BenchState) (l : ScriptLine) → P b.past
     → P (made_within c opening capacity b (slots_made l (said c opening capacity most b l)) (said c opening capacity most b l)
     (said c opening capacity (λ extent. b.left) b l) (expects l)).0.past
 kept-line c opening capacity P keeps b l h =
     let steps = said c opening capacity most b l in
     kept-within c opening capacity P keeps b (slots_made l steps) steps (said c opening capacity (λ extent. b.left) b l) (expects l) h
 
-pub kept-made : (c : Parts) (opening capacity : ℕ) (P : List LogEntry → Type 0) → Keeps c opening capacity P → (b : BenchState) (l : Line) → P b.past
+pub kept-made : (c : Parts) (opening capacity : ℕ) (P : List LogEntry → Type 0) → Keeps c opening capacity P → (b : BenchState) (l : ScriptLine) → P b.past
     → P (made c opening capacity b l).0.past
 unfolding made
 kept-made c opening capacity P keeps b (line.Step by step) h = kept-line c opening capacity P keeps b (line.Step by step) h
@@ -83,7 +83,7 @@ kept-made c opening capacity P keeps b (line.Expect what) h = kept-line c openin
 kept-made c opening capacity P keeps b line.Forget h = h
 kept-made c opening capacity P keeps b (line.Rule rule) h = h
 
-pub grown-made : (c : Parts) (opening capacity : ℕ) (b : BenchState) (l : Line) → Grown b.past (made c opening capacity b l).0.past
+pub grown-made : (c : Parts) (opening capacity : ℕ) (b : BenchState) (l : ScriptLine) → Grown b.past (made c opening capacity b l).0.past
 grown-made c opening capacity b l =
     kept-made c opening capacity (Grown b.past) (λ past s g. grown-more b.past past (entry_of c opening capacity past s ∷ past) g (grown-by past (entry_of c opening capacity past s))) b l
     (grown-nothing b.past)
@@ -94,7 +94,7 @@ since past later g =
     g.1 ∙ ap (λ l. reverse past ++ l)
     (sym (drop-append_seam (reverse past) g.0) ∙ ap (λ n. drop n (reverse past ++ g.0)) (length-reverse past) ∙ ap (drop (length past)) (sym g.1))
 
-told-grown : (h : HandData) (said : Result (Option Heard) Reason) → reverse (told h said).0.bench.past ≡ reverse h.bench.past ++ (told h said).1.entries
+told-grown : (h : HandData) (said : Result (Option Heard) Reason) → reverse (heard_answer h said).0.bench.past ≡ reverse h.bench.past ++ (heard_answer h said).1.entries
 told-grown h (Err why) = sym (append-nil (reverse h.bench.past))
 told-grown h (Ok None) = sym (append-nil (reverse h.bench.past))
 told-grown h (Ok (Some (Ask asked))) = sym (append-nil (reverse h.bench.past))
@@ -104,15 +104,15 @@ told-grown h (Ok (Some (Make line))) =
 pub answers-are-the-log : AnswersAreTheLog
 answers-are-the-log h [] = sym (append-nil (reverse h.bench.past))
 answers-are-the-log h (line ∷ more) =
-    let a = answered h (short line) in
+    let a = line_answer h (short line) in
     let rest = flat_map (λ b. b.entries) (answers a.0 more) in
     answers-are-the-log a.0 more
-    ∙ ap (λ l. l ++ rest) (told-grown (record h { begun = true }) (heard_as h.cluster h.coded (unmarked h (short line))))
+    ∙ ap (λ l. l ++ rest) (told-grown (record h { begun = true }) (heard_as h.cluster h.coded (without_byte_order_mark h (short line))))
     ∙ append_assoc (reverse h.bench.past) a.1.entries rest
 
 -- an answer changes neither how entries are told, nor the cluster, nor what signals mean
 pub told-kept : (h : HandData) (said : Result (Option Heard) Reason)
-    → ((told h said).0.format ≡ h.format) × ((told h said).0.cluster ≡ h.cluster) × ((told h said).0.coded ≡ h.coded) × ((told h said).0.is_physical ≡ h.is_physical)
+    → ((heard_answer h said).0.format ≡ h.format) × ((heard_answer h said).0.cluster ≡ h.cluster) × ((heard_answer h said).0.coded ≡ h.coded) × ((heard_answer h said).0.is_physical ≡ h.is_physical)
 told-kept h (Err why) = (refl, refl, refl, refl)
 told-kept h (Ok None) = (refl, refl, refl, refl)
 told-kept h (Ok (Some (Ask asked))) = (refl, refl, refl, refl)
@@ -128,9 +128,9 @@ past-grown past later es e =
 pub answers-are-written : AnswersAreWritten
 answers-are-written h [] = refl
 answers-are-written h (line ∷ more) =
-    let said = heard_as h.cluster h.coded (unmarked h (short line)) in
+    let said = heard_as h.cluster h.coded (without_byte_order_mark h (short line)) in
     let b = record h { begun = true } in
-    let a = told b said in
+    let a = heard_answer b said in
     let same = told-kept b said in
     let past = past-grown h.bench.past a.0.bench.past a.1.entries (told-grown b said) in
     ap (λ l. answer_text h a.1 ++ l)

@@ -5,10 +5,10 @@ use Rattle.std.proofs.lemmas.Bool.{lt-leb}
 use Rattle.std.proofs.lemmas.Bool.Decides.{leb_tells, nat_tests}
 use Rattle.std.proofs.lemmas.List.{length-take-le, length-append}
 use Rattle.lin_live.specs.Transcript.{short}
-use Rattle.lin_live.specs.Begun.{added, ended, held, is_nothing}
+use Rattle.lin_live.specs.Begun.{with_bytes, ended_line, bytes_within_line, is_nothing}
 
 -- more than a line and a CR
-too-long : (bytes : List ℕ) → 16777217 < length bytes → held bytes ≡ None
+too-long : (bytes : List ℕ) → 16777217 < length bytes → bytes_within_line bytes ≡ None
 too-long bytes h = ap (λ b. cond b (Some bytes) None) (lt-leb (length bytes) 16777217 h)
 
 -- a line that is longer than it may be
@@ -22,21 +22,21 @@ cut-length false l = omega arith
 strip-length : (l : List ℕ) → length l ≤ length (strip_carriage_return l) + 1
 strip-length l = cut-length _ l
 
-pub held-added : (bytes more : List ℕ) → added (held bytes) more ≡ held (bytes ++ more)
+pub held-added : (bytes more : List ℕ) → with_bytes (bytes_within_line bytes) more ≡ bytes_within_line (bytes ++ more)
 held-added bytes more =
     elim (leb_tells (length bytes) 16777217) [
-      | inl h ↦ ap (λ b. added (cond b (Some bytes) None) more) h.0
-      | inr h ↦ ap (λ k. added k more) (too-long bytes h.1) ∙ sym (too-long (bytes ++ more) (omega (arith, length-append bytes more, h.1)))
+      | inl h ↦ ap (λ b. with_bytes (cond b (Some bytes) None) more) h.0
+      | inr h ↦ ap (λ k. with_bytes k more) (too-long bytes h.1) ∙ sym (too-long (bytes ++ more) (omega (arith, length-append bytes more, h.1)))
     ]
 
-pub held-ended : (bytes : List ℕ) → ended (held bytes) ≡ short (strip_carriage_return bytes)
+pub held-ended : (bytes : List ℕ) → ended_line (bytes_within_line bytes) ≡ short (strip_carriage_return bytes)
 held-ended bytes =
     elim (leb_tells (length bytes) 16777217) [
-      | inl h ↦ ap (λ b. ended (cond b (Some bytes) None)) h.0
-      | inr h ↦ ap ended (too-long bytes h.1) ∙ sym (no-short (strip_carriage_return bytes) (omega (arith, strip-length bytes, h.1)))
+      | inl h ↦ ap (λ b. ended_line (cond b (Some bytes) None)) h.0
+      | inr h ↦ ap ended_line (too-long bytes h.1) ∙ sym (no-short (strip_carriage_return bytes) (omega (arith, strip-length bytes, h.1)))
     ]
 
-pub held-nothing : (bytes : List ℕ) → is_nothing (held bytes) ≡ (length bytes == 0)
+pub held-nothing : (bytes : List ℕ) → is_nothing (bytes_within_line bytes) ≡ (length bytes == 0)
 held-nothing bytes =
     elim (leb_tells (length bytes) 16777217) [
       | inl h ↦ ap (λ b. is_nothing (cond b (Some bytes) None)) h.0

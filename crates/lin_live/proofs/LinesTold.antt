@@ -9,15 +9,15 @@ use Rattle.lin_core.specs.declared.log.LogEntry.{LogEntry}
 use Rattle.lin_log.specs.Words.{text}
 use Rattle.lin_export.specs.Named.{named_entries}
 use Rattle.lin_export.specs.Track.{TrackData, track_of}
-use Rattle.lin_bench.specs.Bench.{BenchData, MakesLine, made_on, renewed, state_of}
+use Rattle.lin_bench.specs.Bench.{BenchData, MakesLine, made_on, with_all_slots, state_of}
 use Rattle.lin_bench.specs.Made.{BenchState}
 use Rattle.lin_bench.specs.declared.got.Verdict.{Verdict}
-use Rattle.lin_bench.specs.declared.line.Line.{Line}
+use Rattle.lin_bench.specs.declared.line.ScriptLine.{ScriptLine}
 use Rattle.lin_live.specs.Hand.{IsFollowed, earlier, hand_data}
 use Rattle.lin_text.specs.Written.{WritesText}
-use Rattle.lin_live.specs.Serving.{Tells}
-use Rattle.lin_live.specs.Told.{HandData, after_line, entries_text, in_words, is_limit, is_unmet, shown_coding, verdict_ending, written}
-use Rattle.lin_live.specs.declared.format.AnswerFormat.TheVariants.{Log, Named}
+use Rattle.lin_live.specs.Serving.{WritesAnswer}
+use Rattle.lin_live.specs.Told.{HandData, after_line, entries_text, verdict_with_meaning, is_limit, is_unmet_verdict, shown_coding, verdict_ending, written}
+use Rattle.lin_live.specs.declared.answer_format.AnswerFormat.TheVariants.{Log, Named}
 use Rattle.lin_live.specs.declared.fault.Fault.{Fault}
 use Rattle.lin_live.specs.declared.fault.Fault.TheVariants.{WriteFailed}
 use Rattle.lin_live.specs.declared.hand.Hand.TheInside.{Inside}
@@ -40,10 +40,10 @@ earlier-was past later g =
     ∙ reverse-reverse past
 
 line-told : (h : HandData) (m : BenchState × Verdict) → Grown h.bench.past m.0.past
-    → telling (after_line h m).0 (length h.bench.past) (in_words h.coded m.1) ≡ written h (after_line h m)
+    → telling (after_line h m).0 (length h.bench.past) (verdict_with_meaning h.coded m.1) ≡ written h (after_line h m)
 line-told h m g =
     let es = drop (length h.bench.past) (reverse m.0.past) in
-    ap (λ p. ((after_line h m).0, entries_text h.format h.cluster (shown_coding h) p es ++ verdict_ending h.cluster (in_words h.coded m.1) es)) (earlier-was h.bench.past m.0.past g)
+    ap (λ p. ((after_line h m).0, entries_text h.format h.cluster (shown_coding h) p es ++ verdict_ending h.cluster (verdict_with_meaning h.coded m.1) es)) (earlier-was h.bench.past m.0.past g)
 
 -- ---- a line was made on a bench
 
@@ -56,21 +56,21 @@ made_hand a new v = record {
   capacity = new.core.capacity;
   coded = a.coded;
   is_physical = a.is_physical;
-  bench = state_of (renewed new);
+  bench = state_of (with_all_slots new);
   begun = a.begun;
   was_bad = a.was_bad || is_limit v;
-  was_unmet = a.was_unmet || is_unmet v;
+  was_unmet = a.was_unmet || is_unmet_verdict v;
 }
 
-line-made : (a : Inside) (before new : BenchData) (line : Line) (v : Verdict) → before ≡ renewed a.bench → MakesLine before line (Ok v) new
-    → (state_of new, v) ≡ made_on (renewed a.bench) line
+line-made : (a : Inside) (before new : BenchData) (line : ScriptLine) (v : Verdict) → before ≡ with_all_slots a.bench → MakesLine before line (Ok v) new
+    → (state_of new, v) ≡ made_on (with_all_slots a.bench) line
 line-made a before new line v is makes = makes.0 ∙ ap (λ b. made_on b line) is
 
-pub line-grown : (a : Inside) (before new : BenchData) (line : Line) (v : Verdict) → before ≡ renewed a.bench → MakesLine before line (Ok v) new
+pub line-grown : (a : Inside) (before new : BenchData) (line : ScriptLine) (v : Verdict) → before ≡ with_all_slots a.bench → MakesLine before line (Ok v) new
     → Grown (past_of a.bench.core) (past_of new.core)
 line-grown a before new line v is makes =
     subst (λ (p : List LogEntry). Grown (past_of a.bench.core) p) (ap (λ (m : BenchState × Verdict). m.0.past) (sym (line-made a before new line v is makes)))
-    (grown-made a.bench.core.cluster a.bench.core.opening a.bench.core.capacity (state_of (renewed a.bench)) line)
+    (grown-made a.bench.core.cluster a.bench.core.opening a.bench.core.capacity (state_of (with_all_slots a.bench)) line)
 
 pub from-there : (a : Inside) (new : BenchData) (from : ℕ) → Grown (past_of a.bench.core) (past_of new.core) → from ≡ length a.bench.core.log
     → from ≤ length (past_of new.core)
@@ -83,8 +83,8 @@ some-as : (o : Option TrackData) (p q : TrackData) → p ≡ q → IfSome o (λ 
 some-as None p q e h = h
 some-as (Some t) p q e h = h ∙ e
 
-pub track-there : (a : Inside) (before new : BenchData) (line : Line) (v : Verdict) (from : ℕ) (o : Option TrackData)
-    → before ≡ renewed a.bench → MakesLine before line (Ok v) new → from ≡ length a.bench.core.log → o ≡ a.track → IsFollowed a
+pub track-there : (a : Inside) (before new : BenchData) (line : ScriptLine) (v : Verdict) (from : ℕ) (o : Option TrackData)
+    → before ≡ with_all_slots a.bench → MakesLine before line (Ok v) new → from ≡ length a.bench.core.log → o ≡ a.track → IsFollowed a
     → IfSome o (λ t. t ≡ track_of new.core.cluster (earlier from (past_of new.core)))
 track-there a before new line v from o is makes is_from same h =
     let c : new.core.cluster ≡ a.bench.core.cluster = makes.1.0 ∙ ap (λ (b : BenchData). b.core.cluster) is in
@@ -100,13 +100,13 @@ same-core : (a : Inside) (new : BenchData) (v : Verdict) → new.core.cluster �
 same-core a new v e f g = rw (e, f, g) refl
 
 -- the line is told from the next entry of the log on
-pub line-told-so : (a : Inside) (before new : BenchData) (line : Line) (v w : Verdict) (from : ℕ) (u : HandData)
-    → before ≡ renewed a.bench → MakesLine before line (Ok v) new → from ≡ length a.bench.core.log → u ≡ made_hand a new v
-    → w ≡ in_words a.coded v
-    → telling u from w ≡ written (hand_data a) (after_line (hand_data a) (made_on (renewed a.bench) line))
+pub line-told-so : (a : Inside) (before new : BenchData) (line : ScriptLine) (v w : Verdict) (from : ℕ) (u : HandData)
+    → before ≡ with_all_slots a.bench → MakesLine before line (Ok v) new → from ≡ length a.bench.core.log → u ≡ made_hand a new v
+    → w ≡ verdict_with_meaning a.coded v
+    → telling u from w ≡ written (hand_data a) (after_line (hand_data a) (made_on (with_all_slots a.bench) line))
 line-told-so a before new line v w from u is makes is_from is_u is_w =
     let h = hand_data a in
-    let m = made_on (renewed a.bench) line in
+    let m = made_on (with_all_slots a.bench) line in
     let all = line-made a before new line v is makes in
     let alike = makes.1 in
     ap (λ x. telling x from w)
@@ -115,7 +115,7 @@ line-told-so a before new line v w from u is makes is_from is_u is_w =
     ∙ ap (λ (x : BenchState × Verdict). (after_line h x).0) all)
     ∙ ap (λ n. telling (after_line h m).0 n w) (is_from ∙ sym (length-reverse a.bench.core.log))
     ∙ ap (λ x. telling (after_line h m).0 (length h.bench.past) x)
-    (is_w ∙ ap (λ (x : BenchState × Verdict). in_words a.coded x.1) all)
+    (is_w ∙ ap (λ (x : BenchState × Verdict). verdict_with_meaning a.coded x.1) all)
     ∙ line-told h m (grown-made h.cluster h.opening h.capacity h.bench line)
 
 -- ---- the text of entries, as the code has it
@@ -130,5 +130,5 @@ names-told h from v core told f c l e = rw (f, e, c, l) refl
 
 -- where a write of it has failed
 pub not-told : {E : Type 0} (p : HandData × List ℕ) (full : Type 0) (t : HandData) (old new : Option (List ℕ)) (wrote : Result Unit E) (result : Result Unit Fault)
-    → WritesText old new wrote p.1 → result ≡ Err WriteFailed → Tells p full t old new result
-not-told p full t old new wrote result w e = subst (λ r. Tells p full t old new r) (sym e) (w.part, w.rest, w.written, w.whole)
+    → WritesText old new wrote p.1 → result ≡ Err WriteFailed → WritesAnswer p full t old new result
+not-told p full t old new wrote result w e = subst (λ r. WritesAnswer p full t old new r) (sym e) (w.part, w.rest, w.written, w.whole)

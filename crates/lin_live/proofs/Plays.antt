@@ -8,25 +8,25 @@ use Rattle.lin_parts.specs.declared.parts.Parts.{Parts}
 use Rattle.lin_core.specs.declared.port.PortId.{PortId}
 use Rattle.lin_core.specs.declared.step.Step.{Step}
 use Rattle.lin_values.specs.Coded.{CodedData}
-use Rattle.lin_bench.specs.Fields.{fields}
-use Rattle.lin_bench.specs.Scripts.{Script, read_lines, with_said}
-use Rattle.lin_bench.specs.Made.{BenchState, expects, judged, made, made_within, said as steps_said, slots_made, stepped}
-use Rattle.lin_bench.specs.Played.{Run, come_to, first, in_turn, is_unmet as is_missed, judged_from, judgements, next, on_line, own, some_unmet, told as run_told, with_judgements}
+use Rattle.lin_bench.specs.Fields.{line_fields}
+use Rattle.lin_bench.specs.Scripts.{Script, read_lines, with_read_line}
+use Rattle.lin_bench.specs.Made.{BenchState, expects, bench_with_verdict, made, made_within, said as steps_said, slots_made, bench_after_steps}
+use Rattle.lin_bench.specs.Played.{Run, come_to, initial_bench, in_turn, is_unmet as is_missed, judged_from, judgements, next, on_line, own, some_unmet, line_result as run_told, with_judgements}
 use Rattle.lin_bench.specs.Slots.{most, slot_limit}
 use Rattle.lin_bench.specs.Words.{read_worded_line}
 use Rattle.lin_bench.specs.declared.expected.Expected.{Expected}
 use Rattle.lin_bench.specs.declared.got.Judgement.{Judgement}
 use Rattle.lin_bench.specs.declared.got.Verdict.{Verdict}
 use Rattle.lin_bench.specs.declared.got.Verdict.TheVariants.{Nothing, Met, Unmet, SlotLimit}
-use Rattle.lin_bench.specs.declared.line.Line.{Line}
-use Rattle.lin_bench.specs.declared.line.Line.TheVariants as line
+use Rattle.lin_bench.specs.declared.line.ScriptLine.{ScriptLine}
+use Rattle.lin_bench.specs.declared.line.ScriptLine.TheVariants as line
 use Rattle.lin_bench.specs.declared.reason.Reason.{Reason}
 use Rattle.lin_live.specs.Heard.{heard_in, of_script}
-use Rattle.lin_live.specs.Told.{HandData, after_line, is_limit, is_unmet, reply, told}
-use Rattle.lin_live.specs.Transcript.{after, most_bytes, short}
+use Rattle.lin_live.specs.Told.{HandData, after_line, is_limit, is_unmet_verdict, reply, heard_answer}
+use Rattle.lin_live.specs.Transcript.{state_after, most_bytes, short}
 use Rattle.lin_bench.proofs.Runs.{told-bench}
-use Rattle.lin_live.specs.declared.format.AnswerFormat.{AnswerFormat}
-use Rattle.lin_live.specs.Play.{IsPlain, LiveIsPlay, asks}
+use Rattle.lin_live.specs.declared.answer_format.AnswerFormat.{AnswerFormat}
+use Rattle.lin_live.specs.Play.{IsPlain, LiveIsPlay, is_question}
 
 -- ---- a bench with room for more slots
 abbrev pub Alike : BenchState × Verdict → BenchState × Verdict → Type 0
@@ -39,7 +39,7 @@ alike-by false true a b x y h g k = let e = g refl in absurd (cc)
 alike-by false false a b x y h g k = k
 
 alike-judged : (c : Parts) (opening : ℕ) (b d : BenchState) (what : Option Expected) → d.past ≡ b.past → d.rules ≡ b.rules → d.taken ≡ b.taken
-    → Alike (judged c opening b what) (judged c opening d what)
+    → Alike (bench_with_verdict c opening b what) (bench_with_verdict c opening d what)
 alike-judged c opening b d None e f g = (e, f, g, refl)
 alike-judged c opening b d (Some what) e f g = (e, f, rw (e, g) refl, rw (e, f, g) refl)
 
@@ -48,16 +48,16 @@ alike-within : (c : Parts) (opening capacity : ℕ) (b : BenchState) (more count
     → Alike (made_within c opening capacity b count steps few what) (made_within c opening capacity (record b { left = more }) count steps many what)
 alike-within c opening capacity b more count steps few many what le h =
     let d = record b { left = more } in
-    alike-by (nat_lt b.left count) (nat_lt more count) (stepped c opening capacity b b.left few) (stepped c opening capacity d more many)
-    (judged c opening (stepped c opening capacity b count steps) what) (judged c opening (stepped c opening capacity d count steps) what) h
+    alike-by (nat_lt b.left count) (nat_lt more count) (bench_after_steps c opening capacity b b.left few) (bench_after_steps c opening capacity d more many)
+    (bench_with_verdict c opening (bench_after_steps c opening capacity b count steps) what) (bench_with_verdict c opening (bench_after_steps c opening capacity d count steps) what) h
     (λ e. grind (arith, common_steps))
-    (alike-judged c opening (stepped c opening capacity b count steps) (stepped c opening capacity d count steps) what refl refl refl)
+    (alike-judged c opening (bench_after_steps c opening capacity b count steps) (bench_after_steps c opening capacity d count steps) what refl refl refl)
 
-abbrev pub AlikeLine : Parts → ℕ → ℕ → BenchState → ℕ → Line → Type 0
+abbrev pub AlikeLine : Parts → ℕ → ℕ → BenchState → ℕ → ScriptLine → Type 0
 AlikeLine c opening capacity b more l =
     is_limit (made c opening capacity b l).1 ≡ false → Alike (made c opening capacity b l) (made c opening capacity (record b { left = more }) l)
 
-alike-line : (c : Parts) (opening capacity : ℕ) (b : BenchState) (more : ℕ) (l : Line) → b.left ≤ more
+alike-line : (c : Parts) (opening capacity : ℕ) (b : BenchState) (more : ℕ) (l : ScriptLine) → b.left ≤ more
     → let steps = steps_said c opening capacity most b l in
     let few = steps_said c opening capacity (λ extent. b.left) b l in
     let many = steps_said c opening capacity (λ extent. more) b l in
@@ -68,7 +68,7 @@ alike-line c opening capacity b more l le =
     alike-within c opening capacity b more (slots_made l (steps_said c opening capacity most b l)) (steps_said c opening capacity most b l)
     (steps_said c opening capacity (λ extent. b.left) b l) (steps_said c opening capacity (λ extent. more) b l) (expects l) le
 
-alike-made : (c : Parts) (opening capacity : ℕ) (b : BenchState) (more : ℕ) (l : Line) → b.left ≤ more → AlikeLine c opening capacity b more l
+alike-made : (c : Parts) (opening capacity : ℕ) (b : BenchState) (more : ℕ) (l : ScriptLine) → b.left ≤ more → AlikeLine c opening capacity b more l
 unfolding made steps_said
 alike-made c opening capacity b more (line.Step by step) le = alike-line c opening capacity b more (line.Step by step) le
 alike-made c opening capacity b more (line.Slot how) le = alike-line c opening capacity b more (line.Slot how) le
@@ -83,24 +83,24 @@ alike-made c opening capacity b more (line.Rule rule) le = λ h. (refl, refl, re
 less-within : (c : Parts) (opening capacity : ℕ) (b : BenchState) (count : ℕ) (steps few : List (PortId × Step)) (what : Option Expected)
     → (made_within c opening capacity b count steps few what).0.left ≤ b.left
 less-within c opening capacity b count steps few None =
-    elim (nat_lt b.left count) as (λ t. (if t then (stepped c opening capacity b b.left few, SlotLimit) else judged c opening (stepped c opening capacity b count steps) None).0.left ≤ b.left) [
+    elim (nat_lt b.left count) as (λ t. (if t then (bench_after_steps c opening capacity b b.left few, SlotLimit) else bench_with_verdict c opening (bench_after_steps c opening capacity b count steps) None).0.left ≤ b.left) [
       | true ↦ omega arith
       | false ↦ omega arith
     ]
 less-within c opening capacity b count steps few (Some what) =
-    elim (nat_lt b.left count) as (λ t. (if t then (stepped c opening capacity b b.left few, SlotLimit) else judged c opening (stepped c opening capacity b count steps) (Some what)).0.left ≤ b.left) [
+    elim (nat_lt b.left count) as (λ t. (if t then (bench_after_steps c opening capacity b b.left few, SlotLimit) else bench_with_verdict c opening (bench_after_steps c opening capacity b count steps) (Some what)).0.left ≤ b.left) [
       | true ↦ omega arith
       | false ↦ omega arith
     ]
 
-less-line : (c : Parts) (opening capacity : ℕ) (b : BenchState) (l : Line)
+less-line : (c : Parts) (opening capacity : ℕ) (b : BenchState) (l : ScriptLine)
     → let steps = steps_said c opening capacity most b l in
     (made_within c opening capacity b (slots_made l steps) steps (steps_said c opening capacity (λ extent. b.left) b l) (expects l)).0.left ≤ b.left
 less-line c opening capacity b l =
     less-within c opening capacity b (slots_made l (steps_said c opening capacity most b l)) (steps_said c opening capacity most b l)
     (steps_said c opening capacity (λ extent. b.left) b l) (expects l)
 
-less-made : (c : Parts) (opening capacity : ℕ) (b : BenchState) (l : Line) → (made c opening capacity b l).0.left ≤ b.left
+less-made : (c : Parts) (opening capacity : ℕ) (b : BenchState) (l : ScriptLine) → (made c opening capacity b l).0.left ≤ b.left
 unfolding made
 less-made c opening capacity b (line.Step by step) = less-line c opening capacity b (line.Step by step)
 less-made c opening capacity b (line.Slot how) = less-line c opening capacity b (line.Slot how)
@@ -126,16 +126,16 @@ or-assoc : (x y z : Bool) → ((x || y) || z) ≡ (x || (y || z))
 or-assoc true y z = refl
 or-assoc false y z = refl
 
-own-unmet : (n entries : ℕ) (v : Verdict) → some_unmet (on_line n entries (own v) ++ []) ≡ is_unmet v
+own-unmet : (n entries : ℕ) (v : Verdict) → some_unmet (on_line n entries (own v) ++ []) ≡ is_unmet_verdict v
 own-unmet n entries SlotLimit = refl
 own-unmet n entries (Unmet what got) = refl
 own-unmet n entries Nothing = refl
 own-unmet n entries (Met what) = refl
 
 -- what is unmet of a line and of those after it
-unmet-more : (c : Parts) (opening capacity : ℕ) (b : BenchState) (l : ℕ × Line) (ls : List (ℕ × Line))
+unmet-more : (c : Parts) (opening capacity : ℕ) (b : BenchState) (l : ℕ × ScriptLine) (ls : List (ℕ × ScriptLine))
     → some_unmet (judged_from false false c opening capacity b (l ∷ ls))
-    ≡ (is_unmet (made c opening capacity b l.1).1 || some_unmet (judged_from false false c opening capacity (made c opening capacity b l.1).0 ls))
+    ≡ (is_unmet_verdict (made c opening capacity b l.1).1 || some_unmet (judged_from false false c opening capacity (made c opening capacity b l.1).0 ls))
 unmet-more c opening capacity b l ls =
     let m = made c opening capacity b l.1 in
     let rest = judged_from false false c opening capacity m.0 ls in
@@ -165,21 +165,21 @@ same-hand : (f : AnswerFormat) (coded : Option CodedData) (physical : Bool) (c :
     → hand_with f coded physical c opening capacity p bad unmet ≡ hand_with f coded physical c opening capacity q false wanted
 same-hand f coded physical c opening capacity p q bad unmet wanted e e2 g h k = cc
 
-line-same : (f : AnswerFormat) (coded : Option CodedData) (physical : Bool) (c : Parts) (opening capacity : ℕ) (b s : BenchState) (unmet : Bool) (l : ℕ × Line) → b.left ≤ slot_limit → next c opening capacity b l ≡ Ok s
+line-same : (f : AnswerFormat) (coded : Option CodedData) (physical : Bool) (c : Parts) (opening capacity : ℕ) (b s : BenchState) (unmet : Bool) (l : ℕ × ScriptLine) → b.left ≤ slot_limit → next c opening capacity b l ≡ Ok s
     → (after_line (hand_of f coded physical c opening capacity b unmet) (made c opening capacity (hand_of f coded physical c opening capacity b unmet).bench l.1)).0
-    ≡ hand_of f coded physical c opening capacity s (unmet || is_unmet (made c opening capacity b l.1).1)
+    ≡ hand_of f coded physical c opening capacity s (unmet || is_unmet_verdict (made c opening capacity b l.1).1)
 line-same f coded physical c opening capacity b s unmet l le h =
     let m = made c opening capacity b l.1 in
     let k = made c opening capacity (record b { left = slot_limit }) l.1 in
     let limit = not-limit l.0 m.0 s m.1 h in
     let alike = alike-made c opening capacity b slot_limit l.1 le limit in
     let came = told-bench l.0 m.0 s m.1 h in
-    same-hand f coded physical c opening capacity k.0 s (is_limit k.1) (unmet || is_unmet k.1) (unmet || is_unmet m.1)
+    same-hand f coded physical c opening capacity k.0 s (is_limit k.1) (unmet || is_unmet_verdict k.1) (unmet || is_unmet_verdict m.1)
     (alike.0 ∙ ap (λ (x : BenchState). x.past) came) (alike.1 ∙ ap (λ (x : BenchState). x.rules) came)
     (alike.2 ∙ ap (λ (x : BenchState). x.taken) came)
-    (ap is_limit alike.3 ∙ limit) (ap (λ v. unmet || is_unmet v) alike.3)
+    (ap is_limit alike.3 ∙ limit) (ap (λ v. unmet || is_unmet_verdict v) alike.3)
 
-line-less : (c : Parts) (opening capacity : ℕ) (b s : BenchState) (l : ℕ × Line) → b.left ≤ slot_limit → next c opening capacity b l ≡ Ok s → s.left ≤ slot_limit
+line-less : (c : Parts) (opening capacity : ℕ) (b s : BenchState) (l : ℕ × ScriptLine) → b.left ≤ slot_limit → next c opening capacity b l ≡ Ok s → s.left ≤ slot_limit
 line-less c opening capacity b s l le h =
     let m = made c opening capacity b l.1 in
     let came = told-bench l.0 m.0 s m.1 h in
@@ -191,21 +191,21 @@ line-less c opening capacity b s l le h =
 short-line : (line : List ℕ) → length line ≤ most_bytes → short line ≡ Some line
 short-line line h = let e : nat_le (length line) most_bytes ≡ true = grind (arith, common_steps) in rw e refl
 
-heard-plain : (c : Parts) (coded : Option CodedData) (line : List ℕ) (fs : List (List ℕ)) → asks fs ≡ false
+heard-plain : (c : Parts) (coded : Option CodedData) (line : List ℕ) (fs : List (List ℕ)) → is_question fs ≡ false
     → heard_in c coded line fs ≡ of_script (read_worded_line c coded line)
 heard-plain c coded line [] h = refl
 heard-plain c coded line (w ∷ fs) h = rw h refl
 
-answer-of : (f : AnswerFormat) (coded : Option CodedData) (physical : Bool) (c : Parts) (opening capacity : ℕ) (b : BenchState) (unmet : Bool) (line : List ℕ) (said : Result (Option Line) Reason)
-    → (length line ≤ most_bytes) × (asks (fields line) ≡ false) → read_worded_line c coded line ≡ said
-    → (reply (hand_of f coded physical c opening capacity b unmet) (short line)).0 ≡ (told (hand_of f coded physical c opening capacity b unmet) (of_script said)).0
+answer-of : (f : AnswerFormat) (coded : Option CodedData) (physical : Bool) (c : Parts) (opening capacity : ℕ) (b : BenchState) (unmet : Bool) (line : List ℕ) (said : Result (Option ScriptLine) Reason)
+    → (length line ≤ most_bytes) × (is_question (line_fields line) ≡ false) → read_worded_line c coded line ≡ said
+    → (reply (hand_of f coded physical c opening capacity b unmet) (short line)).0 ≡ (heard_answer (hand_of f coded physical c opening capacity b unmet) (of_script said)).0
 answer-of f coded physical c opening capacity b unmet line said plain e =
     let h = hand_of f coded physical c opening capacity b unmet in
     ap (λ o. (reply h o).0) (short-line line plain.0)
-    ∙ ap (λ s. (told h s).0) (heard-plain c coded line (fields line) plain.1 ∙ ap of_script e)
+    ∙ ap (λ s. (heard_answer h s).0) (heard-plain c coded line (line_fields line) plain.1 ∙ ap of_script e)
 
 -- ---- all lines
-abbrev lines_or : Script → List (ℕ × Line)
+abbrev lines_or : Script → List (ℕ × ScriptLine)
 lines_or (Ok ls) = ls
 lines_or (Err bad) = []
 
@@ -216,10 +216,10 @@ bench_or b (Err n) = b
 -- a bench in hand comes to another, and what of its lines isn't met is kept
 abbrev pub Same : AnswerFormat → Option CodedData → Bool → Parts → ℕ → ℕ → List (List ℕ) → BenchState → Bool → BenchState → Bool → Type 0
 Same f coded physical c opening capacity ls b unmet end more =
-    after reply (hand_of f coded physical c opening capacity b unmet) (map strip_carriage_return ls) ≡ hand_of f coded physical c opening capacity end (unmet || more)
+    state_after reply (hand_of f coded physical c opening capacity b unmet) (map strip_carriage_return ls) ≡ hand_of f coded physical c opening capacity end (unmet || more)
 
 abbrev pub Goes : AnswerFormat → Option CodedData → Bool → Parts → ℕ → ℕ → List (List ℕ) → Type 0
-Goes f coded physical c opening capacity ls = (n : ℕ) (b end : BenchState) (unmet : Bool) (said : List (ℕ × Line)) → b.left ≤ slot_limit
+Goes f coded physical c opening capacity ls = (n : ℕ) (b end : BenchState) (unmet : Bool) (said : List (ℕ × ScriptLine)) → b.left ≤ slot_limit
     → read_lines c coded n ls ≡ Ok said → in_turn c opening capacity (Ok b) said ≡ Ok end
     → Same f coded physical c opening capacity ls b unmet end (some_unmet (judged_from false false c opening capacity b said))
 
@@ -229,7 +229,7 @@ nothing-goes f coded physical c opening capacity n b end unmet [] le e h =
 nothing-goes f coded physical c opening capacity n b end unmet (x ∷ xs) le e h = absurd (cc)
 
 -- after a line that was made
-next-goes : (f : AnswerFormat) (coded : Option CodedData) (physical : Bool) (c : Parts) (opening capacity : ℕ) (b end : BenchState) (unmet : Bool) (l : ℕ × Line) (line : List ℕ) (ls : List (List ℕ)) (rest : List (ℕ × Line)) (o : Result BenchState ℕ)
+next-goes : (f : AnswerFormat) (coded : Option CodedData) (physical : Bool) (c : Parts) (opening capacity : ℕ) (b end : BenchState) (unmet : Bool) (l : ℕ × ScriptLine) (line : List ℕ) (ls : List (List ℕ)) (rest : List (ℕ × ScriptLine)) (o : Result BenchState ℕ)
     → b.left ≤ slot_limit → Goes f coded physical c opening capacity ls → (n : ℕ) → read_lines c coded n ls ≡ Ok rest
     → (reply (hand_of f coded physical c opening capacity b unmet) (short (strip_carriage_return line))).0
     ≡ (after_line (hand_of f coded physical c opening capacity b unmet) (made c opening capacity (hand_of f coded physical c opening capacity b unmet).bench l.1)).0
@@ -240,21 +240,21 @@ next-goes f coded physical c opening capacity b end unmet l line ls rest (Ok s) 
     let m = made c opening capacity b l.1 in
     let came = told-bench l.0 m.0 s m.1 is in
     let more = some_unmet (judged_from false false c opening capacity s rest) in
-    ap (λ t. after reply t (map strip_carriage_return ls)) (a ∙ line-same f coded physical c opening capacity b s unmet l le is)
-    ∙ goes n s end (unmet || is_unmet m.1) rest (line-less c opening capacity b s l le is) e h
+    ap (λ t. state_after reply t (map strip_carriage_return ls)) (a ∙ line-same f coded physical c opening capacity b s unmet l le is)
+    ∙ goes n s end (unmet || is_unmet_verdict m.1) rest (line-less c opening capacity b s l le is) e h
     ∙ ap (hand_of f coded physical c opening capacity end)
-    (or-assoc unmet (is_unmet m.1) more
-    ∙ ap (λ x. unmet || (is_unmet m.1 || some_unmet (judged_from false false c opening capacity x rest))) (sym came)
+    (or-assoc unmet (is_unmet_verdict m.1) more
+    ∙ ap (λ x. unmet || (is_unmet_verdict m.1 || some_unmet (judged_from false false c opening capacity x rest))) (sym came)
     ∙ ap (λ t. unmet || t) (sym (unmet-more c opening capacity b l rest)))
 
 -- a line that says this, with those after it
-line-goes : (f : AnswerFormat) (coded : Option CodedData) (physical : Bool) (c : Parts) (opening capacity n : ℕ) (b end : BenchState) (unmet : Bool) (line : List ℕ) (ls : List (List ℕ)) (said : List (ℕ × Line)) (this : Result (Option Line) Reason) (more : Script)
+line-goes : (f : AnswerFormat) (coded : Option CodedData) (physical : Bool) (c : Parts) (opening capacity n : ℕ) (b end : BenchState) (unmet : Bool) (line : List ℕ) (ls : List (List ℕ)) (said : List (ℕ × ScriptLine)) (this : Result (Option ScriptLine) Reason) (more : Script)
     → b.left ≤ slot_limit → IsPlain line → Goes f coded physical c opening capacity ls → read_worded_line c coded (strip_carriage_return line) ≡ this
-    → read_lines c coded (n + 1) ls ≡ more → with_said n this more ≡ Ok said → in_turn c opening capacity (Ok b) said ≡ Ok end
+    → read_lines c coded (n + 1) ls ≡ more → with_read_line n this more ≡ Ok said → in_turn c opening capacity (Ok b) said ≡ Ok end
     → Same f coded physical c opening capacity (line ∷ ls) b unmet end (some_unmet (judged_from false false c opening capacity b said))
 line-goes f coded physical c opening capacity n b end unmet line ls said (Err why) more le plain goes is rest e h = absurd (cc)
 line-goes f coded physical c opening capacity n b end unmet line ls said (Ok None) more le plain goes is rest e h =
-    ap (λ t. after reply t (map strip_carriage_return ls)) (answer-of f coded physical c opening capacity b unmet (strip_carriage_return line) (Ok None) plain is)
+    ap (λ t. state_after reply t (map strip_carriage_return ls)) (answer-of f coded physical c opening capacity b unmet (strip_carriage_return line) (Ok None) plain is)
     ∙ goes (n + 1) b end unmet said le (rest ∙ e) h
 line-goes f coded physical c opening capacity n b end unmet line ls said (Ok (Some l)) (Err bad) le plain goes is rest e h = absurd (cc)
 line-goes f coded physical c opening capacity n b end unmet line ls said (Ok (Some l)) (Ok tail) le plain goes is rest e h =
@@ -278,5 +278,5 @@ pub live-is-play : LiveIsPlay
 live-is-play f coded physical c opening capacity ls said run plain e h =
     let js = judgements false c opening capacity said in
     let is = played-bench js (come_to c opening capacity said) run h in
-    all-go f coded physical c opening capacity ls plain 1 first run.bench false said (omega arith) e is.0
+    all-go f coded physical c opening capacity ls plain 1 initial_bench run.bench false said (omega arith) e is.0
     ∙ ap (hand_of f coded physical c opening capacity run.bench) (ap some_unmet is.1)

@@ -4,10 +4,10 @@ use Rattle.lin_parts.specs.declared.parts.Parts.{Parts}
 use Rattle.lin_core.specs.declared.log.LogEntry.{LogEntry}
 use Rattle.lin_values.specs.Coded.{CodedData}
 use Rattle.lin_live.specs.Hand.{hand_data}
-use Rattle.lin_live.specs.Serving.{Replies, Tells}
-use Rattle.lin_live.specs.Told.{HandData, IsFull, ending, entries_text, heard_as, reply, says, shown_coding, told, unmarked, written}
-use Rattle.lin_live.specs.declared.format.AnswerFormat.{AnswerFormat}
-use Rattle.lin_live.specs.declared.format.AnswerFormat.TheVariants.{Log, Named}
+use Rattle.lin_live.specs.Serving.{Replies, WritesAnswer}
+use Rattle.lin_live.specs.Told.{HandData, IsFull, hash_line, entries_text, heard_as, reply, answer_without_step, shown_coding, heard_answer, without_byte_order_mark, written}
+use Rattle.lin_live.specs.declared.answer_format.AnswerFormat.{AnswerFormat}
+use Rattle.lin_live.specs.declared.answer_format.AnswerFormat.TheVariants.{Log, Named}
 use Rattle.lin_live.specs.declared.fault.Fault.{Fault}
 use Rattle.lin_live.specs.declared.fault.Fault.TheVariants.{LogFull, OutOfMemory, ReadFailed, WriteFailed}
 use Rattle.lin_live.specs.declared.hand.Hand.TheInside.{Inside}
@@ -16,7 +16,7 @@ use Rattle.lin_live.specs.declared.reason.Reason.{Reason}
 
 -- where there is always a place
 pub tells-anyway : {S : Type 0} (p : S × List ℕ) (full : Type 0) (t : S) (old new : Option (List ℕ)) (result : Result Unit Fault)
-    → Tells p ⊥ t old new result → Tells p full t old new result
+    → WritesAnswer p ⊥ t old new result → WritesAnswer p full t old new result
 tells-anyway p full t old new (Ok done) h = h
 tells-anyway p full t old new (Err WriteFailed) h = h
 tells-anyway p full t old new (Err OutOfMemory) h = h
@@ -29,9 +29,9 @@ none-told Log c k past = refl
 none-told Named c k past = refl
 
 pub tells-words : (h u : HandData) (words : List ℕ) (full : Type 0) (t : HandData) (old new : Option (List ℕ)) (result : Result Unit Fault)
-    → Tells (u, ending words) full t old new result → Tells (written h (u, says words)) full t old new result
+    → WritesAnswer (u, hash_line words) full t old new result → WritesAnswer (written h (u, answer_without_step words)) full t old new result
 tells-words h u words full t old new result k =
-    subst (λ l. Tells (u, l ++ ending words) full t old new result) (sym (none-told h.format h.cluster (shown_coding h) h.bench.past)) k
+    subst (λ l. WritesAnswer (u, l ++ hash_line words) full t old new result) (sym (none-told h.format h.cluster (shown_coding h) h.bench.past)) k
 
 -- a bench in hand to which there was a line
 abbrev pub begun_data : Inside → HandData
@@ -40,12 +40,12 @@ begun_data a = record (hand_data a) { begun = true }
 -- telling what a line says, which is this
 pub replies-so : (a : Inside) (s : HandData) (line heard : Option (List ℕ)) (said : Result (Option Heard) Reason)
     (t : HandData) (old new : Option (List ℕ)) (result : Result Unit Fault)
-    → hand_data a ≡ s → heard ≡ unmarked s line → heard_as a.bench.core.cluster a.coded heard ≡ said
-    → Tells (written (begun_data a) (told (begun_data a) said)) (2 ^ 32 - 1 < length (told (begun_data a) said).0.bench.past) t old new result
+    → hand_data a ≡ s → heard ≡ without_byte_order_mark s line → heard_as a.bench.core.cluster a.coded heard ≡ said
+    → WritesAnswer (written (begun_data a) (heard_answer (begun_data a) said)) (2 ^ 32 - 1 < length (heard_answer (begun_data a) said).0.bench.past) t old new result
     → Replies reply IsFull s t old new line result
 replies-so a s line heard said t old new result is_a is_heard is_said h =
-    let here : heard ≡ unmarked (hand_data a) line = is_heard ∙ ap (λ v. unmarked v line) (sym is_a) in
-    let is : reply (hand_data a) line ≡ written (begun_data a) (told (begun_data a) said) =
-    ap (λ r. written (begun_data a) (told (begun_data a) r)) (ap (heard_as a.bench.core.cluster a.coded) (sym here) ∙ is_said) in
+    let here : heard ≡ without_byte_order_mark (hand_data a) line = is_heard ∙ ap (λ v. without_byte_order_mark v line) (sym is_a) in
+    let is : reply (hand_data a) line ≡ written (begun_data a) (heard_answer (begun_data a) said) =
+    ap (λ r. written (begun_data a) (heard_answer (begun_data a) r)) (ap (heard_as a.bench.core.cluster a.coded) (sym here) ∙ is_said) in
     subst (λ v. Replies reply IsFull v t old new line result) is_a
-    (subst (λ (p : HandData × List ℕ). Tells p (2 ^ 32 - 1 < length p.0.bench.past) t old new result) (sym is) h)
+    (subst (λ (p : HandData × List ℕ). WritesAnswer p (2 ^ 32 - 1 < length p.0.bench.past) t old new result) (sym is) h)

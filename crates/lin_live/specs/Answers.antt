@@ -3,19 +3,19 @@ use Rattle.std.specs.Prelude.{◌≡◌, ℕ, List, [], ◌∷◌, ◌++◌, fla
 use Rattle.lin_parts.specs.declared.parts.Parts.{Parts}
 use Rattle.lin_values.specs.Coded.{CodedData}
 use Rattle.lin_core.specs.declared.log.LogEntry.{LogEntry}
-use Rattle.lin_live.specs.Told.{Answer, HandData, answered, entries_text, reply, shown_coding}
-use Rattle.lin_live.specs.Transcript.{after, short, transcript}
-use Rattle.lin_live.specs.declared.format.AnswerFormat.{AnswerFormat}
+use Rattle.lin_live.specs.Told.{Answer, HandData, line_answer, entries_text, reply, shown_coding}
+use Rattle.lin_live.specs.Transcript.{state_after, short, transcript}
+use Rattle.lin_live.specs.declared.answer_format.AnswerFormat.{AnswerFormat}
 
 -- what is answered to lines, each after those before it
 abbrev pub answers : HandData → List (List ℕ) → List Answer
 answers h [] = []
-answers h (line ∷ more) = (answered h (short line)).1 ∷ answers (answered h (short line)).0 more
+answers h (line ∷ more) = (line_answer h (short line)).1 ∷ answers (line_answer h (short line)).0 more
 
 -- the entries that the answers tell are those by which the log has grown, in order
 abbrev pub AnswersAreTheLog : Type 0
 AnswersAreTheLog = (h : HandData) (ls : List (List ℕ))
-    → reverse (after reply h ls).bench.past
+    → reverse (state_after reply h ls).bench.past
     ≡ reverse h.bench.past ++ flat_map (λ a. a.entries) (answers h ls)
 
 -- the texts of answers, each on the log of those before it

@@ -4,7 +4,7 @@ use Rattle.std.specs.Prelude.{Result, Ok, Err, codes}
 use Rattle.std.specs.Str.{bytes_eq}
 use Rattle.lin_parts.specs.Cluster.{nodes}
 use Rattle.lin_parts.specs.declared.parts.Parts.{Parts}
-use Rattle.lin_log.specs.Language.{named}
+use Rattle.lin_log.specs.Language.{named_language}
 use Rattle.lin_log.specs.Said.{node_field, signal_field}
 use Rattle.lin_log.specs.declared.reason.LineFault.{LineFault as StepFault}
 use Rattle.lin_log.specs.declared.reason.LineFault.TheVariants as faults
@@ -28,20 +28,20 @@ Ok x >>= f = f x
 Err why >>= f = Err why
 
 -- a field, as lines of steps have it
-abbrev pub of_step : {A : Type 0} → Result A StepReason → Result A Reason
-of_step (Ok x) = Ok x
-of_step (Err why) = Err (Script (Step why))
+abbrev pub step_field : {A : Type 0} → Result A StepReason → Result A Reason
+step_field (Ok x) = Ok x
+step_field (Err why) = Err (Script (Step why))
 
 abbrev pub signal_asked : Parts → List ℕ → List ℕ → Result Question Reason
 signal_asked c n s =
-    of_step (node_field (named c) n)
-    >>= (λ node. of_step (signal_field (named c) s)
+    step_field (node_field (named_language c) n)
+    >>= (λ node. step_field (signal_field (named_language c) s)
     >>= (λ signal. if nat_lt node (nodes c) && nat_lt signal (length c.signals)
     then Ok (Signal node signal) else Err NoNodeOrSignal))
 
 abbrev pub node_question : Parts → List ℕ → Result Question Reason
 node_question c n =
-    of_step (node_field (named c) n)
+    step_field (node_field (named_language c) n)
     >>= (λ host. if nat_lt host (nodes c) then Ok (Waiting host) else Err NoNode)
 
 -- the forms of questions: all fields after `?`, which are shown where there is no form of them, and
@@ -81,9 +81,9 @@ IsAskable c (Waiting host) = host < nodes c
 IsAskable c asked = Unit {0}
 
 -- ---- what reading a question answers, beside what the definition reads
-abbrev pub step_fault : StepFault → LineFault
-step_fault (faults.Bad why) = Bad (Script (Step why))
-step_fault faults.OutOfMemory = OutOfMemory
+abbrev pub fault_of_step : StepFault → LineFault
+fault_of_step (faults.Bad why) = Bad (Script (Step why))
+fault_of_step faults.OutOfMemory = OutOfMemory
 
 abbrev pub script_fault : ScriptFault → LineFault
 script_fault (scripts.Bad why) = Bad (Script why)

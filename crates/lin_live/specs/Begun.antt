@@ -5,18 +5,18 @@ use Rattle.std.specs.Str.Lines.{strip_carriage_return}
 use Rattle.lin_live.specs.Transcript.{short}
 
 -- its bytes, none where they are more than those of a line and a CR
-abbrev pub held : List ℕ → Option (List ℕ)
-held bytes = if nat_le (length bytes) 16777217 then Some bytes else None
+abbrev pub bytes_within_line : List ℕ → Option (List ℕ)
+bytes_within_line bytes = if nat_le (length bytes) 16777217 then Some bytes else None
 
 -- with more bytes
-abbrev pub added : Option (List ℕ) → List ℕ → Option (List ℕ)
-added None more = None
-added (Some bytes) more = held (bytes ++ more)
+abbrev pub with_bytes : Option (List ℕ) → List ℕ → Option (List ℕ)
+with_bytes None more = None
+with_bytes (Some bytes) more = bytes_within_line (bytes ++ more)
 
 -- the line that ends here
-abbrev pub ended : Option (List ℕ) → Option (List ℕ)
-ended None = None
-ended (Some bytes) = short (strip_carriage_return bytes)
+abbrev pub ended_line : Option (List ℕ) → Option (List ℕ)
+ended_line None = None
+ended_line (Some bytes) = short (strip_carriage_return bytes)
 
 -- whether it has no byte
 abbrev pub is_nothing : Option (List ℕ) → Bool

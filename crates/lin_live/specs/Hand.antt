@@ -3,12 +3,12 @@ use Rattle.std.specs.Prelude.{◌≡◌, ℕ, Bool, false, List, IfSome, Option,
 use Rattle.lin_values.specs.Coded.{CodedData}
 use Rattle.lin_core.specs.Core.{CoreData}
 use Rattle.lin_core.specs.declared.log.LogEntry.{LogEntry}
-use Rattle.lin_bench.specs.Bench.{fresh, renewed, state_of}
+use Rattle.lin_bench.specs.Bench.{new_bench, with_all_slots, state_of}
 use Rattle.lin_bench.specs.declared.fault.MakeFault.{MakeFault}
 use Rattle.lin_bench.specs.declared.fault.MakeFault.TheVariants as makes
 use Rattle.lin_export.specs.Track.{track_of}
 use Rattle.lin_live.specs.Told.{HandData}
-use Rattle.lin_live.specs.declared.format.AnswerFormat.{AnswerFormat}
+use Rattle.lin_live.specs.declared.answer_format.AnswerFormat.{AnswerFormat}
 use Rattle.lin_live.specs.declared.fault.Fault.{Fault}
 use Rattle.lin_live.specs.declared.fault.Fault.TheVariants.{LogFull, OutOfMemory}
 use Rattle.lin_live.specs.declared.hand.Hand.TheInside.{Inside}
@@ -21,7 +21,7 @@ hand_data a = record {
   capacity = a.bench.core.capacity;
   coded = a.coded;
   is_physical = a.is_physical;
-  bench = state_of (renewed a.bench);
+  bench = state_of (with_all_slots a.bench);
   begun = a.begun;
   was_bad = a.was_bad;
   was_unmet = a.was_unmet;
@@ -36,15 +36,15 @@ abbrev pub IsFollowed : Inside → Type 0
 IsFollowed a = IfSome a.track (λ t. t ≡ track_of a.bench.core.cluster (reverse a.bench.core.log))
 
 -- a bench in hand on which no line was made
-abbrev pub begins : AnswerFormat → Option CodedData → Bool → CoreData → HandData
-begins format coded is_physical core = record {
+abbrev pub new_hand : AnswerFormat → Option CodedData → Bool → CoreData → HandData
+new_hand format coded is_physical core = record {
   format = format;
   cluster = core.cluster;
   opening = core.opening;
   capacity = core.capacity;
   coded = coded;
   is_physical = is_physical;
-  bench = state_of (fresh core);
+  bench = state_of (new_bench core);
   begun = false;
   was_bad = false;
   was_unmet = false;

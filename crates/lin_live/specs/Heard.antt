@@ -3,10 +3,10 @@ use Rattle.std.specs.Prelude.{ℕ, if◌then◌else◌, List, [], ◌∷◌, Opt
 use Rattle.std.specs.Prelude.{codes}
 use Rattle.std.specs.Str.{bytes_eq}
 use Rattle.lin_parts.specs.declared.parts.Parts.{Parts}
-use Rattle.lin_bench.specs.Fields.{fields}
+use Rattle.lin_bench.specs.Fields.{line_fields}
 use Rattle.lin_values.specs.Coded.{CodedData}
 use Rattle.lin_bench.specs.Words.{read_worded_line}
-use Rattle.lin_bench.specs.declared.line.Line.{Line}
+use Rattle.lin_bench.specs.declared.line.ScriptLine.{ScriptLine}
 use Rattle.lin_bench.specs.declared.reason.Reason.{Reason as ScriptReason}
 use Rattle.lin_live.specs.Asked.{◌>>=◌, IsAskable, question}
 use Rattle.lin_live.specs.declared.heard.Heard.{Heard}
@@ -14,7 +14,7 @@ use Rattle.lin_live.specs.declared.heard.Heard.TheVariants.{Ask, Make}
 use Rattle.lin_live.specs.declared.reason.Reason.{Reason}
 use Rattle.lin_live.specs.declared.reason.Reason.TheVariants.{Script}
 
-abbrev pub of_script : Result (Option Line) ScriptReason → Result (Option Heard) Reason
+abbrev pub of_script : Result (Option ScriptLine) ScriptReason → Result (Option Heard) Reason
 of_script (Ok None) = Ok None
 of_script (Ok (Some line)) = Ok (Some (Make line))
 of_script (Err why) = Err (Script why)
@@ -28,8 +28,8 @@ heard_in c k line (word ∷ fs) =
     else of_script (read_worded_line c k line)
 
 -- what a line says, nothing where it has no field or begins with `>`
-abbrev pub heard : Parts → Option CodedData → List ℕ → Result (Option Heard) Reason
-heard c k line = heard_in c k line (fields line)
+abbrev pub line_heard : Parts → Option CodedData → List ℕ → Result (Option Heard) Reason
+line_heard c k line = heard_in c k line (line_fields line)
 
 -- a question is for what is there
 abbrev pub IsHeard : Parts → Heard → Type 0

@@ -5,26 +5,26 @@ use Rattle.std.specs.List.{AllByRecursion}
 use Rattle.std.specs.Str.{bytes_eq}
 use Rattle.std.specs.Str.Lines.{strip_carriage_return}
 use Rattle.lin_parts.specs.declared.parts.Parts.{Parts}
-use Rattle.lin_bench.specs.Fields.{fields}
+use Rattle.lin_bench.specs.Fields.{line_fields}
 use Rattle.lin_values.specs.Coded.{CodedData}
 use Rattle.lin_bench.specs.Scripts.{read_lines}
-use Rattle.lin_bench.specs.Played.{Run, first, played, some_unmet}
+use Rattle.lin_bench.specs.Played.{Run, initial_bench, play_result, some_unmet}
 use Rattle.lin_bench.specs.Slots.{slot_limit}
-use Rattle.lin_bench.specs.declared.line.Line.{Line}
+use Rattle.lin_bench.specs.declared.line.ScriptLine.{ScriptLine}
 use Rattle.lin_live.specs.Told.{HandData, reply}
-use Rattle.lin_live.specs.Transcript.{after, most_bytes}
-use Rattle.lin_live.specs.declared.format.AnswerFormat.{AnswerFormat}
+use Rattle.lin_live.specs.Transcript.{state_after, most_bytes}
+use Rattle.lin_live.specs.declared.answer_format.AnswerFormat.{AnswerFormat}
 
 -- whether fields are those of a question
-abbrev pub asks : List (List ℕ) → Bool
-asks [] = false
-asks (word ∷ fs) = bytes_eq word (codes "?")
+abbrev pub is_question : List (List ℕ) → Bool
+is_question [] = false
+is_question (word ∷ fs) = bytes_eq word (codes "?")
 
 -- a line that is no question and not too long, with its CR where it has one
 abbrev pub IsPlain : List ℕ → Type 0
 IsPlain line =
     (length (strip_carriage_return line) ≤ most_bytes)
-    × (asks (fields (strip_carriage_return line)) ≡ false)
+    × (is_question (line_fields (strip_carriage_return line)) ≡ false)
 
 -- the bench in hand that a play has come to (a byte order mark would be a part of the next line)
 abbrev pub in_hand_of : AnswerFormat → Option CodedData → Bool → Parts → ℕ → ℕ → Run → HandData
@@ -42,8 +42,8 @@ in_hand_of format k is_physical c opening capacity run = record {
 }
 
 -- a play of no line
-abbrev pub nothing : Run
-nothing = record { bench = first; judgements = [] }
+abbrev pub empty_run : Run
+empty_run = record { bench = initial_bench; judgements = [] }
 
 -- The lines of a bench script without bad lines and within the limit of slots come, answered in
 -- hand, to the bench that its play comes to, with the same log; an expectation isn't met in one
@@ -51,8 +51,8 @@ nothing = record { bench = first; judgements = [] }
 abbrev pub LiveIsPlay : Type 0
 LiveIsPlay = (format : AnswerFormat) (k : Option CodedData) (is_physical : Bool) (c : Parts)
     (opening capacity : ℕ) (ls : List (List ℕ))
-    (said : List (ℕ × Line)) (run : Run)
+    (said : List (ℕ × ScriptLine)) (run : Run)
     → AllByRecursion IsPlain ls → read_lines c k 1 ls ≡ Ok said
-    → played false c opening capacity said ≡ Ok run
-    → after reply (in_hand_of format k is_physical c opening capacity nothing) (map strip_carriage_return ls)
+    → play_result false c opening capacity said ≡ Ok run
+    → state_after reply (in_hand_of format k is_physical c opening capacity empty_run) (map strip_carriage_return ls)
     ≡ in_hand_of format k is_physical c opening capacity run

@@ -3,50 +3,50 @@
 use Rattle.std.specs.Prelude.{◌≡◌, ℕ, List, [], ◌∷◌, ◌++◌, Option, IfSome, Result, Ok, Err}
 use Rattle.std.specs.Io.KnownBytes.{Appends, Consumes}
 use Rattle.std.specs.Str.Lines.{strip_carriage_return}
-use Rattle.lin_live.specs.Lines.{closed, last_line, lines, tail}
-use Rattle.lin_live.specs.Transcript.{after, short, transcript}
-use Rattle.lin_live.specs.Begun.{held}
+use Rattle.lin_live.specs.Lines.{ended_lines, last_line, lines, after_last_lf}
+use Rattle.lin_live.specs.Transcript.{state_after, short, transcript}
+use Rattle.lin_live.specs.Begun.{bytes_within_line}
 use Rattle.lin_live.specs.declared.fault.Fault.{Fault}
 use Rattle.lin_live.specs.declared.fault.Fault.TheVariants.{ReadFailed, WriteFailed, OutOfMemory}
 use Rattle.lin_live.specs.declared.fault.Fault.TheVariants.{LogFull}
 
 -- a beginning of a text was written
-abbrev pub IsPart : Option (List ℕ) → Option (List ℕ) → List ℕ → Type 0
-IsPart old new text = (part rest : List ℕ) × Appends old new part × (text ≡ part ++ rest)
+abbrev pub WritesBeginning : Option (List ℕ) → Option (List ℕ) → List ℕ → Type 0
+WritesBeginning old new text = (part rest : List ℕ) × Appends old new part × (text ≡ part ++ rest)
 
 -- what telling the second of a pair has done: it was written, and the state is the first; or a
 -- beginning was written; or nothing, where there was no memory or no place
-abbrev pub Tells : {S : Type 0} → S × List ℕ → Type 0 → S → Option (List ℕ) → Option (List ℕ)
+abbrev pub WritesAnswer : {S : Type 0} → S × List ℕ → Type 0 → S → Option (List ℕ) → Option (List ℕ)
     → Result Unit Fault → Type 0
-Tells p full t old new (Ok done) = Appends old new p.1 × (t ≡ p.0)
-Tells p full t old new (Err WriteFailed) = IsPart old new p.1
-Tells p full t old new (Err OutOfMemory) = Appends old new []
-Tells p full t old new (Err LogFull) = Appends old new [] × full
-Tells p full t old new (Err ReadFailed) = ⊥
+WritesAnswer p full t old new (Ok done) = Appends old new p.1 × (t ≡ p.0)
+WritesAnswer p full t old new (Err WriteFailed) = WritesBeginning old new p.1
+WritesAnswer p full t old new (Err OutOfMemory) = Appends old new []
+WritesAnswer p full t old new (Err LogFull) = Appends old new [] × full
+WritesAnswer p full t old new (Err ReadFailed) = ⊥
 
 -- what answering a line has done
 abbrev pub Replies : {S : Type 0} → (S → Option (List ℕ) → S × List ℕ)
     → (S → Option (List ℕ) → Type 0) → S → S → Option (List ℕ) → Option (List ℕ)
     → Option (List ℕ) → Result Unit Fault → Type 0
-Replies reply full s t old new line result = Tells (reply s line) (full s line) t old new result
+Replies reply full s t old new line result = WritesAnswer (reply s line) (full s line) t old new result
 
 -- these lines were answered, all of them
 abbrev pub Answers : {S : Type 0} → (S → Option (List ℕ) → S × List ℕ) → S → S
     → Option (List ℕ) → Option (List ℕ) → List (List ℕ) → Type 0
-Answers reply s t old new ls = Appends old new (transcript reply s ls) × (t ≡ after reply s ls)
+Answers reply s t old new ls = Appends old new (transcript reply s ls) × (t ≡ state_after reply s ls)
 
 -- these lines weren't all answered: a beginning of their transcript was written, or the transcript
 -- of those before one for which there was no memory or no place
-abbrev pub Fails : {S : Type 0} → (S → Option (List ℕ) → S × List ℕ)
+abbrev pub FailsToServe : {S : Type 0} → (S → Option (List ℕ) → S × List ℕ)
     → (S → Option (List ℕ) → Type 0) → S → Option (List ℕ) → Option (List ℕ) → List (List ℕ)
     → Fault → Type 0
-Fails reply full s old new ls WriteFailed = IsPart old new (transcript reply s ls)
-Fails reply full s old new ls OutOfMemory =
+FailsToServe reply full s old new ls WriteFailed = WritesBeginning old new (transcript reply s ls)
+FailsToServe reply full s old new ls OutOfMemory =
     (first more : List (List ℕ)) × (ls ≡ first ++ more) × Appends old new (transcript reply s first)
-Fails reply full s old new ls LogFull =
+FailsToServe reply full s old new ls LogFull =
     (first : List (List ℕ)) × (line : List ℕ) × (more : List (List ℕ)) × (ls ≡ first ++ line ∷ more)
-    × Appends old new (transcript reply s first) × full (after reply s first) (short line)
-Fails reply full s old new ls ReadFailed = ⊥
+    × Appends old new (transcript reply s first) × full (state_after reply s first) (short line)
+FailsToServe reply full s old new ls ReadFailed = ⊥
 
 -- what the loop has done: each line of the reader was answered; or it ended early, after a failed
 -- read with the answers to all lines that an LF ended
@@ -56,9 +56,9 @@ abbrev pub IsLive : {S : Type 0} → (S → Option (List ℕ) → S × List ℕ)
 IsLive reply full s t known left old new (Ok done) =
     (read : List ℕ) × IfSome known (λ bytes. read ≡ bytes) × Answers reply s t old new (lines read)
 IsLive reply full s t known left old new (Err ReadFailed) =
-    (read : List ℕ) × Consumes known left read × Answers reply s t old new (closed read)
+    (read : List ℕ) × Consumes known left read × Answers reply s t old new (ended_lines read)
 IsLive reply full s t known left old new (Err fault) =
-    (read : List ℕ) × Consumes known left read × Fails reply full s old new (lines read) fault
+    (read : List ℕ) × Consumes known left read × FailsToServe reply full s old new (lines read) fault
 
 -- ---- the loop's parts
 
@@ -75,14 +75,14 @@ abbrev pub Feeds : {S : Type 0} → (S → Option (List ℕ) → S × List ℕ)
     → (S → Option (List ℕ) → Type 0) → S → S → Option (List ℕ) → Option (List ℕ)
     → Option (List ℕ) → List ℕ → List ℕ → Result Unit Fault → Type 0
 Feeds reply full s t old new begun bytes piece (Ok done) =
-    Answers reply s t old new (closed (bytes ++ piece)) × (begun ≡ held (tail (bytes ++ piece)))
+    Answers reply s t old new (ended_lines (bytes ++ piece)) × (begun ≡ bytes_within_line (after_last_lf (bytes ++ piece)))
 Feeds reply full s t old new begun bytes piece (Err fault) =
-    Fails reply full s old new (closed (bytes ++ piece)) fault
+    FailsToServe reply full s old new (ended_lines (bytes ++ piece)) fault
 
 -- what the end of the input does after the beginning of a line
-abbrev pub Finishes : {S : Type 0} → (S → Option (List ℕ) → S × List ℕ)
+abbrev pub ServesEnd : {S : Type 0} → (S → Option (List ℕ) → S × List ℕ)
     → (S → Option (List ℕ) → Type 0) → S → S → Option (List ℕ) → Option (List ℕ) → List ℕ
     → Result Unit Fault → Type 0
-Finishes reply full s t old new bytes (Ok done) = Answers reply s t old new (last_line bytes)
-Finishes reply full s t old new bytes (Err fault) =
-    Fails reply full s old new (last_line bytes) fault
+ServesEnd reply full s t old new bytes (Ok done) = Answers reply s t old new (last_line bytes)
+ServesEnd reply full s t old new bytes (Err fault) =
+    FailsToServe reply full s old new (last_line bytes) fault

@@ -18,7 +18,7 @@ use Rattle.lin_log.specs.Words.{spaced_word, text, value_word}
 use Rattle.lin_export.specs.Named.{named_entries, slot_names}
 use Rattle.lin_frame.specs.declared.value.Value.{Value as RawValue}
 use Rattle.lin_values.specs.Coded.{CodedData}
-use Rattle.lin_values.specs.Meaning.{told_meaning as meaning_of}
+use Rattle.lin_values.specs.Meaning.{meaning_if_coded as meaning_of}
 use Rattle.lin_values.specs.Shown.{shown as meaning_text}
 use Rattle.lin_bench.specs.Meanings.{told_meaning}
 use Rattle.lin_bench.specs.Scripts.{without_mark}
@@ -32,40 +32,40 @@ use Rattle.lin_bench.specs.Texts.{expected_text, got_text, pending_text}
 use Rattle.lin_bench.specs.Texts.{reason_text as script_text, table_word, verdict_text}
 use Rattle.lin_bench.specs.declared.got.Verdict.{Verdict}
 use Rattle.lin_bench.specs.declared.got.Verdict.TheVariants.{Unmet, SlotLimit}
-use Rattle.lin_live.specs.Heard.{heard}
-use Rattle.lin_live.specs.declared.format.AnswerFormat.{AnswerFormat}
-use Rattle.lin_live.specs.declared.format.AnswerFormat.TheVariants.{Log, Named}
+use Rattle.lin_live.specs.Heard.{line_heard}
+use Rattle.lin_live.specs.declared.answer_format.AnswerFormat.{AnswerFormat}
+use Rattle.lin_live.specs.declared.answer_format.AnswerFormat.TheVariants.{Log, Named}
 use Rattle.lin_live.specs.declared.heard.Heard.{Heard}
 use Rattle.lin_live.specs.declared.heard.Heard.TheVariants.{Ask, Make}
 use Rattle.lin_live.specs.declared.question.Question.{Question}
 use Rattle.lin_live.specs.declared.question.Question.TheVariants.{Signal, Waiting, Idle, Time}
 use Rattle.lin_live.specs.declared.question.Question.TheVariants.{Asleep, Next}
-use Rattle.lin_live.specs.declared.value.Value.{Value}
-use Rattle.lin_live.specs.declared.value.Value.TheVariants as shown
+use Rattle.lin_live.specs.declared.answer_value.AnswerValue.{AnswerValue}
+use Rattle.lin_live.specs.declared.answer_value.AnswerValue.TheVariants as shown
 use Rattle.lin_live.specs.declared.reason.Reason.{Reason}
 use Rattle.lin_live.specs.declared.reason.Reason.TheVariants.{Script, AskForm, UnknownQuestion}
 use Rattle.lin_live.specs.declared.reason.Reason.TheVariants.{NoNode, NoNodeOrSignal, TooLong}
 
 -- ---- the last lines of answers
-abbrev pub ending : List ℕ → List ℕ
-ending words = codes "# " ++ (words ++ 10 ∷ [])
+abbrev pub hash_line : List ℕ → List ℕ
+hash_line words = codes "# " ++ (words ++ 10 ∷ [])
 
-abbrev pub reason_text : Reason → List ℕ
-reason_text (Script why) = script_text why
-reason_text AskForm = codes "missing question after ?"
-reason_text (UnknownQuestion fields) = codes "unknown question " ++ seen_texts (codes " ") fields
-reason_text NoNode = codes "no such node"
-reason_text NoNodeOrSignal = codes "no such node or signal"
-reason_text TooLong = codes "the line has more than 16,777,216 bytes"
+abbrev pub question_reason_text : Reason → List ℕ
+question_reason_text (Script why) = script_text why
+question_reason_text AskForm = codes "missing question after ?"
+question_reason_text (UnknownQuestion fields) = codes "unknown question " ++ seen_texts (codes " ") fields
+question_reason_text NoNode = codes "no such node"
+question_reason_text NoNodeOrSignal = codes "no such node or signal"
+question_reason_text TooLong = codes "the line has more than 16,777,216 bytes"
 
 abbrev pub steps_ending : Option Refusal → List ℕ
-steps_ending None = ending (codes "ok")
+steps_ending None = hash_line (codes "ok")
 steps_ending (Some why) =
-    ending (codes "refused " ++ (decimal (refusal_number why) ++ spaced_word (refusal_word why)))
+    hash_line (codes "refused " ++ (decimal (refusal_number why) ++ spaced_word (refusal_word why)))
 
 -- the limit of slots goes before what isn't met, and this before what was refused
 abbrev pub verdict_ending : Parts → Verdict → List LogEntry → List ℕ
-verdict_ending c SlotLimit es = ending (codes "slot limit")
+verdict_ending c SlotLimit es = hash_line (codes "slot limit")
 verdict_ending c (Unmet what got) es = 35 ∷ verdict_text (expected_text c what) (got_text c got)
 verdict_ending c verdict es = steps_ending (first_refusal es)
 
@@ -89,14 +89,14 @@ next_text c opening past =
     (next_slot c opening past) (codes "open")
 
 -- a value of a signal, and where that is told what it means
-abbrev pub seen_text : Option CodedData → ℕ → RawValue → List ℕ
-seen_text k signal value =
+abbrev pub shown_value : Option CodedData → ℕ → RawValue → List ℕ
+shown_value k signal value =
     value_word value
     ++ option_map_or (λ m. spaced_word (meaning_text m)) (meaning_of k signal value) []
 
 -- given also the answers that are noted
 abbrev pub value_text : Parts → Option CodedData → ℕ → List LogEntry → List Noted → Question → List ℕ
-value_text c k opening past noted (Signal node signal) = seen_text k signal (value_at c past node signal)
+value_text c k opening past noted (Signal node signal) = shown_value k signal (value_at c past node signal)
 value_text c k opening past noted (Waiting host) = decimal (length (waiting c past host))
 value_text c k opening past noted Idle = idle_text c (pending c past noted)
 value_text c k opening past noted Time = decimal (time c past)
@@ -104,7 +104,7 @@ value_text c k opening past noted Asleep = if asleep past then codes "asleep" el
 value_text c k opening past noted Next = next_text c opening past
 
 -- a value as it is said
-abbrev pub value_shown : Parts → Value → List ℕ
+abbrev pub value_shown : Parts → AnswerValue → List ℕ
 value_shown c (shown.Signal value) = value_word value
 value_shown c (shown.Meant value text) = value_word value ++ spaced_word text.items
 value_shown c (shown.Number n) = decimal n
@@ -132,9 +132,9 @@ abbrev pub is_limit : Verdict → Bool
 is_limit SlotLimit = true
 is_limit verdict = false
 
-abbrev pub is_unmet : Verdict → Bool
-is_unmet (Unmet what got) = true
-is_unmet verdict = false
+abbrev pub is_unmet_verdict : Verdict → Bool
+is_unmet_verdict (Unmet what got) = true
+is_unmet_verdict verdict = false
 
 -- an answer: the entries that the line made, and its last line
 pub record Answer : Type 0 where
@@ -142,17 +142,17 @@ pub record Answer : Type 0 where
   pub last_line : List ℕ
 
 -- no step was made
-abbrev pub says : List ℕ → Answer
-says words = record { entries = []; last_line = ending words }
+abbrev pub answer_without_step : List ℕ → Answer
+answer_without_step words = record { entries = []; last_line = hash_line words }
 
 -- what signals mean, where values are told as that
 abbrev pub shown_coding : HandData → Option CodedData
 shown_coding h = if h.is_physical then h.coded else None
 
 -- where what is expected in words isn't so, what the value means
-abbrev pub in_words : Option CodedData → Verdict → Verdict
-in_words None v = v
-in_words (Some k) v = told_meaning k v
+abbrev pub verdict_with_meaning : Option CodedData → Verdict → Verdict
+verdict_with_meaning None v = v
+verdict_with_meaning (Some k) v = told_meaning k v
 
 -- a line was made
 abbrev pub after_line : HandData → BenchState × Verdict → HandData × Answer
@@ -162,34 +162,34 @@ after_line h m =
       record h {
         bench = record m.0 { left = slot_limit };
         was_bad = h.was_bad || is_limit m.1;
-        was_unmet = h.was_unmet || is_unmet m.1;
+        was_unmet = h.was_unmet || is_unmet_verdict m.1;
       },
-      record { entries = es; last_line = verdict_ending h.cluster (in_words h.coded m.1) es },
+      record { entries = es; last_line = verdict_ending h.cluster (verdict_with_meaning h.coded m.1) es },
     )
 
 -- what something that was heard makes of what is kept, and the answer
-abbrev pub told : HandData → Result (Option Heard) Reason → HandData × Answer
-told h (Err why) =
-    (record h { was_bad = true }, says (codes "bad line: " ++ reason_text why))
-told h (Ok None) = (h, says (codes "ok"))
-told h (Ok (Some (Ask asked))) = (
+abbrev pub heard_answer : HandData → Result (Option Heard) Reason → HandData × Answer
+heard_answer h (Err why) =
+    (record h { was_bad = true }, answer_without_step (codes "bad line: " ++ question_reason_text why))
+heard_answer h (Ok None) = (h, answer_without_step (codes "ok"))
+heard_answer h (Ok (Some (Ask asked))) = (
   h,
-  says (codes "is "
+  answer_without_step (codes "is "
       ++ value_text h.cluster (shown_coding h) h.opening h.bench.past h.bench.rules.noted asked),
 )
-told h (Ok (Some (Make line))) = after_line h (made h.cluster h.opening h.capacity h.bench line)
+heard_answer h (Ok (Some (Make line))) = after_line h (made h.cluster h.opening h.capacity h.bench line)
 
 -- what a line says, and none that is too long
 abbrev pub heard_as : Parts → Option CodedData → Option (List ℕ) → Result (Option Heard) Reason
 heard_as c k None = Err TooLong
-heard_as c k (Some line) = heard c k line
+heard_as c k (Some line) = line_heard c k line
 
 -- the first line may begin with a byte order mark, which belongs to no line
-abbrev pub unmarked : HandData → Option (List ℕ) → Option (List ℕ)
-unmarked h line = if h.begun then line else option_map without_mark line
+abbrev pub without_byte_order_mark : HandData → Option (List ℕ) → Option (List ℕ)
+without_byte_order_mark h line = if h.begun then line else option_map without_mark line
 
-abbrev pub answered : HandData → Option (List ℕ) → HandData × Answer
-answered h line = told (record h { begun = true }) (heard_as h.cluster h.coded (unmarked h line))
+abbrev pub line_answer : HandData → Option (List ℕ) → HandData × Answer
+line_answer h line = heard_answer (record h { begun = true }) (heard_as h.cluster h.coded (without_byte_order_mark h line))
 
 -- entries as they are told, the oldest first, on those before them: as the log's own text, or as the
 -- log with names
@@ -206,7 +206,7 @@ abbrev pub written : HandData → HandData × Answer → HandData × List ℕ
 written h a = (a.0, answer_text h a.1)
 
 abbrev pub reply : HandData → Option (List ℕ) → HandData × List ℕ
-reply h line = written h (answered h line)
+reply h line = written h (line_answer h line)
 
 -- the log would have more entries than it takes
 abbrev pub IsFull : HandData → Option (List ℕ) → Type 0

@@ -11,9 +11,9 @@ abbrev pub short : List ℕ → Option (List ℕ)
 short line = if nat_le (length line) most_bytes then Some line else None
 
 -- the state after lines, where `reply` says what each makes of a state, and the answer to it
-abbrev pub after : {S : Type 0} → (S → Option (List ℕ) → S × List ℕ) → S → List (List ℕ) → S
-after reply s [] = s
-after reply s (line ∷ more) = after reply (reply s (short line)).0 more
+abbrev pub state_after : {S : Type 0} → (S → Option (List ℕ) → S × List ℕ) → S → List (List ℕ) → S
+state_after reply s [] = s
+state_after reply s (line ∷ more) = state_after reply (reply s (short line)).0 more
 
 -- what is answered to lines, each after those before it
 abbrev pub transcript : {S : Type 0} → (S → Option (List ℕ) → S × List ℕ) → S → List (List ℕ)

@@ -1,7 +1,7 @@
 //! The line that isn't ended yet.
 
 ghost use Rattle.std.specs.Prelude.{◌≡◌, [], OnOk, Some, option_map};
-ghost use Rattle.lin_live.specs.Begun.{added, ended, is_nothing};
+ghost use Rattle.lin_live.specs.Begun.{with_bytes, ended_line, is_nothing};
 
 use lin_log::without_return;
 use std::alloc::{AllocError, Global};
@@ -50,7 +50,7 @@ impl Begun {
 
     /// Adds bytes, none of which is an LF.
     pub(crate) fn add(&mut self, alloc: Global, bytes: &[u8]) -> Result<(), AllocError>
-        ensures { OnOk result (self.new ≡ added self.old bytes.now) }
+        ensures { OnOk result (self.new ≡ with_bytes self.old bytes.now) }
     {
         if self.is_long {
             return Ok(());
@@ -65,7 +65,7 @@ impl Begun {
 
     /// The line, where it ends here; none where it is too long.
     pub(crate) fn line(&self) -> Option<&[u8]>
-        ensures { option_map (λ l. l.now) result ≡ ended self.now }
+        ensures { option_map (λ l. l.now) result ≡ ended_line self.now }
     {
         if self.is_long {
             return None;

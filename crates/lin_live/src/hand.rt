@@ -6,22 +6,24 @@ ghost use Rattle.lin_bench.specs.Scripts.{without_mark};
 ghost use Rattle.lin_export.specs.Track.{track_of};
 ghost use Rattle.lin_live.specs.Asked.{Gives, IsAskable};
 ghost use Rattle.lin_live.specs.Hand.{earlier};
-ghost use Rattle.lin_live.specs.Serving.{Tells};
+ghost use Rattle.lin_live.specs.Serving.{WritesAnswer};
 ghost use Rattle.lin_live.specs.Heard.{IsHeard};
-ghost use Rattle.lin_live.specs.Told.{HandData, IsFull, ending, entries_text, heard_as, in_words};
-ghost use Rattle.lin_live.specs.Told.{is_limit, is_unmet, reason_text, reply, shown_coding, told};
-ghost use Rattle.lin_live.specs.Told.{unmarked, value_text, verdict_ending, written};
+ghost use Rattle.lin_live.specs.Told.{HandData, IsFull, hash_line, entries_text, heard_as, verdict_with_meaning};
+ghost use Rattle.lin_live.specs.Told.{is_limit, is_unmet_verdict, question_reason_text, reply, shown_coding, heard_answer};
+ghost use Rattle.lin_live.specs.Told.{without_byte_order_mark, value_text, verdict_ending, written};
 ghost use Rattle.lin_live.specs.declared.heard.Heard.TheVariants.{Make};
 
+use crate::answer_format::AnswerFormat;
+use crate::answer_texts::{
+    with_names, write_bad, write_line, write_ok, write_told_line, write_value,
+};
+use crate::answer_value::value_of;
 use crate::answering::Answering;
 use crate::fault::Fault;
-use crate::format::AnswerFormat;
 use crate::heard::{Heard, hear};
 use crate::question::Question;
 use crate::reason::{LineFault, Reason};
-use crate::telling::{with_names, write_bad, write_line, write_ok, write_told_line, write_value};
-use crate::value::value_of;
-use lin_bench::{Bench, Line, Verdict, told_meaning, without_mark};
+use lin_bench::{Bench, ScriptLine, Verdict, told_meaning, without_mark};
 use lin_core::{Core, Log};
 use lin_export::Track;
 use lin_text::TextBuffer;
@@ -74,7 +76,7 @@ fn is_limit(verdict: &Verdict) -> bool
 
 /// Whether what a line expects isn't so.
 fn is_unmet(verdict: &Verdict) -> bool
-    ensures { result ≡ is_unmet verdict.now }
+    ensures { result ≡ is_unmet_verdict verdict.now }
 {
     match verdict {
         Verdict::Unmet(_, _) => true,
@@ -99,7 +101,7 @@ fn told_coding(coded: Option<&Coded>, is_physical: bool) -> Option<&Coded>
 }
 
 impl Hand {
-    ghost use Rattle.lin_live.specs.Hand.{begins};
+    ghost use Rattle.lin_live.specs.Hand.{new_hand};
 
     /// A bench over a core with an empty log, on which no line was made, and which tells entries so.
     /// Where what signals mean is known, lines may say values in words, and where `is_physical`
@@ -112,7 +114,7 @@ impl Hand {
         is_physical: bool,
     ) -> Hand
         requires { core.log ≡ [] }
-        ensures { result ≡ begins format coded is_physical core }
+        ensures { result ≡ new_hand format coded is_physical core }
     {
         Hand {
             bench: Bench::new(alloc, core),
@@ -150,7 +152,7 @@ impl Hand {
     /// A line, of which the first one has no byte order mark.
     fn unmarked<'l>(&self, line: Option<&'l [u8]>) -> Option<&'l [u8]>
         ensures { option_map (λ l. l.now) result
-            ≡ unmarked self.now (option_map (λ l. l.now) line.entry) }
+            ≡ without_byte_order_mark self.now (option_map (λ l. l.now) line.entry) }
     {
         if self.begun {
             line
@@ -178,7 +180,7 @@ impl Hand {
 
     /// Tells that a line says nothing.
     fn pass<W: Write>(&self, writer: &mut W, buffer: &mut TextBuffer) -> Result<(), Fault>
-        ensures { Tells (self.now, ending (codes "ok")) ⊥ self.now (W.contents writer.old)
+        ensures { WritesAnswer (self.now, hash_line (codes "ok")) ⊥ self.now (W.contents writer.old)
             (W.contents writer.new) result }
     {
         write_ok(writer, buffer)?;
@@ -192,9 +194,9 @@ impl Hand {
         writer: &mut W,
         buffer: &mut TextBuffer,
     ) -> Result<(), Fault>
-        ensures { Tells (
+        ensures { WritesAnswer (
           record self.old { was_bad = true },
-          ending (codes "bad line: " ++ reason_text reason.now),
+          hash_line (codes "bad line: " ++ question_reason_text reason.now),
         )
             ⊥ self.new (W.contents writer.old) (W.contents writer.new) result }
     {
@@ -212,9 +214,9 @@ impl Hand {
         buffer: &mut TextBuffer,
     ) -> Result<(), Fault>
         requires { IsAskable self.now.cluster question }
-        ensures { Tells (
+        ensures { WritesAnswer (
           self.now,
-          ending (codes "is " ++ value_text self.now.cluster (shown_coding self.now)
+          hash_line (codes "is " ++ value_text self.now.cluster (shown_coding self.now)
               self.now.opening self.now.bench.past self.now.bench.rules.noted question),
         )
             ⊥ self.now (W.contents writer.old) (W.contents writer.new) result }
@@ -229,7 +231,7 @@ impl Hand {
     fn keep(&mut self, verdict: &Verdict)
         ensures { self.new ≡ record self.old {
           was_bad = self.old.was_bad || is_limit verdict.now;
-          was_unmet = self.old.was_unmet || is_unmet verdict.now;
+          was_unmet = self.old.was_unmet || is_unmet_verdict verdict.now;
         } }
     {
         self.was_bad = self.was_bad || is_limit(verdict);
@@ -250,7 +252,7 @@ impl Hand {
         requires there { from ≤ length self.old.bench.past }
         requires track { IfSome track (λ track. track
             ≡ track_of self.old.cluster (earlier from self.old.bench.past)) }
-        ensures { Tells (
+        ensures { WritesAnswer (
           self.old,
           entries_text self.old.format self.old.cluster (shown_coding self.old)
               (earlier from self.old.bench.past) (drop from (reverse self.old.bench.past))
@@ -274,7 +276,7 @@ impl Hand {
 
     /// A verdict; where what is expected in words isn't so, with what the value means.
     fn in_words(&self, alloc: Global, verdict: Verdict) -> Result<Verdict, AllocError>
-        ensures { IfOk result (λ v. v ≡ in_words self.now.coded verdict) }
+        ensures { IfOk result (λ v. v ≡ verdict_with_meaning self.now.coded verdict) }
     {
         match &self.coded {
             Some(coded) => told_meaning(alloc, coded, verdict),
@@ -286,12 +288,12 @@ impl Hand {
     fn make<W: Write>(
         &mut self,
         alloc: Global,
-        line: Line,
+        line: ScriptLine,
         writer: &mut W,
         buffer: &mut TextBuffer,
     ) -> Result<(), Fault>
-        ensures { Tells (written self.old (told self.old (Ok (Some (Make line)))))
-            (2 ^ 32 - 1 < length (told self.old (Ok (Some (Make line)))).0.bench.past) self.new
+        ensures { WritesAnswer (written self.old (heard_answer self.old (Ok (Some (Make line)))))
+            (2 ^ 32 - 1 < length (heard_answer self.old (Ok (Some (Make line)))).0.bench.past) self.new
             (W.contents writer.old) (W.contents writer.new) result }
     {
         let from = self.bench.core().log().len();

@@ -2,14 +2,14 @@
 
 ghost use Rattle.std.specs.Prelude.{IfOk, IfSome};
 ghost use Rattle.lin_bench.specs.Words.{read_worded_line};
-ghost use Rattle.lin_export.specs.WhereTold.{told};
+ghost use Rattle.lin_export.specs.WhereTold.{given_coding};
 ghost use Rattle.lin_live.specs.Asked.{Gives};
-ghost use Rattle.lin_live.specs.Heard.{IsHeard, heard, of_script};
+ghost use Rattle.lin_live.specs.Heard.{IsHeard, line_heard, of_script};
 
 use crate::asking::question;
 use crate::question::Question;
 use crate::reason::LineFault;
-use lin_bench::{Line, read_worded_line};
+use lin_bench::{ScriptLine, read_worded_line};
 use lin_log::first_field;
 use lin_parts::Cluster;
 use lin_values::Coded;
@@ -19,7 +19,7 @@ use std::alloc::Global;
 #[derive(Drop)]
 pub enum Heard {
     Ask(Question),
-    Make(Line),
+    Make(ScriptLine),
 }
 
 /// What a line of a bench script says.
@@ -30,7 +30,7 @@ fn script_line(
     line: &[u8],
 ) -> Result<Option<Heard>, LineFault>
     ensures heard { Gives result
-        (of_script (read_worded_line cluster.now (told coded.entry) line.now)) }
+        (of_script (read_worded_line cluster.now (given_coding coded.entry) line.now)) }
     ensures askable { IfOk result (λ said. IfSome said (IsHeard cluster.now)) }
 {
     match read_worded_line(alloc, cluster, coded, line)? {
@@ -51,7 +51,7 @@ pub fn hear(
     coded: Option<&Coded>,
     line: &[u8],
 ) -> Result<Option<Heard>, LineFault>
-    ensures heard { Gives result (heard cluster.now (told coded.entry) line.now) }
+    ensures heard { Gives result (line_heard cluster.now (given_coding coded.entry) line.now) }
     ensures askable { IfOk result (λ said. IfSome said (IsHeard cluster.now)) }
 {
     match first_field(cluster, line) {

@@ -3,9 +3,9 @@
 ghost use Rattle.std.specs.Prelude.{◌≡◌, ◌++◌, ℕ, List};
 ghost use Rattle.std.specs.List.{AllByRecursion, join_with_byte};
 ghost use Rattle.lin_live.specs.Answers.{AnswersAreTheLog, AnswersAreWritten};
-ghost use Rattle.lin_live.specs.Lines.{HasNoLf, pieces};
+ghost use Rattle.lin_live.specs.Lines.{HasNoLf, pieces_at_lf};
 ghost use Rattle.lin_live.specs.Play.{LiveIsPlay};
-ghost use Rattle.lin_live.specs.Transcript.{after, transcript};
+ghost use Rattle.lin_live.specs.Transcript.{state_after, transcript};
 
 use crate::answering::Answering;
 
@@ -13,7 +13,7 @@ use crate::answering::Answering;
 /// transcript of a beginning of lines is a beginning of their transcript.
 pub fn transcripts_split<S: Answering>()
     ensures { (s : S.State) (xs ys : List (List ℕ)) → transcript S.reply s (xs ++ ys)
-        ≡ transcript S.reply s xs ++ transcript S.reply (after S.reply s xs) ys }
+        ≡ transcript S.reply s xs ++ transcript S.reply (state_after S.reply s xs) ys }
 {}
 
 /// The entries that a bench in hand tells in its answers are those of its log, in order, and a
@@ -31,6 +31,6 @@ pub fn live_is_play()
 
 /// The pieces of an input have no LF in them, and with one between each two they are the input.
 pub fn pieces_come_back()
-    ensures clean { (bytes : List ℕ) → AllByRecursion HasNoLf (pieces bytes) }
-    ensures same { (bytes : List ℕ) → join_with_byte 10 (pieces bytes) ≡ bytes }
+    ensures clean { (bytes : List ℕ) → AllByRecursion HasNoLf (pieces_at_lf bytes) }
+    ensures same { (bytes : List ℕ) → join_with_byte 10 (pieces_at_lf bytes) ≡ bytes }
 {}

@@ -7,23 +7,23 @@
 //! ```
 #![tactic(auto)]
 
+mod answer_format;
+mod answer_texts;
+mod answer_value;
 mod answering;
 mod asking;
 mod begun;
 mod fault;
-mod format;
 mod hand;
 mod heard;
 mod law;
 mod question;
 mod reason;
 mod serving;
-mod telling;
-mod value;
 
+pub use answer_format::AnswerFormat;
 pub use answering::Answering;
 pub use fault::Fault;
-pub use format::AnswerFormat;
 pub use hand::Hand;
 pub use heard::{Heard, hear};
 pub use law::{answers_tell_the_log, live_is_play, pieces_come_back, transcripts_split};

@@ -1,7 +1,7 @@
 //! Why a line is bad.
 
 ghost use Rattle.std.specs.Prelude.{◌≡◌};
-ghost use Rattle.lin_live.specs.Asked.{script_fault, step_fault};
+ghost use Rattle.lin_live.specs.Asked.{script_fault, fault_of_step};
 ghost use Rattle.lin_live.specs.declared.reason.LineFault.TheVariants.{OutOfMemory};
 
 use lin_text::{Many, Text};
@@ -32,7 +32,7 @@ pub enum LineFault {
 }
 
 impl From<lin_log::LineFault> for LineFault {
-    ghost from_gives = { λ fault e. e ≡ step_fault fault };
+    ghost from_gives = { λ fault e. e ≡ fault_of_step fault };
 
     fn from(fault: lin_log::LineFault) -> LineFault {
         match fault {

@@ -1,9 +1,9 @@
 //! The loop.
 
 ghost use Rattle.std.specs.Prelude.{◌≡◌, ℕ, List};
-ghost use Rattle.lin_live.specs.Begun.{held};
+ghost use Rattle.lin_live.specs.Begun.{bytes_within_line};
 ghost use Rattle.lin_live.specs.Lines.{HasNoLf};
-ghost use Rattle.lin_live.specs.Serving.{Feeds, Finishes, IsAnswered, IsLive};
+ghost use Rattle.lin_live.specs.Serving.{Feeds, ServesEnd, IsAnswered, IsLive};
 
 use crate::answering::Answering;
 use crate::begun::Begun;
@@ -21,7 +21,7 @@ fn answer_line<S: Answering, W: Write>(
     writer: &mut W,
     buffer: &mut TextBuffer,
 ) -> Result<(), Fault>
-    ensures { (bytes : List ℕ) → begun.now ≡ held bytes
+    ensures { (bytes : List ℕ) → begun.now ≡ bytes_within_line bytes
         → IsAnswered S.reply S.is_full (S.state state.old) (S.state state.new)
         (W.contents writer.old) (W.contents writer.new) bytes result }
 {
@@ -41,7 +41,7 @@ fn feed<S: Answering, W: Write>(
     writer: &mut W,
     buffer: &mut TextBuffer,
 ) -> Result<(), Fault>
-    ensures { (bytes : List ℕ) → begun.old ≡ held bytes → HasNoLf bytes
+    ensures { (bytes : List ℕ) → begun.old ≡ bytes_within_line bytes → HasNoLf bytes
         → Feeds S.reply S.is_full (S.state state.old) (S.state state.new) (W.contents writer.old)
         (W.contents writer.new) begun.new bytes piece.now result }
 {
@@ -65,8 +65,8 @@ fn finish<S: Answering, W: Write>(
     writer: &mut W,
     buffer: &mut TextBuffer,
 ) -> Result<(), Fault>
-    ensures { (bytes : List ℕ) → begun.now ≡ held bytes
-        → Finishes S.reply S.is_full (S.state state.old) (S.state state.new)
+    ensures { (bytes : List ℕ) → begun.now ≡ bytes_within_line bytes
+        → ServesEnd S.reply S.is_full (S.state state.old) (S.state state.new)
         (W.contents writer.old) (W.contents writer.new) bytes result }
 {
     if begun.is_nothing() {

@@ -5,7 +5,7 @@ use Rattle.std.proofs.lemmas.List.{take-append-drop}
 use Rattle.std.proofs.lemmas.List.Splits.{slice_split_at, slice_split_none}
 use Rattle.std.proofs.lemmas.List.Sums.{take_while-cons}
 use Rattle.std.proofs.lemmas.Grind.{common_steps}
-use Rattle.lin_log.specs.Said.{fields, is_comment, is_gap, is_text, no_fields}
+use Rattle.lin_log.specs.Said.{fields, is_comment, is_gap, is_not_empty, no_fields}
 
 -- a gap in front of a line
 pub gap-front : (free : Bool) (b : ℕ) (rest : List ℕ) → is_gap free b ≡ true → fields free (b ∷ rest) ≡ fields free rest
@@ -15,20 +15,20 @@ pub gap-dropped : (free : Bool) (s : List ℕ) → 0 < length s → is_gap free 
 gap-dropped free [] some h = absurd (omega arith)
 gap-dropped free (b ∷ rest) some h = sym (gap-front free b rest h)
 
-is_text-word : (w : List ℕ) → 0 < length w → is_text w ≡ true
+is_text-word : (w : List ℕ) → 0 < length w → is_not_empty w ≡ true
 is_text-word w h = grind (arith, common_steps)
 
 -- a word in front of the pieces of a line
 word-taken : (free : Bool) (w : List ℕ) (ps : List (List ℕ)) → 0 < length w → is_comment free w ≡ false
-    → take_while (λ f. not (is_comment free f)) (filter is_text (w ∷ ps)) ≡ w ∷ take_while (λ f. not (is_comment free f)) (filter is_text ps)
+    → take_while (λ f. not (is_comment free f)) (filter is_not_empty (w ∷ ps)) ≡ w ∷ take_while (λ f. not (is_comment free f)) (filter is_not_empty ps)
 word-taken free w ps some h =
-    rw (is_text-word w some) (take_while-cons (λ f. not (is_comment free f)) w (filter is_text ps) ∙ rw h refl)
+    rw (is_text-word w some) (take_while-cons (λ f. not (is_comment free f)) w (filter is_not_empty ps) ∙ rw h refl)
 
-comment-taken : (w : List ℕ) (ps : List (List ℕ)) → take_while (λ f. not (is_comment true f)) (filter is_text ((35 ∷ w) ∷ ps)) ≡ []
+comment-taken : (w : List ℕ) (ps : List (List ℕ)) → take_while (λ f. not (is_comment true f)) (filter is_not_empty ((35 ∷ w) ∷ ps)) ≡ []
 comment-taken w ps =
-    rw (is_text-word (35 ∷ w) (omega arith)) (take_while-cons (λ f. not (is_comment true f)) (35 ∷ w) (filter is_text ps))
+    rw (is_text-word (35 ∷ w) (omega arith)) (take_while-cons (λ f. not (is_comment true f)) (35 ∷ w) (filter is_not_empty ps))
 
-comment-first : (ps : List (List ℕ)) → take_while (λ f. not (is_comment true f)) (filter is_text (onto_first 35 ps)) ≡ []
+comment-first : (ps : List (List ℕ)) → take_while (λ f. not (is_comment true f)) (filter is_not_empty (onto_first 35 ps)) ≡ []
 comment-first [] = comment-taken [] []
 comment-first (p ∷ ps) = comment-taken p ps
 
@@ -46,7 +46,7 @@ none-left free (b ∷ rest) h = comment-by free b rest h
 
 -- a field is left of a line
 field-first : (free : Bool) (b : ℕ) (ps : List (List ℕ)) → (free && b == 35) ≡ false
-    → no_fields (take_while (λ f. not (is_comment free f)) (filter is_text (onto_first b ps))) ≡ false
+    → no_fields (take_while (λ f. not (is_comment free f)) (filter is_not_empty (onto_first b ps))) ≡ false
 field-first free b [] h = ap no_fields (word-taken free (b ∷ []) [] (omega arith) h)
 field-first free b (p ∷ ps) h = ap no_fields (word-taken free (b ∷ p) ps (omega arith) h)
 
@@ -58,10 +58,10 @@ field-left free (b ∷ rest) some h n = rw h (field-first free b (slice_split (i
 pub fields-front : (free : Bool) (w rest : List ℕ) → 0 < length w → All (λ x. is_gap free x ≡ false) w
     → (0 < length rest → is_gap free (slice_index rest 0) ≡ true) → is_comment free w ≡ false → fields free (w ++ rest) ≡ w ∷ fields free rest
 fields-front free w [] some clean h nc =
-    rw append-nil (ap (λ ps. take_while (λ f. not (is_comment free f)) (filter is_text ps)) (slice_split_none (is_gap free) w clean) ∙ word-taken free w [] some nc)
+    rw append-nil (ap (λ ps. take_while (λ f. not (is_comment free f)) (filter is_not_empty ps)) (slice_split_none (is_gap free) w clean) ∙ word-taken free w [] some nc)
 fields-front free w (c ∷ rest) some clean h nc =
     let g : is_gap free c ≡ true = h (omega arith) in
-    ap (λ ps. take_while (λ f. not (is_comment free f)) (filter is_text ps)) (slice_split_at (is_gap free) w c rest clean g)
+    ap (λ ps. take_while (λ f. not (is_comment free f)) (filter is_not_empty ps)) (slice_split_at (is_gap free) w c rest clean g)
     ∙ word-taken free w (slice_split (is_gap free) rest) some nc ∙ ap (λ l. w ∷ l) (sym (gap-front free c rest g))
 
 -- a line cut at the end of its first word

@@ -16,7 +16,7 @@ use Rattle.lin_core.specs.declared.step.Step.{Step}
 use Rattle.lin_core.specs.declared.step.Step.TheVariants.{Open, Answer, Leave, Finish, AskSleep, Wake, Close}
 use Rattle.lin_log.specs.Language.{Called, Language, nameless, plain}
 use Rattle.lin_log.specs.Laws.{LinesStay, TextsStay}
-use Rattle.lin_log.specs.Said.{◌>>=◌, Steps, alone, array_form, bytes_fields, called_field, direction_field, fields, hex_bytes, hurt_form, is_comment, is_digit, is_gap, is_hex_number, is_number, is_port, is_text, line_says, node_field, node_form, number, number_after, number_field, of_fields, or_bad, port, port_number, port_step, send_form, signal_field, step_after, step_form, steps_from, switch_form, table_field, text_says, timeout_form, up_to, value_field, with_said, write_form}
+use Rattle.lin_log.specs.Said.{◌>>=◌, Steps, alone, array_form, bytes_fields, called_field, direction_field, fields, hex_bytes, hurt_form, is_comment, is_digit, is_gap, is_hex_number, is_number, is_port, is_not_empty, line_says, node_field, node_form, number, number_after, number_field, of_fields, or_bad, port, port_number, port_step, send_form, signal_field, step_after, step_form, steps_from, switch_form, table_field, text_says, timeout_form, within_limit, value_field, with_said, write_form}
 use Rattle.lin_log.specs.declared.reason.Reason.{Reason}
 use Rattle.lin_log.specs.declared.reason.Reason.TheVariants.{NoNode, NoSignal, NoTable}
 use Rattle.lin_log.proofs.HexFields.{digits-of_bytes, is_field, no_tab, no_tabs}
@@ -29,13 +29,13 @@ abbrev pieces_whole : List (List ℕ) → Bool
 pieces_whole = list_all no_tabs
 
 -- ---- lines
-whole-pieces : (ps : List (List ℕ)) → all_fields (filter is_text ps) ≡ true → pieces_whole ps ≡ true
+whole-pieces : (ps : List (List ℕ)) → all_fields (filter is_not_empty ps) ≡ true → pieces_whole ps ≡ true
 whole-pieces [] h = refl
 whole-pieces ([] ∷ ps) h = whole-pieces ps h
 whole-pieces ((b ∷ bs) ∷ ps) h =
-    let t : is_text (b ∷ bs) ≡ true = grind (arith, common_steps) in
-    let k : all_fields ((b ∷ bs) ∷ filter is_text ps) ≡ true = rw t at h in
-    let p = and_parts (is_field (b ∷ bs)) (all_fields (filter is_text ps)) k in
+    let t : is_not_empty (b ∷ bs) ≡ true = grind (arith, common_steps) in
+    let k : all_fields ((b ∷ bs) ∷ filter is_not_empty ps) ≡ true = rw t at h in
+    let p = and_parts (is_field (b ∷ bs)) (all_fields (filter is_not_empty ps)) k in
     let q = and_parts (no_tabs (b ∷ bs)) (not (b == 35)) p.0 in
     both (no_tabs (b ∷ bs)) (pieces_whole ps) q.0 (whole-pieces ps p.1)
 
@@ -86,9 +86,9 @@ every-taken (f ∷ fs) = take_while-cons (λ g. not (is_comment false g)) f fs �
 same-fields : (free : Bool) (line : List ℕ) → all_fields (fields false line) ≡ true → fields free line ≡ fields false line
 same-fields free line h =
     let ps = slice_split (is_gap false) line in
-    let k : all_fields (filter is_text ps) ≡ true = rw (every-taken (filter is_text ps)) at h in
-    ap (λ qs. take_while (λ f. not (is_comment free f)) (filter is_text qs)) (same-split free line (whole-pieces ps k))
-    ∙ all-taken free (filter is_text ps) k ∙ sym (every-taken (filter is_text ps))
+    let k : all_fields (filter is_not_empty ps) ≡ true = rw (every-taken (filter is_not_empty ps)) at h in
+    ap (λ qs. take_while (λ f. not (is_comment free f)) (filter is_not_empty qs)) (same-split free line (whole-pieces ps k))
+    ∙ all-taken free (filter is_not_empty ps) k ∙ sym (every-taken (filter is_not_empty ps))
 
 -- ---- what was read
 ok-then : {A B : Type 0} (r : Result A Reason) (f : A → Result B Reason) (b : B) → (r >>= f) ≡ Ok b → (a : A) × (r ≡ Ok a) × (f a ≡ Ok b)
@@ -150,14 +150,14 @@ digit-whole b h = grind (arith, common_steps)
 digits-whole : (f : List ℕ) → all_digits f ≡ true → no_tabs f ≡ true
 digits-whole f h = weaker is_digit no_tab digit-whole f h
 
-up-to : (most : ℕ) (o : Option ℕ) (n : ℕ) → up_to most o ≡ Some n → (m : ℕ) × (o ≡ Some m)
+up-to : (most : ℕ) (o : Option ℕ) (n : ℕ) → within_limit most o ≡ Some n → (m : ℕ) × (o ≡ Some m)
 up-to most None n e = absurd (cc)
 up-to most (Some m) n e = (m, refl)
 
 digits-of : (most : ℕ) (f : List ℕ) (n : ℕ) → number most f ≡ Some n → IsDigits f
 digits-of most [] n e = absurd (cc)
 digits-of most (b ∷ bs) n e =
-    let p = some-if (nat_le 1 (length (b ∷ bs)) && nat_le (length (b ∷ bs)) 10) (up_to most (number_after 0 (b ∷ bs))) n e in
+    let p = some-if (nat_le 1 (length (b ∷ bs)) && nat_le (length (b ∷ bs)) 10) (within_limit most (number_after 0 (b ∷ bs))) n e in
     let q = up-to most (number_after 0 (b ∷ bs)) n p.1 in
     record { some = omega arith; digits = digits-after 0 (b ∷ bs) q.0 q.1 }
 

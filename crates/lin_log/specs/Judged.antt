@@ -21,9 +21,9 @@ abbrev pub lines_left : Option (Bor (List ℕ)) → List (List ℕ)
 lines_left None = []
 lines_left (Some t) = slice_split (λ b. b == 10) t.now
 
-abbrev pub left_of : Option (Bor (List ℕ)) → ℕ
-left_of None = 0
-left_of (Some t) = length t.now + 1
+abbrev pub left_length : Option (Bor (List ℕ)) → ℕ
+left_length None = 0
+left_length (Some t) = length t.now + 1
 
 abbrev pub JudgeFaults : ScriptFault → Result (List (PortId × Step)) ℕ → Type 0
 JudgeFaults (BadLine n) r = r ≡ Err n
@@ -37,8 +37,8 @@ Judges view (Ok x) r = r ≡ Ok (view x)
 Judges view (Err e) r = JudgeFaults e r
 
 -- what the lines that are left say
-abbrev pub said : ScriptLines → Result (List (PortId × Step)) ℕ
-said lines = without_reason (steps_from plain lines.number (lines_left lines.left))
+abbrev pub steps_left : ScriptLines → Result (List (PortId × Step)) ℕ
+steps_left lines = without_reason (steps_from plain lines.number (lines_left lines.left))
 
 abbrev pub with_prefix : {E : Type 0} → List (PortId × Step) → Result (List (PortId × Step)) E
     → Result (List (PortId × Step)) E

@@ -16,19 +16,19 @@ use Rattle.lin_log.specs.declared.fault.ReplayFault.{ReplayFault}
 use Rattle.lin_log.specs.declared.fault.ReplayFault.TheVariants.{Script, OutOfMemory, WriteFailed}
 
 -- the most bytes of a script
-abbrev pub IsShort : List ℕ → Type 0
-IsShort bytes = length bytes ≤ 16777216
+abbrev pub IsWithinScriptLimit : List ℕ → Type 0
+IsWithinScriptLimit bytes = length bytes ≤ 16777216
 
 -- when a script of these bytes has this fault
 abbrev pub ScriptFaults : ScriptFault → List ℕ → Type 0
-ScriptFaults (BadLine n) bytes = IsShort bytes × (script bytes ≡ Err n)
+ScriptFaults (BadLine n) bytes = IsWithinScriptLimit bytes × (script bytes ≡ Err n)
 ScriptFaults TooLong bytes = 16777216 < length bytes
 ScriptFaults ReadFailed bytes = Unit {0}
 ScriptFaults NoMemory bytes = Unit {0}
 
 -- these bytes are a script of these steps
 abbrev pub IsScriptOf : List ℕ → List (PortId × Step) → Type 0
-IsScriptOf bytes said = IsShort bytes × (steps bytes ≡ Some said)
+IsScriptOf bytes said = IsWithinScriptLimit bytes × (steps bytes ≡ Some said)
 
 -- what reading a script of these bytes answers
 abbrev pub ReadsScript : {X : Type 0} → (X → List (PortId × Step)) → Result X ScriptFault

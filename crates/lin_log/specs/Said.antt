@@ -42,15 +42,15 @@ or_bad (Some x) why = Ok x
 abbrev pub is_gap : Bool → ℕ → Bool
 is_gap free b = b == 32 || free && b == 9
 
-abbrev pub is_text : List ℕ → Bool
-is_text f = nat_lt 0 (length f)
+abbrev pub is_not_empty : List ℕ → Bool
+is_not_empty f = nat_lt 0 (length f)
 
 abbrev pub is_comment : Bool → List ℕ → Bool
 is_comment free f = free && slice_index f 0 == 35
 
 abbrev pub fields : Bool → List ℕ → List (List ℕ)
 fields free line =
-    take_while (λ f. not (is_comment free f)) (filter is_text (slice_split (is_gap free) line))
+    take_while (λ f. not (is_comment free f)) (filter is_not_empty (slice_split (is_gap free) line))
 
 abbrev pub no_fields : List (List ℕ) → Bool
 no_fields [] = true
@@ -65,14 +65,14 @@ abbrev pub number_after : ℕ → List ℕ → Option ℕ
 number_after n [] = Some n
 number_after n (c ∷ cs) = if is_digit c then number_after (n * 10 + (c - 48)) cs else None
 
-abbrev pub up_to : ℕ → Option ℕ → Option ℕ
-up_to most None = None
-up_to most (Some n) = if nat_le n most then Some n else None
+abbrev pub within_limit : ℕ → Option ℕ → Option ℕ
+within_limit most None = None
+within_limit most (Some n) = if nat_le n most then Some n else None
 
 -- 1 to 10 digits, at most a limit
 abbrev pub number : ℕ → List ℕ → Option ℕ
 number most f =
-    if nat_le 1 (length f) && nat_le (length f) 10 then up_to most (number_after 0 f) else None
+    if nat_le 1 (length f) && nat_le (length f) 10 then within_limit most (number_after 0 f) else None
 
 -- a field that begins with a digit is a number, and any other one a name or a word
 abbrev pub is_number : List ℕ → Bool
@@ -102,15 +102,15 @@ hex_bytes f =
     else if length f == 0 then None
     else result_ok (decode_of f)
 
-abbrev pub row : List (List ℕ) → Option (List ℕ)
-row [] = Some []
-row (f ∷ fs) =
+abbrev pub hex_row : List (List ℕ) → Option (List ℕ)
+hex_row [] = Some []
+hex_row (f ∷ fs) =
     option_map_or
-    (λ bytes. option_map (λ more. bytes ++ more) (row fs)) (result_ok (decode_of f)) None
+    (λ bytes. option_map (λ more. bytes ++ more) (hex_row fs)) (result_ok (decode_of f)) None
 
 abbrev pub bytes_of : Bool → List ℕ → List (List ℕ) → Option (List ℕ)
 bytes_of free f [] = hex_bytes f
-bytes_of free f (g ∷ fs) = if free then row (f ∷ g ∷ fs) else None
+bytes_of free f (g ∷ fs) = if free then hex_row (f ∷ g ∷ fs) else None
 
 unfoldable pub bytes_fields : Language → List (List ℕ) → Result (List ℕ) Reason
 bytes_fields l [] = Err NoBytes

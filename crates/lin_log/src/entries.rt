@@ -5,7 +5,7 @@ ghost use Rattle.lin_text.specs.Written.{Grows, WritesText};
 ghost use Rattle.lin_log.specs.Language.{plain};
 ghost use Rattle.lin_log.specs.Words.{event_words, reply_line, reply_words, step_line, text};
 
-use crate::naming::{Naming, Numbers};
+use crate::naming::{Naming, NumberNaming};
 use crate::writing::{put_called, put_event, put_port, put_step};
 use lin_core::{Event, Listed, Log, LogEntry, PortId, Reply, Step};
 use lin_text::{TextBuffer, TextWriter, WriteFailed};
@@ -40,7 +40,7 @@ fn put_events<W: Write>(out: &mut TextWriter<'_, W>, events: &[Event])
         (flat_map (λ e. reply_line (event_words plain e)) events.now) }
 {
     for event in events {
-        put_event_line(out, &Numbers, event);
+        put_event_line(out, &NumberNaming, event);
     }
 }
 
@@ -61,7 +61,7 @@ fn put_entry<W: Write>(out: &mut TextWriter<'_, W>, entry: &LogEntry)
     ensures { Grows W.contents out.old out.new (step_line plain entry.now.port entry.now.step
         ++ flat_map reply_line (reply_words plain entry.now.reply)) }
 {
-    put_step_line(out, &Numbers, entry.port, &entry.step);
+    put_step_line(out, &NumberNaming, entry.port, &entry.step);
     put_reply(out, &entry.reply);
 }
 

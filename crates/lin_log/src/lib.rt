@@ -14,11 +14,11 @@ mod fields;
 mod forms;
 mod law;
 mod line_words;
+mod log_steps;
 mod naming;
 mod reason;
 mod replaying;
 mod script;
-mod steps;
 mod values;
 mod writing;
 
@@ -30,11 +30,11 @@ pub use forms::{is_port, line_step, port_step, step};
 pub use law::{logs_say_their_steps, numbers_say_the_same};
 pub use lin_text::WriteFailed;
 pub use line_words::{Word, put_head, put_line, put_shown, put_spaced, put_words, value_word};
-pub use naming::{Naming, Numbers};
+pub use log_steps::steps_of;
+pub use naming::{Naming, NumberNaming};
 pub use reason::{LineFault, Reason};
 pub use replaying::{make_step, replay, run_script};
 pub use script::{first_line, read_bytes, read_script, without_return};
-pub use steps::steps_of;
 pub use values::{bytes_fields, hex_bytes, node_field, signal_field, table_field, value_field};
 pub use writing::{
     put_bytes, put_event, put_hex, put_node, put_number, put_port, put_signal, put_step, put_table,

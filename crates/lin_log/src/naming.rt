@@ -1,7 +1,7 @@
 //! How nodes, signals and schedule tables are called.
 
 ghost use Rattle.std.specs.Prelude.{◌≡◌, option_map};
-ghost use Rattle.lin_log.specs.Language.{Language, name_at, named, number_named, plain};
+ghost use Rattle.lin_log.specs.Language.{Language, name_at, named_language, number_named, plain};
 
 use lin_parts::Cluster;
 
@@ -45,9 +45,9 @@ pub trait Naming {
 
 /// Numbers alone: the language of `replay` and its log.
 #[derive(Clone, Copy)]
-pub struct Numbers;
+pub struct NumberNaming;
 
-impl Naming for Numbers {
+impl Naming for NumberNaming {
     ghost language = { λ _. plain };
 
     #[inline]
@@ -92,7 +92,7 @@ impl Naming for Numbers {
 }
 
 impl Naming for Cluster {
-    ghost language = { λ c. named c };
+    ghost language = { λ c. named_language c };
 
     fn node_called(&self, name: &[u8]) -> Option<u8> {
         (0..self.nodes() as u8).find(|node| self.node_name(*node) == name)

@@ -1,7 +1,7 @@
 //! Scripts, made and written.
 
 ghost use Rattle.std.specs.Prelude.{◌≡◌, ◌≤◌, ◌<◌, ◌^◌, ◌-◌, ◌++◌, ◌∷◌, [], length, IfOk, OnOk};
-ghost use Rattle.lin_core.specs.Core.{IsAlike, answered};
+ghost use Rattle.lin_core.specs.Core.{IsAlike, entry_with_reply};
 ghost use Rattle.lin_log.specs.Judged.{MakesLines};
 ghost use Rattle.lin_log.specs.Replay.{IsReplay, RunsScript};
 ghost use Rattle.lin_log.specs.Script.{script};
@@ -21,7 +21,7 @@ use std::io::{Read, Write};
 #[inline(always)]
 pub fn make_step(core: &mut Core, by: PortId, step: Step) -> Result<(), AllocError>
     requires { length core.old.log < 2 ^ 32 - 1 }
-    ensures made { OnOk result (core.new.log ≡ core.old.log ++ answered core.old by step ∷ []) }
+    ensures made { OnOk result (core.new.log ≡ core.old.log ++ entry_with_reply core.old by step ∷ []) }
     ensures alike { IsAlike core.old core.new }
 {
     match core.step(by, step) {

@@ -4,13 +4,13 @@ ghost use Rattle.std.specs.Prelude.{◌≡◌, ◌<◌, ◌≤◌, ◌∷◌, �
 ghost use Rattle.std.specs.Prelude.{take, IfOk, IfSome};
 ghost use Rattle.std.specs.List.{All, slice_split};
 ghost use Rattle.std.specs.Str.Lines.{strip_carriage_return};
-ghost use Rattle.lin_log.specs.Judged.{Judges, NextStep, left_of, lines_left, said};
+ghost use Rattle.lin_log.specs.Judged.{Judges, NextStep, left_length, lines_left, steps_left};
 ghost use Rattle.lin_log.specs.Replay.{ReadsBytes, ReadsScript};
 ghost use Rattle.lin_log.specs.Script.{script};
 
 use crate::fault::ScriptFault;
 use crate::forms::line_step;
-use crate::naming::Numbers;
+use crate::naming::NumberNaming;
 use crate::reason::LineFault;
 use lin_core::{PortId, Step};
 use lin_text::{ReadFault, read_whole};
@@ -47,7 +47,7 @@ fn line_length(text: &[u8]) -> usize
 /// The first line, without its LF, and the text after that, where there is one.
 pub fn first_line(text: &[u8]) -> (&[u8], Option<&[u8]>)
     ensures lines { slice_split (λ b. b == 10) text.now ≡ result.0.now ∷ lines_left result.1 }
-    ensures shorter { left_of result.1 ≤ length text.now }
+    ensures shorter { left_length result.1 ≤ length text.now }
 {
     let end = line_length(text);
     if end == text.len() {
@@ -66,9 +66,9 @@ pub(crate) struct ScriptLines<'a> {
 impl<'a> ScriptLines<'a> {
     #[tactic(auto, unfolding(crate::specs::Script::script, crate::specs::Said::text_says))]
     pub(crate) fn new(bytes: &'a [u8]) -> ScriptLines<'a>
-        ensures said { said result ≡ script bytes.now }
+        ensures said { steps_left result ≡ script bytes.now }
         ensures first { result.number ≡ 1 }
-        ensures left { left_of result.left ≡ length bytes.now + 1 }
+        ensures left { left_length result.left ≡ length bytes.now + 1 }
     {
         ScriptLines {
             left: Some(bytes),
@@ -79,10 +79,10 @@ impl<'a> ScriptLines<'a> {
     /// The step of the next line that says one; none where no line is left that does.
     #[inline(always)]
     pub(crate) fn next_step(&mut self, alloc: Global) -> Result<Option<(PortId, Step)>, ScriptFault>
-        requires { self.old.number + left_of self.old.left ≤ 16777218 }
-        ensures step { NextStep result (said self.old) (said self.new) }
-        ensures bound { self.new.number + left_of self.new.left
-            ≤ self.old.number + left_of self.old.left }
+        requires { self.old.number + left_length self.old.left ≤ 16777218 }
+        ensures step { NextStep result (steps_left self.old) (steps_left self.new) }
+        ensures bound { self.new.number + left_length self.new.left
+            ≤ self.old.number + left_length self.old.left }
         ensures passed { IfOk result
             (λ step. IfSome step (λ _. self.old.number + 1 ≤ self.new.number)) }
     {
@@ -91,7 +91,7 @@ impl<'a> ScriptLines<'a> {
             let number = self.number;
             self.left = rest;
             self.number = number + 1;
-            match line_step(alloc, &Numbers, without_return(line)) {
+            match line_step(alloc, &NumberNaming, without_return(line)) {
                 Err(LineFault::Bad(_)) => return Err(ScriptFault::BadLine { line: number }),
                 Err(LineFault::OutOfMemory) => return Err(ScriptFault::OutOfMemory),
                 Ok(None) => {}

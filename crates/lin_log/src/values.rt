@@ -6,7 +6,7 @@ ghost use Rattle.hex.specs.Hex.{decode_of, hex_digit_value};
 ghost use Rattle.lin_log.specs.Read.{Gives};
 ghost use Rattle.lin_log.specs.Said.{array_form, bytes_fields, bytes_of, direction_field, fields};
 ghost use Rattle.lin_log.specs.Said.{hex_bytes};
-ghost use Rattle.lin_log.specs.Said.{hex_number, is_hex_number, node_field, row, signal_field};
+ghost use Rattle.lin_log.specs.Said.{hex_number, is_hex_number, node_field, hex_row, signal_field};
 ghost use Rattle.lin_log.specs.Said.{table_field, value_field};
 
 use crate::digits::decoded;
@@ -78,7 +78,7 @@ pub fn hex_bytes(alloc: Global, digits: &[u8]) -> Result<Option<Vec<u8>>, AllocE
 /// The bytes of several fields, if each is of hexadecimal digits.
 fn row<N: Naming>(alloc: Global, names: &N, line: &[u8]) -> Result<Option<Vec<u8>>, AllocError>
     ensures { IfOk result (λ bytes. option_map (λ v. v.items) bytes
-        ≡ row (fields (N.language names.now).free line.now)) }
+        ≡ hex_row (fields (N.language names.now).free line.now)) }
 {
     let mut row = Vec::new(alloc);
     let mut left = line;

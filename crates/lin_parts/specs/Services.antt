@@ -24,8 +24,8 @@ service_name b =
     then codes "AssignFrameIdRange" else codes "FreeFormat"
 
 -- the 16-bit number from byte k on, the low byte first
-abbrev pub number_at : List ℕ → ℕ → ℕ
-number_at b k = slice_index b k + 256 * slice_index b (k + 1)
+abbrev pub u16_at : List ℕ → ℕ → ℕ
+u16_at b k = slice_index b k + 256 * slice_index b (k + 1)
 
 -- whether a request names the supplier, or all of them
 abbrev pub is_supplier : Product → ℕ → Bool
@@ -37,7 +37,7 @@ is_function p x = x == p.function || x == 0xFFFF
 
 -- whether a request names the product from byte k on
 abbrev pub is_product_at : List ℕ → ℕ → Product → Bool
-is_product_at b k p = is_supplier p (number_at b k) && is_function p (number_at b (k + 2))
+is_product_at b k p = is_supplier p (u16_at b k) && is_function p (u16_at b (k + 2))
 
 -- whether a configured NAD may be this: that of a responder
 abbrev pub is_nad : ℕ → Bool
@@ -53,8 +53,8 @@ abbrev pub positive : ℕ → ℕ → List ℕ
 positive nad sid = nad ∷ 1 ∷ (sid + 0x40) ∷ 0xFF ∷ 0xFF ∷ 0xFF ∷ 0xFF ∷ 0xFF ∷ []
 
 -- a response to a request that is fulfilled, and none to another one
-abbrev pub fulfilled : Bool → List ℕ → Option (List ℕ)
-fulfilled is response = if is then Some response else None
+abbrev pub response_if : Bool → List ℕ → Option (List ℕ)
+response_if is response = if is then Some response else None
 
 -- whether the product of a responder passes a test; a responder without a product passes none
 abbrev pub has_product : Identity → (Product → Bool) → Bool
@@ -71,7 +71,7 @@ has_message i id = list_any (λ m. option_map_or (λ own. own == id) m false) i.
 -- AssignFrameId: the supplier, and the message identifier of a configurable frame
 abbrev pub is_frame_assigned : Identity → List ℕ → Bool
 is_frame_assigned i b =
-    has_product i (λ p. is_supplier p (number_at b 3)) && has_message i (number_at b 5)
+    has_product i (λ p. is_supplier p (u16_at b 3)) && has_message i (u16_at b 5)
 
 -- ConditionalChangeNAD: of identifier 0, the byte with this number, from 1 on, inverted by byte 6, is
 -- 0 in the bits of the mask in byte 5; and a new NAD
@@ -106,7 +106,7 @@ read_response nad b p =
 abbrev pub read_by_identifier : Identity → ℕ → List ℕ → Option (List ℕ)
 read_by_identifier i nad b =
     option_map_or
-    (λ p. fulfilled (is_product_at b 4 p) (read_response nad b p)) i.product None
+    (λ p. response_if (is_product_at b 4 p) (read_response nad b p)) i.product None
 
 -- whether a responder takes a request: it is for its NAD, or for all (7F). AssignNAD is for the
 -- initial NAD, all others for the configured one
@@ -119,12 +119,12 @@ takes i nad b =
 -- AssignNAD it responds by its initial NAD, to ConditionalChangeNAD by the new one
 abbrev pub service_response : Identity → ℕ → List ℕ → Option (List ℕ)
 service_response i nad b =
-    if asks 6 0xB0 b then fulfilled (is_nad_assigned i b) (positive i.initial 0xB0)
-    else if asks 6 0xB1 b then fulfilled (is_frame_assigned i b) (positive nad 0xB1)
+    if asks 6 0xB0 b then response_if (is_nad_assigned i b) (positive i.initial 0xB0)
+    else if asks 6 0xB1 b then response_if (is_frame_assigned i b) (positive nad 0xB1)
     else if asks 6 0xB2 b then read_by_identifier i nad b
-    else if asks 6 0xB3 b then fulfilled (is_nad_changed i b) (positive (slice_index b 7) 0xB3)
+    else if asks 6 0xB3 b then response_if (is_nad_changed i b) (positive (slice_index b 7) 0xB3)
     else if asks 1 0xB6 b then Some (positive nad 0xB6)
-    else if asks 6 0xB7 b then fulfilled (is_range_assigned i b) (positive nad 0xB7)
+    else if asks 6 0xB7 b then response_if (is_range_assigned i b) (positive nad 0xB7)
     else None
 
 abbrev pub response_by : Identity → ℕ → List ℕ → Option (List ℕ)

@@ -7,7 +7,7 @@ ghost use Rattle.std.specs.Str.{bytes_eq};
 ghost use Rattle.lin_parts.specs.Cluster.{has_signal, nodes, nad, node_of, signal_of};
 ghost use Rattle.lin_parts.specs.Cluster.{frame_of, named_sporadic, frame_name, sporadic_name};
 ghost use Rattle.lin_parts.specs.Cluster.{event_name, entry_name, response_of};
-ghost use Rattle.lin_parts.specs.Configured.{configured};
+ghost use Rattle.lin_parts.specs.Configured.{with_configuration};
 ghost use Rattle.lin_parts.specs.Cluster.{frames_with, sporadic_of, event_of, named_table};
 ghost use Rattle.lin_parts.specs.Cluster.{table_of, line_of, first_table};
 ghost use Rattle.lin_parts.specs.Rules.{AreIdentities, IsCluster, IsDelay, IsEntry};
@@ -501,7 +501,7 @@ impl Cluster {
         requests: &[Many<Option<[u8; 8]>>],
     ) -> Cluster
         requires { AreIdentities self identities }
-        ensures { result ≡ configured self identities requests.now }
+        ensures { result ≡ with_configuration self identities requests.now }
     {
         let Cluster { parts, carriers } = self;
         let tables = Many::new(with_requests(parts.tables.into_vec(), requests));

@@ -1,7 +1,7 @@
 //! Configuration entries that carry their requests (LIN 2.2A, section 9.2.5).
 
 ghost use Rattle.std.specs.Prelude.{◌≡◌};
-ghost use Rattle.lin_parts.specs.Configured.{changed, entry_with, line_with, table_with};
+ghost use Rattle.lin_parts.specs.Configured.{changed_items, entry_with, line_with, table_with};
 
 use crate::parts::{Entry, Line, Table};
 use lin_text::Many;
@@ -18,7 +18,7 @@ fn entry_with(entry: Entry, request: Option<[u8; 8]>) -> Entry
 
 /// The entries of a table, with the requests that are given for them.
 fn set_requests(lines: &mut Many<Line>, requests: &[Option<[u8; 8]>])
-    ensures { lines.new ≡ changed line_with lines.old requests.now }
+    ensures { lines.new ≡ changed_items line_with lines.old requests.now }
 {
     for k in 0..requests.len() {
         if k < lines.as_slice().len() {
@@ -34,7 +34,7 @@ pub(crate) fn with_requests(
     mut tables: Vec<Table>,
     requests: &[Many<Option<[u8; 8]>>],
 ) -> Vec<Table>
-    ensures { result.items ≡ changed table_with tables.items requests.now }
+    ensures { result.items ≡ changed_items table_with tables.items requests.now }
 {
     for k in 0..requests.len() {
         if k < tables.len() {

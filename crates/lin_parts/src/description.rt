@@ -2,7 +2,7 @@
 
 ghost use Rattle.std.specs.Prelude.{◌≡◌, ◌≤◌, length};
 
-use crate::place::Place;
+use crate::place::Location;
 use lin_text::{Many, OneOrMore, Text};
 
 /// A name and the place of its first byte.
@@ -37,7 +37,7 @@ pub struct Number {
 #[derive(Debug, Drop)]
 pub enum Init {
     Scalar(Number),
-    Array(Place, OneOrMore<Number>),
+    Array(Location, OneOrMore<Number>),
 }
 
 /// A signal (LIN 2.2A, section 9.2.3): its size is in bits.

@@ -24,5 +24,5 @@ pub use parts::{
     Entry, ErrorSignal, EventFrame, Identity, Line, Node, Parts, Product, Signal, SignalFrame,
     SporadicFrame, Table,
 };
-pub use place::Place;
+pub use place::Location;
 pub use service::service_name;

@@ -5,7 +5,7 @@ ghost use Rattle.std.specs.Prelude.{◌≡◌, ◌==◌, ◌<◌, ◌≤◌, fal
 ghost use Rattle.std.specs.Option.{option_map_or};
 ghost use Rattle.lin_parts.specs.Services.{
   asks,
-  fulfilled,
+  response_if,
   has_message,
   has_place,
   has_product,
@@ -20,7 +20,7 @@ ghost use Rattle.lin_parts.specs.Services.{
   is_product_at,
   is_range_assigned,
   is_supplier,
-  number_at,
+  u16_at,
 };
 ghost use Rattle.lin_parts.specs.Services.{
   positive,
@@ -55,7 +55,7 @@ pub fn service_name(request: &[u8; 8]) -> &'static [u8]
 /// The 16-bit number from a byte on, the low byte first.
 fn number_at(bytes: &[u8; 8], k: usize) -> u16
     requires { k < 7 }
-    ensures { result ≡ number_at bytes.now k }
+    ensures { result ≡ u16_at bytes.now k }
 {
     u16::from(bytes[k]) + 256 * u16::from(bytes[k + 1])
 }
@@ -77,7 +77,7 @@ fn positive(nad: u8, sid: u8) -> [u8; 8]
 
 /// A response to a request that is fulfilled.
 fn fulfilled(is: bool, response: [u8; 8]) -> Option<[u8; 8]>
-    ensures { result ≡ fulfilled is response }
+    ensures { result ≡ response_if is response }
 {
     if is { Some(response) } else { None }
 }

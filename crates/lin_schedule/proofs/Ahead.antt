@@ -11,7 +11,7 @@ use Rattle.lin_parts.specs.declared.parts.Parts.{Parts}
 use Rattle.lin_parts.specs.declared.parts.Line.{Line}
 use Rattle.lin_parts.specs.declared.parts.Entry.{Entry}
 use Rattle.lin_parts.specs.declared.parts.Entry.TheVariants.{Event}
-use Rattle.lin_schedule.specs.Ahead.{left, through, resolving_lines, AreTimes}
+use Rattle.lin_schedule.specs.Ahead.{left, through, resolving_lines, AreTimesAhead}
 use Rattle.lin_schedule.specs.Carriers.{Carriers, carries, can_collide}
 use Rattle.lin_schedule.specs.Walker.{Position}
 use Rattle.lin_schedule.proofs.Steps.{step, IsOnWalk, main, inside, IsFree, step-collided, step-inside, step-end, resolving-plain, event-there, colliding-event}
@@ -51,7 +51,7 @@ longer-one true a b = elim (cases_lt a b) [ inl less ↦ inr (refl, grind arith)
 longer-one false a b = inl refl
 
 module _ (c : Parts) (rules : IsCluster c) (t : ℕ) (lt : t < length c.tables) (k : Carriers) (most : ℕ) (times : ℕ → ℕ → ℕ)
-    (known : AreTimes c t k most times) where
+    (known : AreTimesAhead c t k most times) where
   -- the way over the next main slot, and the way through an excursion
   ahead-next : (i n : ℕ) → ahead c k times (step c (record { place = (t, i); back = None }) false) n ≡ times (next (table_of c t) i) n
   ahead-next i n = refl

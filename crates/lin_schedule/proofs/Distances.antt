@@ -8,7 +8,7 @@ use Rattle.lin_parts.specs.declared.parts.Parts.{Parts}
 use Rattle.lin_schedule.specs.Carriers.{can_collide}
 use Rattle.lin_schedule.specs.Occurs.{is_own}
 use Rattle.lin_schedule.specs.Spacing.{IsGap, own_in}
-use Rattle.lin_schedule.specs.Walk.{Passed, walk, IsUndisturbed, time_of}
+use Rattle.lin_schedule.specs.Walk.{Passed, walk, IsUndisturbed, walk_time}
 use Rattle.lin_schedule.specs.Walker.{Position}
 use Rattle.lin_schedule.proofs.Ahead.{line_at}
 use Rattle.lin_schedule.proofs.Clusters.{cluster-AreWalkable}
@@ -59,8 +59,8 @@ module _ (c : Parts) (rules : IsCluster c) (t : ℕ) (lt : t < length c.tables) 
     since-own : (collisions : List Bool) (between : List Passed) (former : Passed) (earlier : List Passed)
         → walk c t collisions ≡ between ++ former ∷ earlier → IsUndisturbed c (walk c t collisions)
         → is_own f former.line.entry ≡ true → own_in f between ≡ 0
-        → (shortest ≤ time_of (between ++ former ∷ []) + least (at c t collisions))
-        × (time_of (between ++ former ∷ []) + most (at c t collisions) ≤ longest)
+        → (shortest ≤ walk_time (between ++ former ∷ []) + least (at c t collisions))
+        × (walk_time (between ++ former ∷ []) + most (at c t collisions) ≤ longest)
     since-own [] [] former earlier is free own none = absurd (cc)
     since-own [] (slot ∷ between) former earlier is free own none = absurd (cc)
     since-own (collides ∷ before) [] former earlier is free own none =
@@ -108,7 +108,7 @@ module _ (c : Parts) (rules : IsCluster c) (t : ℕ) (lt : t < length c.tables) 
     gap-within : (collisions : List Bool) (next : Passed) (between : List Passed) (former : Passed) (earlier : List Passed)
         → walk c t collisions ≡ next ∷ (between ++ former ∷ earlier) → IsUndisturbed c (walk c t collisions)
         → is_own f next.line.entry ≡ true → is_own f former.line.entry ≡ true → own_in f between ≡ 0
-        → (shortest ≤ time_of (between ++ former ∷ [])) × (time_of (between ++ former ∷ []) ≤ longest)
+        → (shortest ≤ walk_time (between ++ former ∷ [])) × (walk_time (between ++ former ∷ []) ≤ longest)
     gap-within [] next between former earlier is free next_own own none = absurd (cc)
     gap-within (collides ∷ before) next between former earlier is free next_own own none =
         let w : Position = at c t before in
@@ -138,7 +138,7 @@ module _ (c : Parts) (rules : IsCluster c) (t : ℕ) (lt : t < length c.tables) 
   -- a walk goes along a path
   gap-along : (w : Position) (time : ℕ) → Path c f w time → (collisions : List Bool) (between : List Passed) (former : Passed) (earlier : List Passed)
       → w ≡ at c t collisions → IsOnWalk c t w → walk c t collisions ≡ between ++ former ∷ earlier → IsUndisturbed c (walk c t collisions)
-      → is_own f former.line.entry ≡ true → own_in f between ≡ 0 → (total : ℕ) → total ≡ time_of (between ++ former ∷ []) + time
+      → is_own f former.line.entry ≡ true → own_in f between ≡ 0 → (total : ℕ) → total ≡ walk_time (between ++ former ∷ []) + time
       → IsGap c t f total
   gap-along w time (arrived v own) collisions between former earlier stands on is free former_own none total sum = record {
     collisions = false ∷ collisions;

@@ -12,7 +12,7 @@ use Rattle.lin_parts.specs.declared.parts.Entry.TheVariants.{Event}
 use Rattle.lin_schedule.specs.Ahead.{resolving_lines}
 use Rattle.lin_schedule.specs.Carriers.{Carriers, carries, can_collide}
 use Rattle.lin_schedule.specs.Rounds.{carriers_in, is_sure}
-use Rattle.lin_schedule.specs.Walk.{Passed, walk, IsUndisturbed, carried, carried_in, time_of, IsEndless}
+use Rattle.lin_schedule.specs.Walk.{Passed, walk, IsUndisturbed, is_carried, carried_in, walk_time, IsEndless}
 use Rattle.lin_schedule.specs.Walker.{Position}
 use Rattle.lin_schedule.proofs.Clusters.{cluster-AreWalkable, table-length, table-start, event-table}
 use Rattle.lin_schedule.proofs.Reached.{reached, undisturbed-more}
@@ -60,7 +60,7 @@ module _ (c : Parts) (rules : IsCluster c) (t : ℕ) (lt : t < length c.tables) 
   record IdleStep (w : Position) : Type 0 where
     collides : Bool
     free : IsFree c w collides
-    none : carried k (passed_at c w collides) ≡ false
+    none : is_carried k (passed_at c w collides) ≡ false
     idle : IsIdle c t k (step c w collides)
 
   idle-collided : (i e : ℕ) → i < length (table_of c t) → (line_of c t i).entry ≡ Event e → can_collide c (line_of c t i).entry ≡ true
@@ -115,7 +115,7 @@ module _ (c : Parts) (rules : IsCluster c) (t : ℕ) (lt : t < length c.tables) 
     is : walk c t collisions ≡ later ++ written ∷ earlier
     undisturbed : IsUndisturbed c (walk c t collisions)
     none : carried_in k later ≡ 0
-    long : time ≤ time_of (later ++ written ∷ [])
+    long : time ≤ walk_time (later ++ written ∷ [])
     idle : IsIdle c t k (at c t collisions)
 
   idling-first : IsIdling 0
@@ -165,7 +165,7 @@ module _ (c : Parts) (rules : IsCluster c) (t : ℕ) (lt : t < length c.tables) 
   endless n some time =
       let long : IsIdling time = idling time in
       let none = long.none in (
-        time_of (long.later ++ long.written ∷ []),
+        walk_time (long.later ++ long.written ∷ []),
         (
           long.long,
           record {

@@ -9,7 +9,7 @@ use Rattle.lin_parts.specs.declared.parts.Parts.{Parts}
 use Rattle.lin_parts.specs.declared.parts.Line.{Line}
 use Rattle.lin_parts.specs.declared.parts.Entry.{Entry}
 use Rattle.lin_parts.specs.declared.parts.Entry.TheVariants.{Event}
-use Rattle.lin_schedule.specs.Ahead.{through, longest_inside, longest_from, next_entry, resolving_lines, AreTimes}
+use Rattle.lin_schedule.specs.Ahead.{through, longest_inside, longest_from, next_entry, resolving_lines, AreTimesAhead}
 use Rattle.lin_schedule.specs.Carriers.{Carriers, can_collide}
 use Rattle.lin_schedule.specs.Rounds.{greatest}
 use Rattle.lin_schedule.specs.Walk.{IsLongestWait}
@@ -118,7 +118,7 @@ longer-one true d straight round inner = elim (max-cases (d + max straight round
 ]
 
 module _ (c : Parts) (rules : IsCluster c) (t : ℕ) (lt : t < length c.tables) (k : Carriers) (n : ℕ) (some : 1 ≤ n)
-    (times : ℕ → ℕ → ℕ) (known : AreTimes c t k n times) where
+    (times : ℕ → ℕ → ℕ) (known : AreTimesAhead c t k n times) where
   abbrev from_slot : ℕ → ℕ
   from_slot i = longest_from c k (line_of c t i) n (times (next_entry (table_of c t) i))
 

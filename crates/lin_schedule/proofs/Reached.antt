@@ -8,9 +8,9 @@ use Rattle.lin_parts.specs.Cluster.{event_of, table_of, line_of}
 use Rattle.lin_parts.specs.Rules.{IsCluster}
 use Rattle.lin_parts.specs.declared.parts.Parts.{Parts}
 use Rattle.lin_parts.specs.declared.parts.Entry.TheVariants.{Event}
-use Rattle.lin_schedule.specs.Ahead.{AreTimes}
+use Rattle.lin_schedule.specs.Ahead.{AreTimesAhead}
 use Rattle.lin_schedule.specs.Carriers.{Carriers, can_collide}
-use Rattle.lin_schedule.specs.Walk.{Passed, walk, IsUndisturbed, carried, carried_in, time_of, IsWaiting, IsWait, IsLongestWait}
+use Rattle.lin_schedule.specs.Walk.{Passed, walk, IsUndisturbed, is_carried, carried_in, walk_time, IsWaiting, IsWait, IsLongestWait}
 use Rattle.lin_schedule.specs.Walker.{Position}
 use Rattle.lin_schedule.proofs.Ahead.{line_at, ahead, remaining, Way, ahead-way, ahead-done, ahead-most}
 use Rattle.lin_schedule.proofs.Clusters.{cluster-AreWalkable}
@@ -80,16 +80,16 @@ module _ (c : Parts) (rules : IsCluster c) (t : ℕ) (lt : t < length c.tables) 
   reached w (main i i_lt) = reached-main i i_lt
   reached w (inside j e place j_lt is can place_lt) = reached-inside j e j_lt is can place place_lt
 
-  module _ (k : Carriers) (n : ℕ) (some : 1 ≤ n) (times : ℕ → ℕ → ℕ) (known : AreTimes c t k n times) where
+  module _ (k : Carriers) (n : ℕ) (some : 1 ≤ n) (times : ℕ → ℕ → ℕ) (known : AreTimesAhead c t k n times) where
     -- the slot that a walk has next on the longest way, and what lies ahead of the one after it
     record Next (collisions : List Bool) (wanted : ℕ) : Type 0 where
       collides : Bool
       undisturbed : IsUndisturbed c (walk c t (collides ∷ collisions))
       some_delay : 1 ≤ (line_at c (at c t collisions)).delay_us
-      carrying : carried k (passed_at c (at c t collisions) collides) ≡ true
+      carrying : is_carried k (passed_at c (at c t collisions) collides) ≡ true
           → ahead c k times (at c t collisions) (suc wanted)
           ≡ (line_at c (at c t collisions)).delay_us + ahead c k times (at c t (collides ∷ collisions)) wanted
-      idle : carried k (passed_at c (at c t collisions) collides) ≡ false
+      idle : is_carried k (passed_at c (at c t collisions) collides) ≡ false
           → ahead c k times (at c t collisions) (suc wanted)
           ≡ (line_at c (at c t collisions)).delay_us + ahead c k times (at c t (collides ∷ collisions)) (suc wanted)
 
@@ -121,7 +121,7 @@ module _ (c : Parts) (rules : IsCluster c) (t : ℕ) (lt : t < length c.tables) 
     meets : (fuel : ℕ) (collisions : List Bool) (later : List Passed) (written : Passed) (earlier : List Passed)
         → walk c t collisions ≡ later ++ written ∷ earlier → IsUndisturbed c (walk c t collisions) → (wanted : ℕ)
         → carried_in k later + suc wanted ≡ n → ahead c k times (at c t collisions) (suc wanted) ≤ fuel
-        → IsWait c t k n (time_of (later ++ written ∷ []) + ahead c k times (at c t collisions) (suc wanted))
+        → IsWait c t k n (walk_time (later ++ written ∷ []) + ahead c k times (at c t collisions) (suc wanted))
     meets zero collisions later written earlier is free wanted number enough =
         let ahead_is = ahead-some c rules t lt k n some times known (at c t collisions) (on-walk c rules t lt collisions free) (suc wanted) (omega arith) (omega arith) in
         absurd (omega arith)
@@ -132,7 +132,7 @@ module _ (c : Parts) (rules : IsCluster c) (t : ℕ) (lt : t < length c.tables) 
         let walked : walk c t (more.collides ∷ collisions) ≡ (slot ∷ later) ++ written ∷ earlier = ap (λ (slots : List Passed). slot ∷ slots) is in
         let delay = more.some_delay in
         let sum = time_of-cons slot (later ++ written ∷ []) in
-        elim (cases_Bool (carried k slot)) [
+        elim (cases_Bool (is_carried k slot)) [
           | inl does ↦
               let stands = more.carrying does in
               let none : ahead c k times (at c t (more.collides ∷ collisions)) 0 ≡ 0 =
@@ -154,8 +154,8 @@ module _ (c : Parts) (rules : IsCluster c) (t : ℕ) (lt : t < length c.tables) 
           | inr passes ↦
               let stands = more.idle passes in
               let count = carried_in-no k slot later passes in
-              let whole : time_of ((slot ∷ later) ++ written ∷ []) + ahead c k times (at c t (more.collides ∷ collisions)) 1
-              ≡ time_of (later ++ written ∷ []) + ahead c k times w 1 = omega (arith, stands, sum) in
+              let whole : walk_time ((slot ∷ later) ++ written ∷ []) + ahead c k times (at c t (more.collides ∷ collisions)) 1
+              ≡ walk_time (later ++ written ∷ []) + ahead c k times w 1 = omega (arith, stands, sum) in
               subst (λ (x : ℕ). IsWait c t k n x) whole
               (meets fuel (more.collides ∷ collisions) (slot ∷ later) written earlier walked more.undisturbed zero
               (omega (arith, count)) (omega (arith, stands, delay)))
@@ -167,20 +167,20 @@ module _ (c : Parts) (rules : IsCluster c) (t : ℕ) (lt : t < length c.tables) 
         let walked : walk c t (more.collides ∷ collisions) ≡ (slot ∷ later) ++ written ∷ earlier = ap (λ (slots : List Passed). slot ∷ slots) is in
         let delay = more.some_delay in
         let sum = time_of-cons slot (later ++ written ∷ []) in
-        elim (cases_Bool (carried k slot)) [
+        elim (cases_Bool (is_carried k slot)) [
           | inl does ↦
               let stands = more.carrying does in
               let count = carried_in-yes k slot later does in
-              let whole : time_of ((slot ∷ later) ++ written ∷ []) + ahead c k times (at c t (more.collides ∷ collisions)) (suc wanted)
-              ≡ time_of (later ++ written ∷ []) + ahead c k times w (suc (suc wanted)) = omega (arith, stands, sum) in
+              let whole : walk_time ((slot ∷ later) ++ written ∷ []) + ahead c k times (at c t (more.collides ∷ collisions)) (suc wanted)
+              ≡ walk_time (later ++ written ∷ []) + ahead c k times w (suc (suc wanted)) = omega (arith, stands, sum) in
               subst (λ (x : ℕ). IsWait c t k n x) whole
               (meets fuel (more.collides ∷ collisions) (slot ∷ later) written earlier walked more.undisturbed wanted
               (omega (arith, count)) (omega (arith, stands, delay)))
           | inr passes ↦
               let stands = more.idle passes in
               let count = carried_in-no k slot later passes in
-              let whole : time_of ((slot ∷ later) ++ written ∷ []) + ahead c k times (at c t (more.collides ∷ collisions)) (suc (suc wanted))
-              ≡ time_of (later ++ written ∷ []) + ahead c k times w (suc (suc wanted)) = omega (arith, stands, sum) in
+              let whole : walk_time ((slot ∷ later) ++ written ∷ []) + ahead c k times (at c t (more.collides ∷ collisions)) (suc (suc wanted))
+              ≡ walk_time (later ++ written ∷ []) + ahead c k times w (suc (suc wanted)) = omega (arith, stands, sum) in
               subst (λ (x : ℕ). IsWait c t k n x) whole
               (meets fuel (more.collides ∷ collisions) (slot ∷ later) written earlier walked more.undisturbed (suc wanted)
               (omega (arith, count)) (omega (arith, stands, delay)))
@@ -201,7 +201,7 @@ module _ (c : Parts) (rules : IsCluster c) (t : ℕ) (lt : t < length c.tables) 
         let lies : ahead c k times (step c met.place met.collides) n ≡ ahead c k times (at c t (met.collides ∷ before)) (suc (n - 1)) =
         ap (λ (p : Position). ahead c k times p n) moved ∙ ap (λ (x : ℕ). ahead c k times (at c t (met.collides ∷ before)) x) (sym less) in
         let is = met.is in
-        let whole : time_of (slot ∷ []) + ahead c k times (at c t (met.collides ∷ before)) (suc (n - 1)) ≡ worst =
+        let whole : walk_time (slot ∷ []) + ahead c k times (at c t (met.collides ∷ before)) (suc (n - 1)) ≡ worst =
         omega (arith, time_of-cons slot [], delay, lies, is) in
         subst (λ (x : ℕ). IsWait c t k n x) whole
         (meets (ahead c k times (at c t (met.collides ∷ before)) (suc (n - 1))) (met.collides ∷ before) [] slot (walk c t before) refl undisturbed (n - 1)
@@ -210,7 +210,7 @@ module _ (c : Parts) (rules : IsCluster c) (t : ℕ) (lt : t < length c.tables) 
     -- and no wait is longer
     waited-end : (worst : ℕ) → IsGreatest c rules t lt k n some times known worst → (other : ℕ) (last : Passed) (between : List Passed)
         (collisions : List Bool) (written : Passed) (earlier : List Passed) → walk c t collisions ≡ (last ∷ between) ++ written ∷ earlier
-        → IsUndisturbed c (walk c t collisions) → other ≡ time_of ((last ∷ between) ++ written ∷ [])
+        → IsUndisturbed c (walk c t collisions) → other ≡ walk_time ((last ∷ between) ++ written ∷ [])
         → suc (carried_in k between) ≡ n → other ≤ worst
     waited-end worst greatest other last between [] written earlier is free passed number = absurd (cc)
     waited-end worst greatest other last between (collides ∷ before) written earlier is free passed number =

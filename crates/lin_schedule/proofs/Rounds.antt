@@ -13,7 +13,7 @@ use Rattle.lin_parts.specs.Cluster.{table_of, line_of}
 use Rattle.lin_parts.specs.declared.parts.Parts.{Parts}
 use Rattle.lin_parts.specs.declared.parts.Line.{Line}
 use Rattle.lin_parts.specs.declared.parts.Entry.{Entry}
-use Rattle.lin_schedule.specs.Ahead.{left, through, ahead_of, longest_from, next_entry, resolving_lines, AreTimes}
+use Rattle.lin_schedule.specs.Ahead.{left, through, ahead_of, longest_from, next_entry, resolving_lines, AreTimesAhead}
 use Rattle.lin_schedule.specs.Carriers.{Carriers, carries, can_collide}
 use Rattle.lin_schedule.specs.Rounds.{AreRows, carriers_in, is_sure, after_of, back_from, longest_of, times_in, times_after, next_time}
 
@@ -279,7 +279,7 @@ module _ (c : Parts) (k : Carriers) (t last most : ℕ) (last_lt : last < length
       ∙ row-kept i (suc m) i_lt some few j is (omega arith)
 
   -- so the rows are times ahead
-  pub rows-AreTimes : AreTimes c t k most (times_in (length (table_of c t)) last (times_upto c k t last (length (table_of c t) * most)))
+  pub rows-AreTimes : AreTimesAhead c t k most (times_in (length (table_of c t)) last (times_upto c k t last (length (table_of c t) * most)))
   rows-AreTimes = record { done = rows-done; ahead = rows-ahead }
 
 -- ---- sure slots
@@ -342,10 +342,10 @@ rows-none c k t last made times is place lt = ap (λ (xs : List ℕ). get_or xs 
 
 pub rows-times : (c : Parts) (k : Carriers) (t last made count : ℕ) (times : List ℕ) → times ≡ times_upto c k t last made
     → made ≡ length (table_of c t) * count → last < length (table_of c t) → is_sure c k (line_of c t last).entry ≡ true
-    → AreTimes c t k count (times_in (length (table_of c t)) last times)
+    → AreTimesAhead c t k count (times_in (length (table_of c t)) last times)
 rows-times c k t last made count times is all last_lt sure =
     let whole : times ≡ times_upto c k t last (length (table_of c t) * count) = is ∙ ap (times_upto c k t last) all in
-    subst (λ (xs : List ℕ). AreTimes c t k count (times_in (length (table_of c t)) last xs)) (sym whole)
+    subst (λ (xs : List ℕ). AreTimesAhead c t k count (times_in (length (table_of c t)) last xs)) (sym whole)
     (rows-AreTimes c k t last count last_lt sure)
 
 -- the next time, by its parts

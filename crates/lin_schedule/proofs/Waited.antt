@@ -6,9 +6,9 @@ use Rattle.std.proofs.lemmas.List.Elements.{All-head, All-tail}
 use Rattle.std.proofs.lemmas.List.Sums.{sum_by-cons}
 use Rattle.lin_parts.specs.Rules.{IsCluster}
 use Rattle.lin_parts.specs.declared.parts.Parts.{Parts}
-use Rattle.lin_schedule.specs.Ahead.{AreTimes}
+use Rattle.lin_schedule.specs.Ahead.{AreTimesAhead}
 use Rattle.lin_schedule.specs.Carriers.{Carriers, can_collide}
-use Rattle.lin_schedule.specs.Walk.{Passed, walk, IsUndisturbed, carried, carried_in, time_of}
+use Rattle.lin_schedule.specs.Walk.{Passed, walk, IsUndisturbed, is_carried, carried_in, walk_time}
 use Rattle.lin_schedule.specs.Walker.{Position}
 use Rattle.lin_schedule.proofs.Ahead.{line_at, ahead, remaining, ahead-most, ahead-way}
 use Rattle.lin_schedule.proofs.Clusters.{cluster-AreWalkable, table-start, table-delays, event-table}
@@ -18,21 +18,21 @@ use Rattle.lin_schedule.proofs.Steps.{at, step, IsOnWalk, main, inside, IsFree, 
 abbrev pub passed_at : Parts → Position → Bool → Passed
 passed_at c w collides = record { line = line_at c w; collides = collides }
 
-pub time_of-cons : (slot : Passed) (slots : List Passed) → time_of (slot ∷ slots) ≡ slot.line.delay_us + time_of slots
+pub time_of-cons : (slot : Passed) (slots : List Passed) → walk_time (slot ∷ slots) ≡ slot.line.delay_us + walk_time slots
 time_of-cons slot slots = sum_by-cons (λ (s : Passed). s.line.delay_us) slot slots
 
 carried_in-cons : (k : Carriers) (slot : Passed) (slots : List Passed)
-    → carried_in k (slot ∷ slots) ≡ (if carried k slot then 1 else 0) + carried_in k slots
-carried_in-cons k slot slots = sum_by-cons (λ (s : Passed). cond (carried k s) 1 0) slot slots
+    → carried_in k (slot ∷ slots) ≡ (if is_carried k slot then 1 else 0) + carried_in k slots
+carried_in-cons k slot slots = sum_by-cons (λ (s : Passed). cond (is_carried k s) 1 0) slot slots
 
-pub carried_in-yes : (k : Carriers) (slot : Passed) (slots : List Passed) → carried k slot ≡ true
+pub carried_in-yes : (k : Carriers) (slot : Passed) (slots : List Passed) → is_carried k slot ≡ true
     → carried_in k (slot ∷ slots) ≡ suc (carried_in k slots)
 carried_in-yes k slot slots is =
     let e : carried_in k (slot ∷ slots) ≡ 1 + carried_in k slots =
     carried_in-cons k slot slots ∙ ap (λ (b : Bool). (if b then 1 else 0) + carried_in k slots) is in
     omega (arith, e)
 
-pub carried_in-no : (k : Carriers) (slot : Passed) (slots : List Passed) → carried k slot ≡ false
+pub carried_in-no : (k : Carriers) (slot : Passed) (slots : List Passed) → is_carried k slot ≡ false
     → carried_in k (slot ∷ slots) ≡ carried_in k slots
 carried_in-no k slot slots is =
     let e : carried_in k (slot ∷ slots) ≡ 0 + carried_in k slots =
@@ -67,7 +67,7 @@ module _ (c : Parts) (rules : IsCluster c) (t : ℕ) (lt : t < length c.tables) 
       let there = event-there c rules t j e lt j_lt is in
       table-delays c rules _ (event-table c rules e there) place place_lt
 
-  module _ (k : Carriers) (n : ℕ) (some : 1 ≤ n) (times : ℕ → ℕ → ℕ) (known : AreTimes c t k n times) where
+  module _ (k : Carriers) (n : ℕ) (some : 1 ≤ n) (times : ℕ → ℕ → ℕ) (known : AreTimesAhead c t k n times) where
     -- the longest time from the slot in which a write stands
     pub record IsGreatest (worst : ℕ) : Type 0 where
       pub most : (w : Position) → IsOnWalk c t w → (collides : Bool) → IsFree c w collides
@@ -77,7 +77,7 @@ module _ (c : Parts) (rules : IsCluster c) (t : ℕ) (lt : t < length c.tables) 
     pub waited-most : (worst : ℕ) → IsGreatest worst → (collisions : List Bool) (later : List Passed) (written : Passed) (earlier : List Passed)
         → walk c t collisions ≡ later ++ written ∷ earlier → IsUndisturbed c (walk c t collisions) → (wanted : ℕ) → 1 ≤ wanted
         → carried_in k later + wanted ≡ n
-        → time_of (later ++ written ∷ []) + ahead c k times (at c t collisions) wanted ≤ worst
+        → walk_time (later ++ written ∷ []) + ahead c k times (at c t collisions) wanted ≤ worst
     waited-most worst greatest [] [] written earlier is free wanted more number = absurd (cc)
     waited-most worst greatest [] (slot ∷ later) written earlier is free wanted more number = absurd (cc)
     waited-most worst greatest (collides ∷ before) [] written earlier is free wanted more number =
@@ -107,12 +107,12 @@ module _ (c : Parts) (rules : IsCluster c) (t : ℕ) (lt : t < length c.tables) 
         let rest : walk c t before ≡ later ++ written ∷ earlier = cons-tail (passed_at c w collides) slot (walk c t before) (later ++ written ∷ earlier) is in
         let delay : (line_at c w).delay_us ≡ slot.line.delay_us = ap (λ (s : Passed). s.line.delay_us) same in
         let moved : step c w collides ≡ at c t (collides ∷ before) = at-step c (cluster-AreWalkable c rules) t lt before collides w on refl in
-        elim (cases_Bool (carried k slot)) [
+        elim (cases_Bool (is_carried k slot)) [
           | inl does ↦
               let count : carried_in k (slot ∷ later) ≡ suc (carried_in k later) = carried_in-yes k slot later does in
               let former = waited-most worst greatest before later written earlier rest all_before (suc wanted) (omega arith) (omega (arith, count)) in
               let most = ahead-most c rules t lt k n times known w on (suc wanted) (omega arith) (omega (arith, count)) collides here in
-              let was : carried k (passed_at c w collides) ≡ true = ap (carried k) same ∙ does in
+              let was : is_carried k (passed_at c w collides) ≡ true = ap (is_carried k) same ∙ does in
               let left_is : remaining k (line_at c w).entry collides (suc wanted) ≡ suc wanted - 1 = ap (λ (b : Bool). if b then suc wanted - 1 else suc wanted) was in
               let left_is_2 : remaining k (line_at c w).entry collides (suc wanted) ≡ wanted = omega (arith, left_is) in
               let stands : ahead c k times (step c w collides) (remaining k (line_at c w).entry collides (suc wanted)) ≡ ahead c k times (at c t (collides ∷ before)) wanted =
@@ -123,7 +123,7 @@ module _ (c : Parts) (rules : IsCluster c) (t : ℕ) (lt : t < length c.tables) 
               let count : carried_in k (slot ∷ later) ≡ carried_in k later = carried_in-no k slot later passes in
               let former = waited-most worst greatest before later written earlier rest all_before wanted more (omega (arith, count)) in
               let most = ahead-most c rules t lt k n times known w on wanted more (omega (arith, count)) collides here in
-              let was : carried k (passed_at c w collides) ≡ false = ap (carried k) same ∙ passes in
+              let was : is_carried k (passed_at c w collides) ≡ false = ap (is_carried k) same ∙ passes in
               let left_is : remaining k (line_at c w).entry collides wanted ≡ wanted = ap (λ (b : Bool). if b then wanted - 1 else wanted) was in
               let stands : ahead c k times (step c w collides) (remaining k (line_at c w).entry collides wanted) ≡ ahead c k times (at c t (collides ∷ before)) wanted =
               ap (λ (x : ℕ). ahead c k times (step c w collides) x) left_is

@@ -53,7 +53,7 @@ longest_from c k line n after =
     else line.delay_us + after n
 
 -- times ahead of the main slots of a table, for up to so many carrying slots
-pub record AreTimes (c : Parts) (t : ℕ) (k : Carriers) (most : ℕ) (times : ℕ → ℕ → ℕ) : Type 0 where
+pub record AreTimesAhead (c : Parts) (t : ℕ) (k : Carriers) (most : ℕ) (times : ℕ → ℕ → ℕ) : Type 0 where
   pub done : (i : ℕ) → i < length (table_of c t) → times i 0 ≡ 0
   pub ahead : (i n : ℕ) → i < length (table_of c t) → 1 ≤ n → n ≤ most
       → times i n ≡ ahead_of c k (line_of c t i) n (times (next_entry (table_of c t) i))

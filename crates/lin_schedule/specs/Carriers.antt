@@ -36,32 +36,32 @@ abbrev pub has_signals : Parts → ℕ → Bool
 has_signals c f = nat_lt 0 (length (frame_of c f).signals)
 
 -- whether a frame is one of these
-abbrev pub is_among : List ℕ → ℕ → Bool
-is_among frames f = list_any (λ g. g == f) frames
+abbrev pub is_among_frames : List ℕ → ℕ → Bool
+is_among_frames frames f = list_any (λ g. g == f) frames
 
 -- how many different frames with a signal these are
 abbrev pub different_in : Parts → List ℕ → ℕ
 different_in c frames =
-    count_by (λ f. is_among frames f && has_signals c f) (range_with_len 0 (length c.frames))
+    count_by (λ f. is_among_frames frames f && has_signals c f) (range_with_len 0 (length c.frames))
 
 -- the rank of the first of these frames in a sporadic frame: 1, and 1 more for each different frame
 -- with a signal above it, which is sent first where both are pending
 abbrev pub rank : Parts → List ℕ → ℕ → Option ℕ
 rank c frames s =
     option_map (λ first. 1 + different_in c (take first (sporadic_of c s)))
-    (position (is_among frames) (sporadic_of c s))
+    (position (is_among_frames frames) (sporadic_of c s))
 
 -- what carries one of these frames: their own entries, those of sporadic frames in which they are
 -- first in rank, and those of event-triggered frames that list one
 abbrev pub carriers_of_frames : Parts → List ℕ → Carriers
 carriers_of_frames c frames =
     record {
-      frames = map (is_among frames) (range_with_len 0 (length c.frames));
+      frames = map (is_among_frames frames) (range_with_len 0 (length c.frames));
       sporadic =
           map (λ s. option_map_or (λ r. r == 1) (rank c frames s) false)
           (range_with_len 0 (length c.sporadic));
       events =
-          map (λ e. list_any (is_among frames) (event_of c e).frames)
+          map (λ e. list_any (is_among_frames frames) (event_of c e).frames)
           (range_with_len 0 (length c.events));
       request = false;
       response = false;

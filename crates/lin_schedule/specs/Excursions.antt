@@ -55,14 +55,14 @@ abbrev pub IsSummary : Carriers → List Line → ℕ → Excursion → Type 0
 IsSummary k lines n x = IsExcursion k lines n x.total x.ends.items x.starts.items x.within
 
 -- sums of which no one is above their total, of at most 1,024 delays
-pub record IsShort (x : Excursion) : Type 0 where
+pub record HasSmallSums (x : Excursion) : Type 0 where
   pub few : x.total ≤ 1024000000000
   pub ends : All (λ time. time ≤ x.total) x.ends.items
   pub starts : All (λ time. time ≤ x.total) x.starts.items
   pub within : x.within ≤ x.total
 
-abbrev pub AreShort : List (Option Excursion) → Type 0
-AreShort xs = All (λ x. IfSome x IsShort) xs
+abbrev pub HaveSmallSums : List (Option Excursion) → Type 0
+HaveSmallSums xs = All (λ x. IfSome x HasSmallSums) xs
 
 -- the excursion that an entry's slot may begin
 abbrev pub IsExcursionOf : Parts → Carriers → ℕ → Entry → Option Excursion → Type 0

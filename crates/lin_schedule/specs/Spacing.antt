@@ -11,7 +11,7 @@ use Rattle.lin_schedule.specs.Ahead.{resolving_lines}
 use Rattle.lin_schedule.specs.Carriers.{can_collide}
 use Rattle.lin_schedule.specs.Occurs.{is_own, own_entries}
 use Rattle.lin_schedule.specs.Rounds.{back_from}
-use Rattle.lin_schedule.specs.Walk.{Passed, walk, IsUndisturbed, time_of}
+use Rattle.lin_schedule.specs.Walk.{Passed, walk, IsUndisturbed, walk_time}
 use Rattle.lin_schedule.specs.declared.spacing.Extremes.{Extremes}
 use Rattle.lin_schedule.specs.declared.spacing.Stretch.{Stretch}
 use Rattle.lin_schedule.specs.declared.spacing.OwnSlots.{OwnSlots}
@@ -37,7 +37,7 @@ pub record IsGap (c : Parts) (t f time : ℕ) : Type 0 where
   pub next_own : is_own f next.line.entry ≡ true
   pub former_own : is_own f former.line.entry ≡ true
   pub none_between : own_in f between ≡ 0
-  pub passed : time ≡ time_of (between ++ former ∷ [])
+  pub passed : time ≡ walk_time (between ++ former ∷ [])
 
 -- the shortest and the longest of these times
 pub record AreGaps (c : Parts) (t f shortest longest : ℕ) : Type 0 where

@@ -25,16 +25,16 @@ IsUndisturbed c slots =
     All (λ slot. slot.collides ≡ true → can_collide c slot.line.entry ≡ true) slots
 
 -- whether a slot carries it: one with a collision carries nothing
-abbrev pub carried : Carriers → Passed → Bool
-carried k slot = carries k slot.line.entry && not slot.collides
+abbrev pub is_carried : Carriers → Passed → Bool
+is_carried k slot = carries k slot.line.entry && not slot.collides
 
 -- how many of these slots carry it
 abbrev pub carried_in : Carriers → List Passed → ℕ
-carried_in k slots = count_by (carried k) slots
+carried_in k slots = count_by (is_carried k) slots
 
 -- the time of slots in microseconds
-abbrev pub time_of : List Passed → ℕ
-time_of slots = sum_by (λ slot. slot.line.delay_us) slots
+abbrev pub walk_time : List Passed → ℕ
+walk_time slots = sum_by (λ slot. slot.line.delay_us) slots
 
 -- A walk of table t in which a write or a message stands in the slot `written`, and these slots
 -- have passed since. So much time has passed since the start of the slot `written`, behind whose
@@ -45,7 +45,7 @@ pub record IsWaited (c : Parts) (t : ℕ) (later : List Passed) (time : ℕ) : T
   pub earlier : List Passed
   pub is : walk c t collisions ≡ later ++ written ∷ earlier
   pub undisturbed : IsUndisturbed c (walk c t collisions)
-  pub passed : time ≡ time_of (later ++ written ∷ [])
+  pub passed : time ≡ walk_time (later ++ written ∷ [])
 
 -- a wait that goes on: fewer than n slots have carried it
 pub record IsWaiting (c : Parts) (t : ℕ) (k : Carriers) (n time : ℕ) : Type 0 where
@@ -58,7 +58,7 @@ pub record IsWait (c : Parts) (t : ℕ) (k : Carriers) (n time : ℕ) : Type 0 w
   pub last : Passed
   pub between : List Passed
   pub waited : IsWaited c t (last ∷ between) time
-  pub ends : carried k last ≡ true
+  pub ends : is_carried k last ≡ true
   pub number : suc (carried_in k between) ≡ n
 
 -- the longest wait: some walk has it, none a longer one, and none goes on until then

@@ -7,7 +7,7 @@ ghost use Rattle.std.specs.List.{list_any, range_with_len};
 ghost use Rattle.std.specs.Option.{option_map_or};
 ghost use Rattle.lin_parts.specs.Cluster.{event_of};
 ghost use Rattle.lin_parts.specs.Rules.{IsEntry};
-ghost use Rattle.lin_schedule.specs.Carriers.{carries, can_collide, has_signals, is_among, rank};
+ghost use Rattle.lin_schedule.specs.Carriers.{carries, can_collide, has_signals, is_among_frames, rank};
 ghost use Rattle.lin_schedule.specs.Carriers.{different_in, carriers_of_frames, carriers_of_sporadic};
 ghost use Rattle.lin_schedule.specs.Carriers.{carriers_of_requests, carriers_of_responses};
 
@@ -124,7 +124,7 @@ fn is_set(flags: &Vec<bool>, number: u16) -> bool
 }
 
 pub(crate) fn is_among(frames: &[u16], frame: u16) -> bool
-    ensures { result ≡ is_among frames.now frame }
+    ensures { result ≡ is_among_frames frames.now frame }
 {
     frames.iter().any(|other| *other == frame)
 }
@@ -173,7 +173,7 @@ fn different_in(cluster: &Cluster, frames: &[u16]) -> u16
 
 // The place of the first of the members that is one of these frames.
 fn first_among(members: &[u16], frames: &[u16]) -> Option<usize>
-    ensures place { result ≡ position (is_among frames.now) members.now }
+    ensures place { result ≡ position (is_among_frames frames.now) members.now }
     ensures range { IfSome result (λ first. first < length members.now) }
 {
     members.iter().position(|member| is_among(frames, *member))
@@ -198,7 +198,7 @@ pub fn rank(cluster: &Cluster, frames: &[u16], sporadic: u16) -> Option<u16>
 // Of each frame, whether it is one of these.
 fn frames_among(alloc: Global, cluster: &Cluster, frames: &[u16]) -> Result<Vec<bool>, AllocError>
     ensures { IfOk result (λ flags. flags.items
-        ≡ map (is_among frames.now) (range_with_len 0 (length cluster.now.frames))) }
+        ≡ map (is_among_frames frames.now) (range_with_len 0 (length cluster.now.frames))) }
 {
     cluster.sound();
     (0..cluster.frames() as u16)
@@ -232,7 +232,7 @@ fn sporadic_first(alloc: Global, cluster: &Cluster, frames: &[u16]) -> Result<Ve
 // Whether an event-triggered frame lists one of these frames.
 fn is_listed(cluster: &Cluster, frames: &[u16], event: u16) -> bool
     requires { event < length cluster.now.events }
-    ensures { result ≡ list_any (is_among frames.now) (event_of cluster.now event).frames }
+    ensures { result ≡ list_any (is_among_frames frames.now) (event_of cluster.now event).frames }
 {
     cluster
         .event_frames(event)
@@ -243,7 +243,7 @@ fn is_listed(cluster: &Cluster, frames: &[u16], event: u16) -> bool
 // Of each event-triggered frame, whether it lists one of these frames.
 fn events_among(alloc: Global, cluster: &Cluster, frames: &[u16]) -> Result<Vec<bool>, AllocError>
     ensures { IfOk result (λ flags. flags.items
-        ≡ map (λ e. list_any (is_among frames.now) (event_of cluster.now e).frames)
+        ≡ map (λ e. list_any (is_among_frames frames.now) (event_of cluster.now e).frames)
         (range_with_len 0 (length cluster.now.events))) }
 {
     cluster.sound();

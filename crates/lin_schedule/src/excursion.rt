@@ -8,7 +8,7 @@ ghost use Rattle.lin_parts.specs.declared.parts.Line.{Line};
 ghost use Rattle.lin_parts.specs.declared.parts.Parts.{Parts};
 ghost use Rattle.lin_schedule.specs.Ahead.{resolving_lines};
 ghost use Rattle.lin_schedule.specs.Carriers.{Carriers, carries, can_collide};
-ghost use Rattle.lin_schedule.specs.Excursions.{AreExcursions, AreShort, IsShort, IsSummary};
+ghost use Rattle.lin_schedule.specs.Excursions.{AreExcursions, HaveSmallSums, HasSmallSums, IsSummary};
 ghost use Rattle.lin_schedule.specs.Excursions.{IsExcursionOf};
 ghost use Rattle.lin_parts.specs.declared.parts.Entry.TheVariants.{Event};
 ghost use Rattle.lin_schedule.specs.Excursions.{through_by, longest_open, within_from};
@@ -115,7 +115,7 @@ impl Excursion {
     pub(crate) fn through(&self, wanted: usize, after: &After) -> u64
         requires some { 1 ≤ wanted }
         requires few { wanted ≤ 1024 }
-        requires short { IsShort self.now }
+        requires short { HasSmallSums self.now }
         requires rows { AreRows after.now.times.now after.now.slots after.now.place }
         ensures value { result ≡ through_by self.now.total self.now.ends.items wanted
             (after_of after.now.times.now after.now.slots after.now.place) }
@@ -133,7 +133,7 @@ impl Excursion {
     /// later ones.
     pub(crate) fn longest(&self, wanted: usize, after: &After) -> u64
         requires few { wanted ≤ 1024 }
-        requires short { IsShort self.now }
+        requires short { HasSmallSums self.now }
         requires rows { AreRows after.now.times.now after.now.slots after.now.place }
         ensures { result ≡ max self.now.within (longest_open self.now.starts.items wanted
             (after_of after.now.times.now after.now.slots after.now.place)) }
@@ -158,7 +158,7 @@ pub(crate) fn excursions(
 ) -> Result<Vec<Option<Excursion>>, AllocError>
     requires some { 1 ≤ count }
     ensures each { IfOk result (λ xs. AreExcursions cluster.now awaited.now count xs.items) }
-    ensures short { IfOk result (λ xs. AreShort xs.items) }
+    ensures short { IfOk result (λ xs. HaveSmallSums xs.items) }
 {
     cluster.sound();
     let mut all = Vec::new(alloc);
@@ -179,7 +179,7 @@ fn excursion_in(
     requires some { 1 ≤ count }
     requires there { event < length cluster.now.events }
     ensures is { IfOk result (λ x. IsExcursionOf cluster.now awaited.now count (Event event) x) }
-    ensures short { IfOk result (λ x. IfSome x IsShort) }
+    ensures short { IfOk result (λ x. IfSome x HasSmallSums) }
 {
     cluster.sound();
     if can_collide(cluster, Entry::Event(event)) {
@@ -195,11 +195,11 @@ pub(crate) fn excursion_of<'a>(
     excursions: &'a [Option<Excursion>],
     entry: Entry,
 ) -> Option<&'a Excursion>
-    requires { AreShort excursions.now }
+    requires { HaveSmallSums excursions.now }
     ensures is { (c : Parts) (k : Carriers) (n : ℕ) → AreExcursions c k n excursions.now
         → IsEntry c entry → MatchOption result (can_collide c entry ≡ false)
         (λ x. (can_collide c entry ≡ true) × IsSummary k (resolving_lines c entry) n x.now) }
-    ensures short { IfSome result (λ x. IsShort x.now) }
+    ensures short { IfSome result (λ x. HasSmallSums x.now) }
 {
     match entry {
         Entry::Event(event) => match excursions.get(event as usize) {

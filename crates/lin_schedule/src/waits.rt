@@ -7,8 +7,8 @@ ghost use Rattle.lin_parts.specs.Rules.{IsCluster, IsEntry};
 ghost use Rattle.lin_parts.specs.declared.parts.Parts.{Parts};
 ghost use Rattle.lin_parts.specs.declared.parts.Line.{Line};
 ghost use Rattle.lin_schedule.specs.Carriers.{Carriers};
-ghost use Rattle.lin_schedule.specs.Ahead.{AreTimes, ahead_of, longest_from, next_entry};
-ghost use Rattle.lin_schedule.specs.Excursions.{AreExcursions, AreShort};
+ghost use Rattle.lin_schedule.specs.Ahead.{AreTimesAhead, ahead_of, longest_from, next_entry};
+ghost use Rattle.lin_schedule.specs.Excursions.{AreExcursions, HaveSmallSums};
 ghost use Rattle.lin_schedule.specs.Rounds.{AreRows, after_of, back_from, greatest, is_sure};
 ghost use Rattle.lin_schedule.specs.Rounds.{longest_of, next_time, times_after, times_in};
 ghost use Rattle.lin_schedule.specs.Walk.{IsWorst};
@@ -60,7 +60,7 @@ fn sure_slot(
     excursions: &[Option<Excursion>],
 ) -> Option<u16>
     requires table { table < length cluster.now.tables }
-    requires short { AreShort excursions.now }
+    requires short { HaveSmallSums excursions.now }
     ensures { (n : ℕ) → AreExcursions cluster.now awaited.now n excursions.now
         → MatchOption result
         ((i : ℕ) → i < length (table_of cluster.now table)
@@ -77,7 +77,7 @@ fn sure_slot(
 }
 
 fn is_sure(awaited: &Awaited, excursions: &[Option<Excursion>], entry: Entry) -> bool
-    requires { AreShort excursions.now }
+    requires { HaveSmallSums excursions.now }
     ensures { (c : Parts) (n : ℕ) → AreExcursions c awaited.now n excursions.now → IsEntry c entry
         → result ≡ is_sure c awaited.now entry }
 {
@@ -99,12 +99,12 @@ fn times_ahead(
     count: usize,
 ) -> Result<Vec<u64>, AllocError>
     requires table { table < length cluster.now.tables }
-    requires short { AreShort excursions.now }
+    requires short { HaveSmallSums excursions.now }
     requires last { last < length (table_of cluster.now table) }
     requires few { count ≤ 1024 }
     requires excursions { AreExcursions cluster.now awaited.now count excursions.now }
     requires sure { is_sure cluster.now awaited.now (line_of cluster.now table last).entry ≡ true }
-    ensures times { IfOk result (λ times. AreTimes cluster.now table awaited.now count
+    ensures times { IfOk result (λ times. AreTimesAhead cluster.now table awaited.now count
         (times_in (length (table_of cluster.now table)) last times.items)) }
     ensures rows { IfOk result (λ times.
         AreRows times.items (length (table_of cluster.now table)) last) }
@@ -164,7 +164,7 @@ fn next_time(
     times: &[u64],
 ) -> u64
     requires table { table < length cluster.now.tables }
-    requires short { AreShort excursions.now }
+    requires short { HaveSmallSums excursions.now }
     requires rows { AreRows times.now (length (table_of cluster.now table)) last }
     requires first { length (table_of cluster.now table) ≤ length times.now }
     requires few { length times.now < 1025 * length (table_of cluster.now table) }
@@ -194,7 +194,7 @@ fn ahead_of(
     wanted: usize,
     after: &After,
 ) -> u64
-    requires short { AreShort excursions.now }
+    requires short { HaveSmallSums excursions.now }
     requires delay { line.delay_us ≤ 1000000000 }
     requires some { 1 ≤ wanted }
     requires few { wanted ≤ 1024 }
@@ -228,7 +228,7 @@ fn longest_wait(
     times: &[u64],
 ) -> u64
     requires table { table < length cluster.now.tables }
-    requires short { AreShort excursions.now }
+    requires short { HaveSmallSums excursions.now }
     requires rows { AreRows times.now (length (table_of cluster.now table)) last }
     requires some { 1 ≤ count }
     requires few { count ≤ 1024 }
@@ -250,7 +250,7 @@ fn longest_wait(
 
 // The longest wait from a main slot, or from a slot of the excursion that it begins.
 fn longest_from(excursions: &[Option<Excursion>], line: Line, count: usize, after: &After) -> u64
-    requires short { AreShort excursions.now }
+    requires short { HaveSmallSums excursions.now }
     requires delay { line.delay_us ≤ 1000000000 }
     requires some { 1 ≤ count }
     requires few { count ≤ 1024 }

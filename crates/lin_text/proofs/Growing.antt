@@ -4,7 +4,7 @@ use Rattle.std.specs.Prelude.{OnOk, IsErr}
 use Rattle.std.specs.Borrow.{MutBor}
 use Rattle.lin_text.specs.declared.buffered.TextWriter.{TextWriter}
 use Rattle.lin_text.specs.declared.fault.WriteFailed.{WriteFailed}
-use Rattle.lin_text.specs.Written.{WritesText, Puts, Ends, Finishes, Grows, IsNew, waiting}
+use Rattle.lin_text.specs.Written.{WritesText, Puts, WritesWaiting, Finishes, Grows, IsNew, waiting_bytes}
 use Rattle.lin_text.proofs.Adding.{appends-nothing, appends-more}
 
 puts-nothing : (a w : Option (List ℕ)) → Puts a w a w []
@@ -25,14 +25,14 @@ puts-more a b c (Some u) (Some v) (Some w) s t (p, h, e) (q, k, f) =
 
 -- nothing was put
 pub grows-nothing : {W : Type 0} {contents : W → Option (List ℕ)} (x : TextWriter W) → Grows contents x x []
-grows-nothing {contents = contents} x = record { same = refl; puts = puts-nothing (contents x.writer.now) (waiting x) }
+grows-nothing {contents = contents} x = record { same = refl; puts = puts-nothing (contents x.writer.now) (waiting_bytes x) }
 
 -- one text, and then another
 pub grows-more : {W : Type 0} {contents : W → Option (List ℕ)} {x y z : TextWriter W} {s t : List ℕ}
     → Grows contents x y s → Grows contents y z t → Grows contents x z (s ++ t)
 grows-more {contents = contents} {x = x} {y = y} {z = z} {s = s} {t = t} h k = record {
   same = k.same ∙ h.same;
-  puts = puts-more (contents x.writer.now) (contents y.writer.now) (contents z.writer.now) (waiting x) (waiting y) (waiting z) s t h.puts k.puts;
+  puts = puts-more (contents x.writer.now) (contents y.writer.now) (contents z.writer.now) (waiting_bytes x) (waiting_bytes y) (waiting_bytes z) s t h.puts k.puts;
 }
 
 -- an equal text
@@ -48,7 +48,7 @@ none-of : {E : Type 0} (r : Result Unit E) (P : Type 0) → IsErr r → OnOk r P
 none-of (Ok x) P h = absurd (cc)
 none-of (Err e) P h = tt
 
-ends-text : (a b c w : Option (List ℕ)) (r : Result Unit WriteFailed) (s : List ℕ) → Puts a (Some []) b w s → Ends b w c r → WritesText a c r s
+ends-text : (a b c w : Option (List ℕ)) (r : Result Unit WriteFailed) (s : List ℕ) → Puts a (Some []) b w s → WritesWaiting b w c r → WritesText a c r s
 ends-text a b c None r s (p, rest, h, e) (k, failed) = record {
   part = p ++ [];
   rest = rest;
@@ -68,7 +68,7 @@ ends-text a b c (Some w) r s (p, h, e) k = record {
 pub text-written : {W : Type 0} {contents : W → Option (List ℕ)} {writer : MutBor W} {x y : TextWriter W} {c : Option (List ℕ)} {r : Result Unit WriteFailed} {s : List ℕ}
     → IsNew writer x → Grows contents x y s → Finishes contents y c r → WritesText (contents writer.now) c r s
 text-written {contents = contents} {writer = writer} {x = x} {y = y} {c = c} {r = r} {s = s} n h k =
-    rw (sym n.now) (ends-text (contents x.writer.now) (contents y.writer.now) c (waiting y) r s (subst (λ v. Puts (contents x.writer.now) v (contents y.writer.now) (waiting y) s) n.empty h.puts) k)
+    rw (sym n.now) (ends-text (contents x.writer.now) (contents y.writer.now) c (waiting_bytes y) r s (subst (λ v. Puts (contents x.writer.now) v (contents y.writer.now) (waiting_bytes y) s) n.empty h.puts) k)
 
 -- the texts of a list's items, one more at a time
 texts-next_suc : {X : Type 0} (f : X → List ℕ) (xs : List X) (i : ℕ) (d : X) → i < length xs

@@ -8,6 +8,6 @@ bytes_in (Short len bytes) = take len bytes
 bytes_in (Long bytes) = bytes.value.items
 
 -- so many bytes lie in their place
-abbrev pub IsKept : Kept → Type 0
-IsKept (Short len bytes) = len ≤ 14
-IsKept (Long bytes) = Unit {0}
+abbrev pub FitsInPlace : Kept → Type 0
+FitsInPlace (Short len bytes) = len ≤ 14
+FitsInPlace (Long bytes) = Unit {0}

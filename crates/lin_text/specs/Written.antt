@@ -31,28 +31,28 @@ abbrev pub kept_bytes : Result Unit WriteFailed → List ℕ → Option (List �
 kept_bytes (Ok done) items = Some items
 kept_bytes (Err fault) items = None
 
-abbrev pub waiting : {W : Type 0} → TextWriter W → Option (List ℕ)
-waiting t = kept_bytes t.outcome t.buffer.now.items
+abbrev pub waiting_bytes : {W : Type 0} → TextWriter W → Option (List ℕ)
+waiting_bytes t = kept_bytes t.outcome t.buffer.now.items
 
 -- A text was put into a text writer, over the same writer.
 pub record Grows {W : Type 0} (contents : W → Option (List ℕ)) (old : TextWriter W)
     (new : TextWriter W) (text : List ℕ) : Type 0 where
   pub same : new.writer.ghost_name ≡ old.writer.ghost_name
   pub puts :
-      Puts (contents old.writer.now) (waiting old) (contents new.writer.now) (waiting new) text
+      Puts (contents old.writer.now) (waiting_bytes old) (contents new.writer.now) (waiting_bytes new) text
 
 -- A text writer over this writer, in which nothing waits.
 pub record IsNew {W : Type 0} (writer : MutBor W) (text : TextWriter W) : Type 0 where
   pub same : text.writer.ghost_name ≡ writer.ghost_name
   pub now : text.writer.now ≡ writer.now
-  pub empty : waiting text ≡ Some []
+  pub empty : waiting_bytes text ≡ Some []
 
 -- what waited was written
-abbrev pub Ends : Option (List ℕ) → Option (List ℕ) → Option (List ℕ) → Result Unit WriteFailed
+abbrev pub WritesWaiting : Option (List ℕ) → Option (List ℕ) → Option (List ℕ) → Result Unit WriteFailed
     → Type 0
-Ends old None new result = Appends old new [] × IsErr result
-Ends old (Some waited) new result = WritesText old new result waited
+WritesWaiting old None new result = Appends old new [] × IsErr result
+WritesWaiting old (Some waited) new result = WritesText old new result waited
 
 abbrev pub Finishes : {W : Type 0} → (W → Option (List ℕ)) → TextWriter W → Option (List ℕ)
     → Result Unit WriteFailed → Type 0
-Finishes contents text new result = Ends (contents text.writer.now) (waiting text) new result
+Finishes contents text new result = WritesWaiting (contents text.writer.now) (waiting_bytes text) new result

@@ -24,13 +24,13 @@ pub struct Text {
 
 impl Model for Text {
     ghost use Rattle.std.specs.Prelude.{List, ℕ};
-    ghost use Rattle.lin_text.specs.Kept.{bytes_in, IsKept};
+    ghost use Rattle.lin_text.specs.Kept.{bytes_in, FitsInPlace};
 
     ghost Value = { List ℕ };
 
     ghost view = { λ t. bytes_in t.kept };
 
-    ghost invariant = { λ t. IsKept t.kept };
+    ghost invariant = { λ t. FitsInPlace t.kept };
 }
 
 impl Text {

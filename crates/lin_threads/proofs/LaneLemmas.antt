@@ -3,7 +3,7 @@ use Rattle.std.proofs.Common.{◌≡◌, ◌≢◌, ◌<◌, ◌≤◌, ◌+◌,
 use Rattle.std.specs.List.{slice_get}
 use Rattle.std.proofs.lemmas.Option.{slice_get_read}
 use Rattle.std.proofs.lemmas.List.{drop-append-le}
-use Rattle.lin_core.specs.Core.{CoreData, answered, IsAlike, IsStepped}
+use Rattle.lin_core.specs.Core.{CoreData, entry_with_reply, IsAlike, IsStepped}
 use Rattle.lin_core.specs.Replies.{may}
 use Rattle.lin_core.specs.declared.hold.Hold.{Hold}
 use Rattle.lin_core.specs.declared.port.PortId.TheVariants.{Bus}
@@ -14,7 +14,7 @@ use Rattle.lin_threads.specs.declared.ports.lane.Lane.{Lane}
 use Rattle.lin_threads.specs.declared.ports.pump.Pump.{Pump}
 use mathlib.Core.List.{IsPrefix}
 use Rattle.rtrb.specs.Ring.{sent}
-use Rattle.lin_threads.specs.Lanes.{steps_from_ring, port_of, lane_wiring, SameLane, Serves, AllServe, FirstTold, InOrder, IsTold, OnlyOwn, Served}
+use Rattle.lin_threads.specs.Lanes.{steps_from_ring, port_of, lane_wiring, SameLane, Serves, AllServe, FirstTold, AreInPortOrder, IsTold, OnlyOwn, Served}
 use Rattle.lin_threads.proofs.PortLemmas.{logged-own, logged-other, told_more, port_at-no_bus}
 
 -- what a list has after a write at one place
@@ -74,7 +74,7 @@ serves_other base log e a by s = record {
 }
 
 pub served_others : {E : Type 0} (base : ℕ) (port : PortId) (old new : CoreData) (r : Result Bool E) (l : Lane) → port_of l ≢ port → Served port old new r → Serves base old.log l → Serves base new.log l
-served_others base port old new (Ok true) l n h s = rw h.log (serves_other base old.log (answered old port h.step) l (λ q. n (sym q)) s)
+served_others base port old new (Ok true) l n h s = rw h.log (serves_other base old.log (entry_with_reply old port h.step) l (λ q. n (sym q)) s)
 served_others base port old new (Ok false) l n h s = rw h s
 served_others base port old new (Err e) l n h s = rw h s
 
@@ -93,7 +93,7 @@ map-set_at f (a ∷ xs) (suc i) x y e h = ap (λ zs. f a ∷ zs) (map-set_at f x
 pub same_wirings : (lanes : List Lane) (i : ℕ) (old lane : Lane) → slice_get lanes i ≡ Some old → lane_wiring lane ≡ lane_wiring old → map lane_wiring (slice_set lanes i lane) ≡ map lane_wiring lanes
 same_wirings lanes i old lane at same = map-set_at lane_wiring lanes i old lane at same
 
-pub in_order : (nodes : ℕ) (lanes : List Lane) (i : ℕ) (old lane : Lane) → slice_get lanes i ≡ Some old → SameLane old lane → InOrder nodes lanes → InOrder nodes (slice_set lanes i lane)
+pub in_order : (nodes : ℕ) (lanes : List Lane) (i : ℕ) (old lane : Lane) → slice_get lanes i ≡ Some old → SameLane old lane → AreInPortOrder nodes lanes → AreInPortOrder nodes (slice_set lanes i lane)
 in_order nodes lanes i old lane at same order j l here = elim (slice_get-set lanes i lane j l here) [
   | inl h ↦ rw (h.0, h.1) (port_of-same old lane same ∙ order i old at)
   | inr h ↦ order j l h.1
@@ -103,7 +103,7 @@ longer : (base : ℕ) (log : List LogEntry) (e : LogEntry) → base ≤ length l
 longer base log e h = omega (arith, length-append log (e ∷ []))
 
 pub served_longer : {E : Type 0} (base : ℕ) (port : PortId) (old new : CoreData) (r : Result Bool E) → base ≤ length old.log → Served port old new r → base ≤ length new.log
-served_longer base port old new (Ok true) h s = rw s.log (longer base old.log (answered old port s.step) h)
+served_longer base port old new (Ok true) h s = rw s.log (longer base old.log (entry_with_reply old port s.step) h)
 served_longer base port old new (Ok false) h s = rw s h
 served_longer base port old new (Err e) h s = rw s h
 
@@ -123,22 +123,22 @@ own_more base log e h own all i x at =
     ]
 
 pub served_own : {E : Type 0} (base : ℕ) (port : PortId) (old new : CoreData) (r : Result Bool E) → base ≤ length old.log → Served port old new r → OnlyOwn (drop base old.log) → OnlyOwn (drop base new.log)
-served_own base port old new (Ok true) h s own = rw s.log (own_more base old.log (answered old port s.step) h s.own own)
+served_own base port old new (Ok true) h s own = rw s.log (own_more base old.log (entry_with_reply old port s.step) h s.own own)
 served_own base port old new (Ok false) h s own = rw s own
 served_own base port old new (Err e) h s own = rw s own
 
 -- a step of the bus
 pub bus_longer : (base : ℕ) (old new : CoreData) (step : Step) (r : Result Unit Hold) → base ≤ length old.log → IsStepped old Bus step r new → base ≤ length new.log
-bus_longer base old new step (Ok u) h s = rw s.0 (longer base old.log (answered old Bus step) h)
+bus_longer base old new step (Ok u) h s = rw s.0 (longer base old.log (entry_with_reply old Bus step) h)
 bus_longer base old new step (Err e) h s = rw s.0 h
 
-pub bus_serves : (base nodes : ℕ) (lanes : List Lane) (old new : CoreData) (step : Step) (r : Result Unit Hold) → InOrder nodes lanes → AllServe base old.log lanes → IsStepped old Bus step r new → AllServe base new.log lanes
+pub bus_serves : (base nodes : ℕ) (lanes : List Lane) (old new : CoreData) (step : Step) (r : Result Unit Hold) → AreInPortOrder nodes lanes → AllServe base old.log lanes → IsStepped old Bus step r new → AllServe base new.log lanes
 bus_serves base nodes lanes old new step (Ok u) order all s i l at =
-    rw s.0 (serves_other base old.log (answered old Bus step) l (λ q. port_at-no_bus nodes i (sym (order i l at) ∙ sym q)) (all i l at))
+    rw s.0 (serves_other base old.log (entry_with_reply old Bus step) l (λ q. port_at-no_bus nodes i (sym (order i l at) ∙ sym q)) (all i l at))
 bus_serves base nodes lanes old new step (Err e) order all s i l at = rw s.0 (all i l at)
 
 pub bus_own : (base : ℕ) (old new : CoreData) (step : Step) (r : Result Unit Hold) → base ≤ length old.log → OnlyOwn (drop base old.log) → IsStepped old Bus step r new → OnlyOwn (drop base new.log)
-bus_own base old new step (Ok u) h own s = rw s.0 (own_more base old.log (answered old Bus step) h refl own)
+bus_own base old new step (Ok u) h own s = rw s.0 (own_more base old.log (entry_with_reply old Bus step) h refl own)
 bus_own base old new step (Err e) h own s = rw s.0 own
 
 pub bus_alike : (old new : CoreData) (step : Step) (r : Result Unit Hold) → IsStepped old Bus step r new → IsAlike old new
@@ -146,7 +146,7 @@ bus_alike old new step (Ok u) s = s.1
 bus_alike old new step (Err e) s = s.2
 
 pub bus_prefix : (old new : CoreData) (step : Step) (r : Result Unit Hold) → IsStepped old Bus step r new → IsPrefix old.log new.log
-bus_prefix old new step (Ok u) s = (answered old Bus step ∷ [], sym s.0)
+bus_prefix old new step (Ok u) s = (entry_with_reply old Bus step ∷ [], sym s.0)
 bus_prefix old new step (Err e) s = ([], append-nil old.log ∙ sym s.0)
 
 -- one more lane was told its notes

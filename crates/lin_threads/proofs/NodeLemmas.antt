@@ -2,7 +2,7 @@
 use Rattle.std.proofs.Common.{◌≡◌, ◌≤◌, ◌+◌, inl, inr, ℕ, List, [], ◌∷◌, ◌++◌, map, length, length-append, MatchBool, Bool, true, false, cond, Option, Some, None, refl, sym, ap, ◌∙◌, append_assoc, append-nil, arith}
 use Rattle.std.proofs.lemmas.List.{map-append}
 use Rattle.std.proofs.lemmas.List.Sums.{sum_by-append}
-use Rattle.lin_threads.specs.Ports.{by_node_port, node_put, node_ring, node_took, node_wiring, size_of}
+use Rattle.lin_threads.specs.Ports.{by_node_port, node_put, node_ring, node_took, node_wiring, ring_size}
 use Rattle.std.specs.Global.{Vec}
 use Rattle.std.specs.declared.thread.PromisedHandle.{PromisedHandle}
 use Rattle.lin_threads.specs.Settled.{SameReceipt}
@@ -10,7 +10,7 @@ use Rattle.lin_threads.specs.declared.ports.node_port.NodePort.{NodePort}
 use Rattle.lin_threads.specs.declared.ports.Receipt.{Receipt}
 use Rattle.lin_threads.specs.declared.ports.steps.NodeStep.{NodeStep}
 use Rattle.lin_threads.specs.declared.ports.steps.Note.{Note}
-use Rattle.lin_threads.specs.Nodes.{AreStepsIn, FollowsList, IsByList, PutsUnlessFull, dues, is_due, node_lists, step_in}
+use Rattle.lin_threads.specs.Nodes.{AreStepsIn, FollowsList, IsByList, PutsUnlessFull, dues, is_due_note, node_lists, step_in}
 use Rattle.lin_threads.specs.Started.{all_lists, list_lent}
 use Rattle.lin_threads.specs.declared.starting.Finished.{Finished}
 use Rattle.lin_threads.specs.declared.starting.Keeps.{Keeps}
@@ -23,7 +23,7 @@ same_number : (p q : NodePort) → node_wiring q ≡ node_wiring p → q.number 
 same_number p q h = (let port = ap (λ w. w.port) h in cc)
 
 same_ring : (p q : NodePort) → node_wiring q ≡ node_wiring p → node_ring q ≡ node_ring p
-same_ring p q h = ap (λ w. size_of w.steps) h
+same_ring p q h = ap (λ w. ring_size w.steps) h
 
 -- a port that was tried before, and nothing put into it
 pub put_once : (p q r : NodePort) (step : NodeStep) → node_wiring q ≡ node_wiring p → node_put q ≡ node_put p → node_put r ≡ node_put q ++ by_node_port q step ∷ [] → PutsUnlessFull step p r
@@ -53,10 +53,10 @@ follows_refl leave port = record {
 }
 
 dues-more : (notes : List Note) (n : Note) → dues (notes ++ n ∷ []) ≡ dues notes + dues (n ∷ [])
-dues-more notes n = sum_by-append (λ m. cond (is_due m) 1 0) notes (n ∷ [])
+dues-more notes n = sum_by-append (λ m. cond (is_due_note m) 1 0) notes (n ∷ [])
 
 pub due_at_most : (n : Note) → dues (n ∷ []) ≤ 1
-due_at_most n = due_or_not (is_due n)
+due_at_most n = due_or_not (is_due_note n)
   where
     due_or_not : (b : Bool) → 0 + cond b 1 0 ≤ 1
     due_or_not true = omega arith
@@ -79,7 +79,7 @@ abbrev pub PutsFor : Bool → NodeStep → NodePort → NodePort → Type 0
 PutsFor due step p q = MatchBool due (PutsUnlessFull step p q) (node_put q ≡ node_put p)
 
 -- one more note was taken, and for a due its step was put, or nothing
-pub follows_note : (leave : List ℕ) (count : ℕ) (port p q r : NodePort) (n : Note) (due : Bool) → is_due n ≡ due → node_wiring q ≡ node_wiring port → node_put q ≡ node_put p
+pub follows_note : (leave : List ℕ) (count : ℕ) (port p q r : NodePort) (n : Note) (due : Bool) → is_due_note n ≡ due → node_wiring q ≡ node_wiring port → node_put q ≡ node_put p
     → node_took q ≡ node_took p ++ n ∷ [] → PutsFor due (step_in leave count) q r → node_took r ≡ node_took q → FollowsList leave count port (node_state p)
     → FollowsList leave (count + dues (n ∷ [])) port (node_state r)
 follows_note leave count port p q r n false is same kept took put after h =

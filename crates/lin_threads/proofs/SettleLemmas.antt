@@ -5,7 +5,7 @@ use Rattle.std.proofs.lemmas.List.{map-append, length-map, drop-append-le}
 use mathlib.Core.List.{IsPrefix}
 use Rattle.std.proofs.lemmas.Option.{slice_get_within}
 use Rattle.lin_parts.specs.Cluster.{nodes}
-use Rattle.lin_core.specs.Core.{CoreData, answered, IsHistory, IsStepped}
+use Rattle.lin_core.specs.Core.{CoreData, entry_with_reply, IsHistory, IsStepped}
 use Rattle.lin_parts.specs.Sound.{IsSound}
 use Rattle.lin_core.specs.declared.hold.Hold.{Hold}
 use Rattle.lin_core.specs.declared.log.LogEntry.{LogEntry}
@@ -16,7 +16,7 @@ use Rattle.lin_threads.specs.declared.ports.lane.Lane.{Lane}
 use Rattle.lin_threads.specs.declared.ports.Receipt.{Receipt}
 use Rattle.lin_threads.specs.Steps.{notes, port_at}
 use Rattle.lin_threads.specs.Ports.{Wiring, receipt_wiring, receipt_id, receipt_took}
-use Rattle.lin_threads.specs.Lanes.{given_in, SameLane, InOrder, Serves, Served, lane_wiring, port_of}
+use Rattle.lin_threads.specs.Lanes.{given_in, SameLane, AreInPortOrder, Serves, Served, lane_wiring, port_of}
 use Rattle.lin_threads.specs.Settled.{IsPassedOver, IsSettledIn, KeptLane, LaneSettles, Settles, StaysSettled, TookOnlyNotes}
 use Rattle.lin_threads.specs.declared.ports.settling.Settled.{Settled}
 use Rattle.lin_threads.specs.declared.ports.settling.Settled.TheVariants.{Whole, Left}
@@ -69,12 +69,12 @@ settled_lanes es lanes lanes' r passed s = record { passed = passed; whole = s.w
 
 served_other : {E : Type 0} (base : ℕ) (port : PortId) (old new : CoreData) (res : Result Bool E) (lanes lanes' : List Lane) (r : Receipt) → base ≤ length old.log → Served port old new res
     → port ≢ receipt_id r → IsPassedOver lanes' (receipt_wiring r) → IsSettledIn (drop base old.log) lanes r → IsSettledIn (drop base new.log) lanes' r
-served_other base port old new (Ok true) lanes lanes' r h k other passed s = rw k.log (settled_other base old.log (answered old port k.step) lanes lanes' r h other passed s)
+served_other base port old new (Ok true) lanes lanes' r h k other passed s = rw k.log (settled_other base old.log (entry_with_reply old port k.step) lanes lanes' r h other passed s)
 served_other base port old new (Ok false) lanes lanes' r h k other passed s = rw k (settled_lanes (drop base old.log) lanes lanes' r passed s)
 served_other base port old new (Err e) lanes lanes' r h k other passed s = rw k (settled_lanes (drop base old.log) lanes lanes' r passed s)
 
 -- one lane was served: the log has nothing more of it where it is settled
-pub served_settled : {E : Type 0} (base nodes i : ℕ) (lanes : List Lane) (old lane : Lane) (core core' : CoreData) (res : Result Bool E) (r : Receipt) → base ≤ length core.log → InOrder nodes lanes
+pub served_settled : {E : Type 0} (base nodes i : ℕ) (lanes : List Lane) (old lane : Lane) (core core' : CoreData) (res : Result Bool E) (r : Receipt) → base ≤ length core.log → AreInPortOrder nodes lanes
     → slice_get lanes i ≡ Some old → SameLane old lane → Served (port_of old) core core' res → (old.settled ≡ true → core'.log ≡ core.log)
     → IsSettledIn (drop base core.log) lanes r → IsSettledIn (drop base core'.log) (slice_set lanes i lane) r
 served_settled base nodes i lanes old lane core core' res r h order at same k still s =
@@ -89,7 +89,7 @@ served_settled base nodes i lanes old lane core core' res r h order at same k st
     ]
 
 -- a port that is passed over is told nothing more, whichever lane is told
-pub settled_given : (nodes i : ℕ) (lanes : List Lane) (old lane : Lane) (w : Wiring) → InOrder nodes lanes → slice_get lanes i ≡ Some old → SameLane old lane → (old.settled ≡ true → sent lane.notes ≡ sent old.notes)
+pub settled_given : (nodes i : ℕ) (lanes : List Lane) (old lane : Lane) (w : Wiring) → AreInPortOrder nodes lanes → slice_get lanes i ≡ Some old → SameLane old lane → (old.settled ≡ true → sent lane.notes ≡ sent old.notes)
     → IsPassedOver lanes w → given_in w.port (slice_set lanes i lane) ≡ given_in w.port lanes
 settled_given nodes i lanes old lane w order at same still h = elim (slice_get-kept lanes i lane h.0 h.1 h.2) [
   | inl e ↦ let found : Some h.1 ≡ Some old = sym h.2 ∙ ap (slice_get lanes) e ∙ at in
@@ -103,11 +103,11 @@ pub stays_trans : (a b c : Pump) → StaysSettled a b → StaysSettled b c → S
 stays_trans a b c h k r s = let p = h r s in let q = k r p.0 in (q.0, q.1 ∙ p.1)
 
 -- a step of the bus
-pub bus_settled : (base nodes : ℕ) (lanes : List Lane) (old new : CoreData) (step : Step) (res : Result Unit Hold) (r : Receipt) → base ≤ length old.log → InOrder nodes lanes → IsStepped old Bus step res new
+pub bus_settled : (base nodes : ℕ) (lanes : List Lane) (old new : CoreData) (step : Step) (res : Result Unit Hold) (r : Receipt) → base ≤ length old.log → AreInPortOrder nodes lanes → IsStepped old Bus step res new
     → IsSettledIn (drop base old.log) lanes r → IsSettledIn (drop base new.log) lanes r
 bus_settled base nodes lanes old new step (Ok u) r h order k s =
     let p = s.passed in
-    rw k.0 (settled_other base old.log (answered old Bus step) lanes lanes r h (λ q. port_at-no_bus nodes p.0 (sym (order p.0 p.1 p.2) ∙ ap (λ w. w.port) p.3 ∙ sym q)) s.passed s)
+    rw k.0 (settled_other base old.log (entry_with_reply old Bus step) lanes lanes r h (λ q. port_at-no_bus nodes p.0 (sym (order p.0 p.1 p.2) ∙ ap (λ w. w.port) p.3 ∙ sym q)) s.passed s)
 bus_settled base nodes lanes old new step (Err e) r h order k s = rw k.0 s
 
 pub kept_same : (a b : Lane) → KeptLane a b → SameLane a b

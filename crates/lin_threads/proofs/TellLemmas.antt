@@ -7,7 +7,7 @@ use Rattle.std.proofs.lemmas.List.Elements.{filter-append}
 use Rattle.std.proofs.lemmas.Option.{slice_get_within}
 use Rattle.rtrb.specs.Ring.{sent, SameProducer}
 use mathlib.Core.List.{IsPrefix}
-use Rattle.lin_threads.specs.Ports.{ring_into, size_of}
+use Rattle.lin_threads.specs.Ports.{ring_into, ring_size}
 use Rattle.lin_core.specs.declared.log.LogEntry.{LogEntry}
 use Rattle.lin_core.specs.declared.event.Event.{Event}
 use Rattle.lin_core.specs.declared.port.PortId.{PortId}
@@ -18,7 +18,7 @@ use Rattle.lin_threads.specs.declared.ports.lane.Lane.{Lane}
 use Rattle.lin_threads.specs.declared.ports.steps.Note.{Note}
 use Rattle.lin_threads.specs.declared.ports.steps.Note.TheVariants as note
 use Rattle.lin_threads.specs.Steps.{same_port, is_note_for, event_notes, reply_notes, notes_in, notes, part_notes, first_notes, notes_told}
-use Rattle.lin_threads.specs.Lanes.{HasNoRoom, IsTold, Serves, Tells, SameLane, lane_wiring, port_of}
+use Rattle.lin_threads.specs.Lanes.{HasNoRoom, IsTold, Serves, PushesNotes, SameLane, lane_wiring, port_of}
 use Rattle.lin_threads.proofs.PortLemmas.{into_same, notes-append}
 
 take-next : {X : Type 0} (xs : List X) (i : ℕ) (x : X) → slice_get xs i ≡ Some x → take (suc i) xs ≡ take i xs ++ x ∷ []
@@ -67,12 +67,12 @@ no_events : (port : PortId) (base seen part : ℕ) (log : List LogEntry) (e : Lo
     → notes_told port base seen part log ≡ notes (drop base (take seen log)) port
 no_events port base seen part log e r at is = rw (drop-next log seen e at, is) (append-nil (notes (drop base (take seen log)) port))
 
-pub same_wiring : (a b : Lane) (xs : List Note) → Tells a b xs → lane_wiring b ≡ lane_wiring a
+pub same_wiring : (a b : Lane) (xs : List Note) → PushesNotes a b xs → lane_wiring b ≡ lane_wiring a
 same_wiring a b xs t = rw (t.number, t.steps, t.ring) refl
 
 -- a lane that has looked at one more event
 pub serves_event : (base : ℕ) (log : List LogEntry) (e : LogEntry) (events : List Event) (x : Event) (a b : Lane) → Serves base log a → slice_get log a.seen ≡ Some e → e.reply ≡ Done events → slice_get events a.part ≡ Some x
-    → Tells a b (event_notes (port_of a) (x ∷ [])) → b.seen ≡ a.seen → b.part ≡ a.part + 1 → Serves base log b
+    → PushesNotes a b (event_notes (port_of a) (x ∷ [])) → b.seen ≡ a.seen → b.part ≡ a.part + 1 → Serves base log b
 serves_event base log e events x a b s at is here t seen part =
     let port : port_of b ≡ port_of a = rw (t.number, t.steps) refl in
     let lt = slice_get_within log a.seen e at in record {
@@ -87,7 +87,7 @@ serves_event base log e events x a b s at is here t seen part =
 -- a lane that goes on to the next entry, after these notes
 pub serves_next : (base : ℕ) (log : List LogEntry) (e : LogEntry) (a b : Lane) (xs : List Note) → Serves base log a → slice_get log a.seen ≡ Some e
     → notes_told (port_of a) base a.seen a.part log ++ xs ≡ notes (drop base (take a.seen log)) (port_of a) ++ notes_in (port_of a) e
-    → Tells a b xs → b.seen ≡ a.seen + 1 → b.part ≡ 0 → Serves base log b
+    → PushesNotes a b xs → b.seen ≡ a.seen + 1 → b.part ≡ 0 → Serves base log b
 serves_next base log e a b xs s at whole t seen part =
     let port : port_of b ≡ port_of a = rw (t.number, t.steps) refl in
     let lt = slice_get_within log a.seen e at in record {
@@ -101,17 +101,17 @@ serves_next base log e a b xs s at whole t seen part =
 
 -- after its last event
 pub serves_last : (base : ℕ) (log : List LogEntry) (e : LogEntry) (events : List Event) (a b : Lane) → Serves base log a → slice_get log a.seen ≡ Some e → e.reply ≡ Done events → length events ≤ a.part
-    → Tells a b [] → b.seen ≡ a.seen + 1 → b.part ≡ 0 → Serves base log b
+    → PushesNotes a b [] → b.seen ≡ a.seen + 1 → b.part ≡ 0 → Serves base log b
 serves_last base log e events a b s at is full t seen part =
     serves_next base log e a b [] s at (append-nil _ ∙ all_events (port_of a) base a.seen a.part log e events at is full) t seen part
 
 pub serves_refusal : (base : ℕ) (log : List LogEntry) (e : LogEntry) (r : Refusal) (own : Bool) (a b : Lane) → Serves base log a → slice_get log a.seen ≡ Some e → e.reply ≡ Refused r → same_port e.port (port_of a) ≡ own
-    → Tells a b (reply_notes (port_of a) own (Refused r)) → b.seen ≡ a.seen + 1 → b.part ≡ 0 → Serves base log b
+    → PushesNotes a b (reply_notes (port_of a) own (Refused r)) → b.seen ≡ a.seen + 1 → b.part ≡ 0 → Serves base log b
 serves_refusal base log e r own a b s at is mine t seen part =
     serves_next base log e a b (reply_notes (port_of a) own (Refused r)) s at (rw (no_events (port_of a) base a.seen a.part log e r at is, is, mine) refl) t seen part
 
 -- a lane that was told nothing
-pub serves_still : (base : ℕ) (log : List LogEntry) (a b : Lane) → Serves base log a → Tells a b [] → b.seen ≡ a.seen → b.part ≡ a.part → Serves base log b
+pub serves_still : (base : ℕ) (log : List LogEntry) (a b : Lane) → Serves base log a → PushesNotes a b [] → b.seen ≡ a.seen → b.part ≡ a.part → Serves base log b
 serves_still base log a b s t seen part =
     let port : port_of b ≡ port_of a = rw (t.number, t.steps) refl in record {
       steps = rw (port, t.number, t.steps) s.steps;
@@ -123,7 +123,7 @@ serves_still base log a b s t seen part =
     }
 
 -- a lane that only goes on
-pub tells_none : (a b : Lane) → b.number ≡ a.number → b.steps ≡ a.steps → b.notes ≡ a.notes → b.given ≡ a.given → b.settled ≡ a.settled → Tells a b []
+pub tells_none : (a b : Lane) → b.number ≡ a.number → b.steps ≡ a.steps → b.notes ≡ a.notes → b.given ≡ a.given → b.settled ≡ a.settled → PushesNotes a b []
 tells_none a b number steps notes_ given settled = record {
   number = number;
   steps = steps;
@@ -134,7 +134,7 @@ tells_none a b number steps notes_ given settled = record {
 }
 
 -- a note is pushed after a look for room
-pub tells_more : (a b c : Lane) (x : Note) → Tells a b [] → c.number ≡ b.number → c.steps ≡ b.steps → SameProducer b.notes c.notes → sent c.notes ≡ sent b.notes ++ x ∷ [] → c.given ≡ b.given + 1 → c.settled ≡ b.settled → Tells a c (x ∷ [])
+pub tells_more : (a b c : Lane) (x : Note) → PushesNotes a b [] → c.number ≡ b.number → c.steps ≡ b.steps → SameProducer b.notes c.notes → sent c.notes ≡ sent b.notes ++ x ∷ [] → c.given ≡ b.given + 1 → c.settled ≡ b.settled → PushesNotes a c (x ∷ [])
 tells_more a b c x t number steps ring more given settled = record {
   number = number ∙ t.number;
   steps = steps ∙ t.steps;
@@ -144,7 +144,7 @@ tells_more a b c x t number steps ring more given settled = record {
   settled = settled ∙ t.settled;
 }
 
-pub same_tells : (i a b : Lane) (xs : List Note) → SameLane i a → Tells a b xs → SameLane i b
+pub same_tells : (i a b : Lane) (xs : List Note) → SameLane i a → PushesNotes a b xs → SameLane i b
 same_tells i a b xs s t = record { wiring = same_wiring a b xs t ∙ s.wiring; settled = λ q. t.settled ∙ s.settled q }
 
 part_first : (port : PortId) (k : ℕ) (r : Reply) (own : Bool) → (rest : List Note) × (part_notes port k r ++ rest ≡ reply_notes port own r)
@@ -175,7 +175,7 @@ told_all base log lane s end =
     rw (s.notes, seen, drop-length log, take-length log, append-nil) refl
 
 -- a ring without room has taken as many notes, at least, as it takes
-told_full : (lane : Lane) → lane.given ≡ length (sent lane.notes) → HasNoRoom lane → size_of (ring_into lane.notes) ≤ length (sent lane.notes)
+told_full : (lane : Lane) → lane.given ≡ length (sent lane.notes) → HasNoRoom lane → ring_size (ring_into lane.notes) ≤ length (sent lane.notes)
 told_full lane given (inl none) = (let c = lane.notes.counts in let w = lane.notes.writes in omega arith)
 told_full lane given (inr many) = (let w = lane.notes.writes in omega arith)
 

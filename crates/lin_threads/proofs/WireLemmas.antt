@@ -8,7 +8,7 @@ use Rattle.lin_core.specs.declared.log.LogEntry.{LogEntry}
 use Rattle.lin_core.specs.declared.port.PortId.{PortId}
 use Rattle.lin_core.specs.declared.port.PortId.TheVariants.{Host, Node}
 use Rattle.lin_threads.specs.Steps.{port_at}
-use Rattle.lin_threads.specs.Lanes.{Serves, AllServe, InOrder, OnlyOwn}
+use Rattle.lin_threads.specs.Lanes.{Serves, AllServe, AreInPortOrder, OnlyOwn}
 use Rattle.lin_threads.specs.Wired.{Each, IsNewLane, AreNewLanes}
 use Rattle.lin_threads.specs.declared.ports.lane.Lane.{Lane}
 
@@ -56,7 +56,7 @@ new_serves log port lane f = record {
 pub new_serve : (nodes : ℕ) (log : List LogEntry) (lanes : List Lane) → AreNewLanes nodes (length log) lanes → AllServe (length log) log lanes
 new_serve nodes log lanes all i lane at = new_serves log (port_at nodes i) lane (all i lane at)
 
-pub new_order : (nodes start : ℕ) (lanes : List Lane) → AreNewLanes nodes start lanes → InOrder nodes lanes
+pub new_order : (nodes start : ℕ) (lanes : List Lane) → AreNewLanes nodes start lanes → AreInPortOrder nodes lanes
 new_order nodes start lanes all i lane at = (all i lane at).port
 
 pub own_none : (log : List LogEntry) → OnlyOwn (drop (length log) log)

@@ -4,7 +4,7 @@ use Rattle.std.specs.Prelude.{length, drop, Bool, true, false, if◌then◌else�
 use Rattle.std.specs.Prelude.{Result, Ok, Err}
 use Rattle.std.specs.List.{slice_get}
 use Rattle.rtrb.specs.Ring.{sent, received, known_free}
-use Rattle.lin_core.specs.Core.{CoreData, answered}
+use Rattle.lin_core.specs.Core.{CoreData, entry_with_reply}
 use Rattle.lin_core.specs.Replies.{may}
 use Rattle.lin_core.specs.declared.log.LogEntry.{LogEntry}
 use Rattle.lin_core.specs.declared.port.PortId.{PortId}
@@ -12,7 +12,7 @@ use Rattle.lin_core.specs.declared.port.PortId.TheVariants.{Host, Node}
 use Rattle.lin_core.specs.declared.step.Step.{Step}
 use Rattle.lin_threads.specs.Steps.{host_step, node_step, logged, notes, notes_told, port_at}
 use Rattle.lin_threads.specs.Steps.{same_port}
-use Rattle.lin_threads.specs.Ports.{RingId, Wiring, ring_into, ring_from, size_of}
+use Rattle.lin_threads.specs.Ports.{RingId, Wiring, ring_into, ring_from, ring_size}
 use Rattle.lin_threads.specs.declared.ports.incoming.Incoming.{Incoming}
 use Rattle.lin_threads.specs.declared.ports.incoming.Incoming.TheVariants as into
 use Rattle.lin_threads.specs.declared.ports.lane.Lane.{Lane}
@@ -64,14 +64,14 @@ pub record Serves (base : ℕ) (log : List LogEntry) (lane : Lane) : Type 0 wher
   pub given : lane.given ≡ length (sent lane.notes)
 
 -- one more entry: the core's answer to a step of the port, one that it may give
-pub record Adds (port : PortId) (old new : CoreData) : Type 0 where
+pub record AddsEntry (port : PortId) (old new : CoreData) : Type 0 where
   pub step : Step
   pub own : may port step ≡ true
-  pub log : new.log ≡ old.log ++ answered old port step ∷ []
+  pub log : new.log ≡ old.log ++ entry_with_reply old port step ∷ []
 
 -- one more entry where there was a step, and none otherwise
 abbrev pub Served : {E : Type 0} → PortId → CoreData → CoreData → Result Bool E → Type 0
-Served port old new (Ok b) = MatchBool b (Adds port old new) (new.log ≡ old.log)
+Served port old new (Ok b) = MatchBool b (AddsEntry port old new) (new.log ≡ old.log)
 Served port old new (Err e) = new.log ≡ old.log
 
 abbrev pub IsFullLog : RoundFault → Type 0
@@ -83,8 +83,8 @@ AllServe base log lanes =
     (i : ℕ) (lane : Lane) → slice_get lanes i ≡ Some lane → Serves base log lane
 
 -- the lanes stand in the order of their ports
-abbrev pub InOrder : ℕ → List Lane → Type 0
-InOrder nodes lanes =
+abbrev pub AreInPortOrder : ℕ → List Lane → Type 0
+AreInPortOrder nodes lanes =
     (i : ℕ) (lane : Lane) → slice_get lanes i ≡ Some lane → port_of lane ≡ port_at nodes i
 
 -- each of these entries is a step that its port may give: a host's own Sends, Writes and Closes,
@@ -108,7 +108,7 @@ abbrev pub IsTold : List LogEntry → Lane → Type 0
 IsTold es lane =
     (lane.settled ≡ true)
     ⊎ ((sent lane.notes ≡ notes es (port_of lane))
-    ⊎ (HasNoRoom lane × (size_of (ring_into lane.notes) ≤ length (sent lane.notes))))
+    ⊎ (HasNoRoom lane × (ring_size (ring_into lane.notes) ≤ length (sent lane.notes))))
 
 -- the same of each of the first lanes
 abbrev pub FirstTold : ℕ → List LogEntry → List Lane → Type 0
@@ -116,7 +116,7 @@ FirstTold count es lanes =
     (i : ℕ) (lane : Lane) → i < count → slice_get lanes i ≡ Some lane → IsTold es lane
 
 -- what it does to a lane to push these notes
-pub record Tells (a b : Lane) (xs : List Note) : Type 0 where
+pub record PushesNotes (a b : Lane) (xs : List Note) : Type 0 where
   pub number : b.number ≡ a.number
   pub steps : b.steps ≡ a.steps
   pub ring : ring_into b.notes ≡ ring_into a.notes
@@ -126,9 +126,9 @@ pub record Tells (a b : Lane) (xs : List Note) : Type 0 where
 
 -- whether an event was looked at, and its notes pushed
 abbrev pub TellsEvent : {E : Type 0} → Lane → Lane → List Note → Result Bool E → Type 0
-TellsEvent a b xs (Ok true) = Tells a b xs × (b.part ≡ a.part + 1)
-TellsEvent a b xs (Ok false) = Tells a b [] × (b.part ≡ a.part)
-TellsEvent a b xs (Err e) = Tells a b [] × (b.part ≡ a.part)
+TellsEvent a b xs (Ok true) = PushesNotes a b xs × (b.part ≡ a.part + 1)
+TellsEvent a b xs (Ok false) = PushesNotes a b [] × (b.part ≡ a.part)
+TellsEvent a b xs (Err e) = PushesNotes a b [] × (b.part ≡ a.part)
 
 -- whether the next entry comes
 abbrev pub GoesOn : {E : Type 0} → Lane → Lane → Result Bool E → Type 0

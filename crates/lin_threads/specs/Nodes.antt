@@ -20,12 +20,12 @@ abbrev pub step_in : List ℕ → ℕ → NodeStep
 step_in leave number = if list_any (λ n. n == number) leave then Leave else Answer
 
 -- whether a note says that the node is due, and how many of these notes do
-abbrev pub is_due : Note → Bool
-is_due (note.Event (event.Due n)) = true
-is_due n = false
+abbrev pub is_due_note : Note → Bool
+is_due_note (note.Event (event.Due n)) = true
+is_due_note n = false
 
 abbrev pub dues : List Note → ℕ
-dues notes = count_by is_due notes
+dues notes = count_by is_due_note notes
 
 -- these are steps for slots with numbers from one on and below another, in order and at most one
 -- for each

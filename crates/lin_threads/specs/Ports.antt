@@ -36,8 +36,8 @@ ring_from c =
     record { words = c.end.words; slots = c.end.slots; names = c.end.names; heap = c.end.heap }
 
 -- how many items a ring takes
-abbrev pub size_of : RingId → ℕ
-size_of ring = ring.names.0
+abbrev pub ring_size : RingId → ℕ
+ring_size ring = ring.names.0
 
 -- which port it is: whose, with its ring of steps and its ring of notes
 pub record Wiring : Type 0 where
@@ -53,7 +53,7 @@ host_wiring p =
     record { port = Host p.number; steps = ring_into p.steps; notes = ring_from p.notes }
 
 abbrev pub host_ring : HostPort → ℕ
-host_ring p = size_of (ring_into p.steps)
+host_ring p = ring_size (ring_into p.steps)
 
 abbrev pub by_port : HostPort → HostStep → Step
 by_port p step = host_step p.number step
@@ -73,7 +73,7 @@ node_wiring p =
     record { port = Node p.number; steps = ring_into p.steps; notes = ring_from p.notes }
 
 abbrev pub node_ring : NodePort → ℕ
-node_ring p = size_of (ring_into p.steps)
+node_ring p = ring_size (ring_into p.steps)
 
 abbrev pub by_node_port : NodePort → NodeStep → Step
 by_node_port p step = node_step p.number step

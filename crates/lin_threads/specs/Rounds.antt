@@ -1,7 +1,7 @@
 -- What a round adds to the log.
 use Rattle.std.specs.Prelude.{◌≡◌, ℕ, ◌≤◌, ◌+◌, true, List, [], ◌∷◌, ◌++◌, length}
 use Rattle.lin_parts.specs.Cluster.{nodes}
-use Rattle.lin_core.specs.Core.{CoreData, answered}
+use Rattle.lin_core.specs.Core.{CoreData, entry_with_reply}
 use Rattle.lin_core.specs.Replies.{may}
 use Rattle.lin_core.specs.declared.log.LogEntry.{LogEntry}
 use Rattle.lin_threads.specs.Steps.{port_at}
@@ -17,7 +17,7 @@ Rising core from to [] = from ≤ to
 Rising core from to (e ∷ es) =
     (i : ℕ)
     × (from ≤ i)
-    × (e ≡ answered core (port_at (nodes core.cluster) i) e.step)
+    × (e ≡ entry_with_reply core (port_at (nodes core.cluster) i) e.step)
     × (may e.port e.step ≡ true)
     × Rising (longer_by core e) (i + 1) to es
 

@@ -7,7 +7,7 @@ use Rattle.lin_core.specs.declared.port.PortId.TheVariants.{Host, Node}
 use Rattle.lin_threads.specs.Lanes.{steps_from_ring, port_of}
 use Rattle.lin_threads.specs.Steps.{port_at}
 use Rattle.lin_threads.specs.Ports.{host_wiring, host_ring, host_put, host_took, node_wiring}
-use Rattle.lin_threads.specs.Ports.{node_ring, node_put, node_took, size_of}
+use Rattle.lin_threads.specs.Ports.{node_ring, node_put, node_took, ring_size}
 use Rattle.lin_threads.specs.declared.ports.lane.Lane.{Lane}
 use Rattle.lin_threads.specs.declared.ports.host_port.HostPort.{HostPort}
 use Rattle.lin_threads.specs.declared.ports.node_port.NodePort.{NodePort}
@@ -35,19 +35,19 @@ AreNewLanes nodes start lanes = Each (λ i lane. IsNewLane start (port_at nodes 
 pub record IsNewHost (ring n : ℕ) (port : HostPort) : Type 0 where
   pub id : (host_wiring port).port ≡ Host n
   pub size : host_ring port ≡ ring
-  pub notes : size_of (host_wiring port).notes ≡ ring
+  pub notes : ring_size (host_wiring port).notes ≡ ring
   pub put : host_put port ≡ []
   pub took : host_took port ≡ []
 
 pub record IsNewNode (ring n : ℕ) (port : NodePort) : Type 0 where
   pub id : (node_wiring port).port ≡ Node n
   pub size : node_ring port ≡ ring
-  pub notes : size_of (node_wiring port).notes ≡ ring
+  pub notes : ring_size (node_wiring port).notes ≡ ring
   pub put : node_put port ≡ []
   pub took : node_took port ≡ []
 
-abbrev pub AreHosts : ℕ → ℕ → List HostPort → Type 0
-AreHosts ring count ports = (length ports ≡ count) × Each (λ n port. IsNewHost ring n port) ports
+abbrev pub AreHostPorts : ℕ → ℕ → List HostPort → Type 0
+AreHostPorts ring count ports = (length ports ≡ count) × Each (λ n port. IsNewHost ring n port) ports
 
-abbrev pub AreNodes : ℕ → ℕ → List NodePort → Type 0
-AreNodes ring count ports = (length ports ≡ count) × Each (λ n port. IsNewNode ring n port) ports
+abbrev pub AreNodePorts : ℕ → ℕ → List NodePort → Type 0
+AreNodePorts ring count ports = (length ports ≡ count) × Each (λ n port. IsNewNode ring n port) ports

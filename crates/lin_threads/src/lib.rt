@@ -21,12 +21,12 @@
 
 mod ending;
 mod hosts;
-mod nodes;
+mod node_threads;
 mod ports;
+mod run_slots;
 mod runs;
 mod script_task;
 mod shared;
-mod slots;
 mod splitting;
 mod starting;
 mod tasks;

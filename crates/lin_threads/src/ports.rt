@@ -6,10 +6,10 @@ mod incoming;
 mod lane;
 mod law;
 mod node_port;
+mod notifying;
 mod pump;
 mod settling;
 mod steps;
-mod telling;
 mod wiring;
 
 ghost use Rattle.std.specs.Prelude.{◌≡◌};

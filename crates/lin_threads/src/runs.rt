@@ -17,9 +17,9 @@ ghost use Rattle.lin_threads.specs.Runs.{Advances, bus_steps};
 
 use crate::ending::{make_last_rounds, settle_all};
 use crate::ports::{HostPort, NodePort, Pump, Receipt, RoundFault};
+use crate::run_slots::all_slots;
 use crate::shared::Shared;
-use crate::slots::all_slots;
-use crate::starting::{Handle, give_up, join_all, start_hosts, start_nodes};
+use crate::starting::{StartedThreads, give_up, join_all, start_hosts, start_nodes};
 use crate::tasks::HostTask;
 use lin_core::{Core, Hold};
 use std::alloc::{AllocError, Global};
@@ -123,7 +123,7 @@ fn drive<R: Threads + Wait + Copy + Send + 'static>(
     players: Players,
     plan: Plan,
     shared: &Arc<Shared, Global>,
-    threads: &mut Vec<Handle>,
+    threads: &mut Vec<StartedThreads>,
 ) -> Result<(), RunFault>
     requires tasks { vec_len players.tasks ≡ vec_len players.hosts }
     requires leave { vec_len plan.leave ≡ vec_len players.nodes }

@@ -11,7 +11,7 @@ ghost use Rattle.lin_threads.specs.Started.{lent, list_lent, all_lent, all_lists
 ghost use Rattle.lin_threads.specs.declared.runs.RunFault.TheVariants.{NoThread};
 
 use crate::hosts::run_task;
-use crate::nodes::run_node;
+use crate::node_threads::run_node;
 use crate::ports::{HostPort, NodePort, Receipt};
 use crate::runs::{Ended, RunFault};
 use crate::shared::Shared;
@@ -47,7 +47,7 @@ impl Promise<Finished> for Keeps {
 }
 
 /// The threads that were started, and what they share.
-pub(crate) type Handle = PromisedHandle<Finished, Keeps>;
+pub(crate) type StartedThreads = PromisedHandle<Finished, Keeps>;
 
 /// Starts the thread of a host.
 fn start_host<R: Threads + Wait + Copy + Send + 'static>(
@@ -56,7 +56,7 @@ fn start_host<R: Threads + Wait + Copy + Send + 'static>(
     task: Box<dyn HostTask + Send>,
     turns: u32,
     shared: Arc<Shared, Global>,
-) -> Result<Handle, RunFault>
+) -> Result<StartedThreads, RunFault>
     ensures lent { IfOk result (λ h. lent h.promise ≡ host_state port) }
     ensures list { IfOk result (λ h. list_lent h.promise ≡ None) }
     ensures refused { IfErr result (λ e. e ≡ NoThread) }
@@ -82,7 +82,7 @@ fn start_node<R: Threads + Wait + Copy + Send + 'static>(
     port: NodePort,
     leave: Vec<u32>,
     shared: Arc<Shared, Global>,
-) -> Result<Handle, RunFault>
+) -> Result<StartedThreads, RunFault>
     ensures lent { IfOk result (λ h. lent h.promise ≡ node_state port) }
     ensures list { IfOk result (λ h. list_lent h.promise ≡ Some (port, leave.items)) }
     ensures refused { IfErr result (λ e. e ≡ NoThread) }
@@ -117,7 +117,7 @@ fn another(shared: &Arc<Shared, Global>) -> Result<Arc<Shared, Global>, RunFault
 /// Starts the threads of hosts.
 pub(crate) fn start_hosts<R: Threads + Wait + Copy + Send + 'static>(
     rt: &R,
-    started: &mut Vec<Handle>,
+    started: &mut Vec<StartedThreads>,
     ports: Vec<HostPort>,
     tasks: Vec<Box<dyn HostTask + Send>>,
     turns: u32,
@@ -146,7 +146,7 @@ pub(crate) fn start_hosts<R: Threads + Wait + Copy + Send + 'static>(
 /// Starts the threads of nodes.
 pub(crate) fn start_nodes<R: Threads + Wait + Copy + Send + 'static>(
     rt: &R,
-    started: &mut Vec<Handle>,
+    started: &mut Vec<StartedThreads>,
     ports: Vec<NodePort>,
     leave: Vec<Vec<u32>>,
     shared: &Arc<Shared, Global>,
@@ -173,7 +173,7 @@ pub(crate) fn start_nodes<R: Threads + Wait + Copy + Send + 'static>(
 /// Joins the threads in order.
 pub(crate) fn join_all(
     rt: &impl Threads,
-    started: Vec<Handle>,
+    started: Vec<StartedThreads>,
     receipts: &mut Vec<Receipt>,
     ended: &mut Vec<Ended>,
 )
@@ -193,7 +193,7 @@ pub(crate) fn join_all(
 }
 
 /// Joins the threads of a run that ended early.
-pub(crate) fn give_up(rt: &impl Threads, started: Vec<Handle>) {
+pub(crate) fn give_up(rt: &impl Threads, started: Vec<StartedThreads>) {
     for handle in started {
         handle.join(rt);
     }

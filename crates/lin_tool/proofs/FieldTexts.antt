@@ -14,18 +14,18 @@ use Rattle.lin_cluster.specs.Described.{parts_of}
 use Rattle.lin_cluster.specs.SlotTimes.{slot_need, NoSlotIsShort}
 use Rattle.lin_field.specs.Bytes.{field_bytes}
 use Rattle.lin_field.specs.Checks.{remark, remarks, IsFieldFree}
-use Rattle.lin_field.specs.Describes.{Reads}
+use Rattle.lin_field.specs.Describes.{ReadsFieldText}
 use Rattle.lin_field.specs.Plain.{plain_data, plain_text}
-use Rattle.lin_field.specs.declared.checking.Checked.{Checked}
-use Rattle.lin_field.specs.declared.checking.Remark.{Remark}
-use Rattle.lin_field.specs.declared.reading.FieldText.{FieldText}
-use Rattle.lin_field.specs.declared.settling.Settled.{Settled}
+use Rattle.lin_field.specs.declared.field_check.Checked.{Checked}
+use Rattle.lin_field.specs.declared.field_check.Remark.{Remark}
+use Rattle.lin_field.specs.declared.field_text.FieldText.{FieldText}
+use Rattle.lin_field.specs.declared.normalizing.Normalized.{Normalized}
 use Rattle.lin_field.proofs.Mended.{marks_blanked}
 use Rattle.lin_text.specs.Written.{WritesText}
 use Rattle.lin_text.specs.declared.fault.WriteFailed.{WriteFailed}
-use Rattle.lin_tool.specs.Clusters.{Tells}
+use Rattle.lin_tool.specs.Clusters.{IsParseFault}
 use Rattle.lin_parts.specs.declared.description.Description.{Description}
-use Rattle.lin_parts.specs.Configured.{configured, entry_with, line_with, table_with}
+use Rattle.lin_parts.specs.Configured.{with_configuration, entry_with, line_with, table_with}
 use Rattle.lin_parts.specs.declared.parts.Entry.{Entry}
 use Rattle.lin_parts.specs.declared.parts.Entry.TheVariants.{Frame, Sporadic, Event, MasterReq, SlaveResp, Fixed, Quiet}
 use Rattle.lin_parts.specs.declared.parts.Identity.{Identity}
@@ -35,12 +35,12 @@ use Rattle.lin_parts.specs.declared.parts.Table.{Table}
 use Rattle.lin_parts.proofs.Configuring.{changed-all}
 use Rattle.lin_values.specs.Configuring.{configured_by, identities_by, identities_in, requests_in, section_requests, warnings_by}
 use Rattle.lin_values.specs.Statements.{statements}
-use Rattle.lin_tool.specs.Coding.{coded_read, configured_read, configuring_told, linted, sections_read, AreWarnings}
-use Rattle.lin_tool.specs.Field.{AnswersChecked, AnswersField, AnswersSettled, CheckFaults, FieldSays, IsChecked, IsReadOver, IsSettled, IsWrittenPlain, ReadFaults, WritesPlain}
+use Rattle.lin_tool.specs.Coding.{coded_read, configured_read, configuring_told, with_lints, sections_read, AreWarnings}
+use Rattle.lin_tool.specs.Field.{AnswersChecked, AnswersField, AnswersNormalized, CheckFaults, FieldSays, IsChecked, IsReadOver, IsNormalized, IsWrittenPlain, ReadFaults, WritesPlain}
 use Rattle.lin_tool.specs.Reading.{AnswersReading}
 use Rattle.lin_tool.specs.declared.coding.Described.{Described}
 use Rattle.lin_tool.specs.declared.coding.Extras.{Extras}
-use Rattle.lin_tool.specs.declared.coding.Sections.{Sections}
+use Rattle.lin_tool.specs.declared.coding.ExtraSections.{ExtraSections}
 use Rattle.lin_tool.specs.declared.describing.Reading.{Reading}
 use Rattle.lin_tool.specs.declared.describing.Reading.TheVariants.{Plain, Field}
 use Rattle.lin_tool.specs.declared.fault.Fault.{Fault}
@@ -50,10 +50,10 @@ use Rattle.lin_tool.proofs.Texts.{answers_unread, answers_untold}
 use Rattle.lin_tool.proofs.Warned.{remarked, reordered}
 
 -- what the program's fault says of the text
-pub tells_field : (text left : List ℕ) (told : Fault) (fault : LdfFault) → Tells told fault
-    → ((t : FieldText) → Reads text t → fault ≡ ldf.OutOfMemory)
+pub tells_field : (text left : List ℕ) (told : Fault) (fault : LdfFault) → IsParseFault told fault
+    → ((t : FieldText) → ReadsFieldText text t → fault ≡ ldf.OutOfMemory)
     → ((e : LdfFault) → IsLexFault (field_bytes text) e → e ≢ ldf.OutOfMemory → (fault ≡ e) ⊎ (fault ≡ ldf.OutOfMemory))
-    → AnswersSettled (Err told) text left
+    → AnswersNormalized (Err told) text left
 tells_field text left (Ldf f) fault (same, some) only first = record {
   some = λ memory. some (sym same ∙ memory);
   nothing = λ t h. some (only t h);
@@ -64,20 +64,20 @@ tells_field text left _ fault h only first = absurd h
 
 -- why a text isn't settled is why a reader of it gives no cluster
 pub unsettled : (x : Extras) (fault : Fault) (text left : List ℕ) (warned : List Remark) (told : Option (List ℕ)) → IfSome told (λ bytes. text ≡ bytes)
-    → length text ≤ 4194304 → AnswersSettled (Err fault) text left → AnswersField x (Err fault) warned told
+    → length text ≤ 4194304 → AnswersNormalized (Err fault) text left → AnswersField x (Err fault) warned told
 unsettled x (Ldf f) text left warned told is short h = (text, is, short, h)
 unsettled x OutOfMemory text left warned told is short h = tt
 unsettled x _ text left warned told is short h = absurd h
 
 -- what is answered to what a text is settled to, where nothing is wrong and its cluster is this one, with the requests of the commands
-pub described_answer : (x : Extras) (s : Settled) (checked : Checked) (k : Sections) (ts : List Symbol) (c : Parts) (words odd rs : List Remark) (r : Result Described Fault) (warned : List Remark)
+pub described_answer : (x : Extras) (s : Normalized) (checked : Checked) (k : ExtraSections) (ts : List Symbol) (c : Parts) (words odd rs : List Remark) (r : Result Described Fault) (warned : List Remark)
     → IsChecked s checked → IsPermutation (checked.warnings ++ map (remark true) k.found) words
-    → IsPermutation (linted s.description s.placed_elsewhere k.configurables k.codings words) odd
+    → IsPermutation (with_lints s.description s.placed_elsewhere k.configurables k.codings words) odd
     → c ≡ configured_read x.is_configured checked.cluster ts → IsPermutation (odd ++ map (remark true) (configuring_told x.is_configured checked.cluster ts)) rs
     → IfOk r (λ d. d.cluster ≡ c) → IfOk r (λ d. d.coded ≡ coded_read x.encodings d.cluster k.codings)
     → IfOk r (λ d. AreWarnings x.encodings d.cluster k.codings rs warned) → IfErr r (λ fault. fault ≡ OutOfMemory) → AnswersChecked x s k ts r warned
 described_answer x s checked k ts c words odd rs (Ok d) warned is joined are sends told cluster coded warnings memory =
-    let found : List Remark = linted s.description s.placed_elsewhere k.configurables k.codings (remarks s ++ map (remark true) k.found) in
+    let found : List Remark = with_lints s.description s.placed_elsewhere k.configurables k.codings (remarks s ++ map (remark true) k.found) in
     let commands : List Remark = map (remark true) (configuring_told x.is_configured (parts_of s.description) ts) in
     let behind : IsPermutation (odd ++ commands) rs =
     subst (λ p. IsPermutation (odd ++ map (remark true) (configuring_told x.is_configured p ts)) rs) is.said told in
@@ -104,27 +104,27 @@ same_told : (b : Bool) (c : Parts) (ts us : List Symbol) → (b ≡ true → ts 
 same_told true c ts us same = ap (warnings_by c) (same refl)
 same_told false c ts us same = refl
 
-pub resent : (x : Extras) (s : Settled) (k : Sections) (ts us : List Symbol) (r : Result Described Fault) (warned : List Remark)
+pub resent : (x : Extras) (s : Normalized) (k : ExtraSections) (ts us : List Symbol) (r : Result Described Fault) (warned : List Remark)
     → (x.is_configured ≡ true → ts ≡ us) → AnswersChecked x s k ts r warned → AnswersChecked x s k us r warned
 resent x s k ts us (Ok d) warned same h = record {
   free = h.free;
   sends = h.sends ∙ same_sent x.is_configured (parts_of s.description) ts us same;
   coded = h.coded;
   warnings = subst (λ fs. AreWarnings x.encodings d.cluster k.codings
-      (linted s.description s.placed_elsewhere k.configurables k.codings (remarks s ++ map (remark true) k.found) ++ map (remark true) fs) warned)
+      (with_lints s.description s.placed_elsewhere k.configurables k.codings (remarks s ++ map (remark true) k.found) ++ map (remark true) fs) warned)
       (same_told x.is_configured (parts_of s.description) ts us same) h.warnings;
 }
 resent x s k ts us (Err fault) warned same h = h
 
 -- what the bytes that are left say is what the text says
-pub field_says : (x : Extras) (text left : List ℕ) (d : Description) (k : Sections) → IsReadOver text left
+pub field_says : (x : Extras) (text left : List ℕ) (d : Description) (k : ExtraSections) → IsReadOver text left
     → k ≡ sections_read true x d (symbols_in left (start_of left).tokens) → FieldSays x text d k (symbols_in left (start_of left).tokens)
 field_says x text left d k (ts, are, is) says =
     (ts, are, (ap (λ bytes. symbols_in bytes (start_of bytes).tokens) is ∙ marks_blanked (field_bytes text) ts are, says))
 
 -- and what is answered to what it is settled to
-pub checked : (x : Extras) (r : Result Described Fault) (text left given : List ℕ) (s : Settled) (k : Sections) (warned : List Remark) (told : Option (List ℕ))
-    → IfSome told (λ bytes. text ≡ bytes) → length text ≤ 4194304 → IsSettled text s × IsReadOver text left
+pub checked : (x : Extras) (r : Result Described Fault) (text left given : List ℕ) (s : Normalized) (k : ExtraSections) (warned : List Remark) (told : Option (List ℕ))
+    → IfSome told (λ bytes. text ≡ bytes) → length text ≤ 4194304 → IsNormalized text s × IsReadOver text left
     → k ≡ sections_read true x s.description (symbols_in left (start_of left).tokens) → (x.is_configured ≡ true → given ≡ left)
     → AnswersChecked x s k (symbols_in given (start_of given).tokens) r warned → AnswersField x r warned told
 checked x (Ok d) text left given s k warned told is short (settled, over) says same h =
@@ -157,7 +157,7 @@ pub all_lent : (n : ℕ) (xs ys : List ℕ) → length xs ≡ n → take n (xs +
 all_lent n xs ys long = ap (λ k. take k (xs ++ ys)) (sym long) ∙ take-append_seam xs ys
 
 -- of what is wrong no plain text is written
-pub plain_unchecked : (old new : Option (List ℕ)) (fault : Fault) (text : List ℕ) (s : Settled) → IsSettled text s → CheckFaults fault s
+pub plain_unchecked : (old new : Option (List ℕ)) (fault : Fault) (text : List ℕ) (s : Normalized) → IsNormalized text s → CheckFaults fault s
     → WritesPlain old new (Err fault) text
 plain_unchecked old new (Remarks found) text s settled h = (s, settled, h)
 plain_unchecked old new OutOfMemory text s settled h = tt
@@ -165,14 +165,14 @@ plain_unchecked old new _ text s settled h = absurd h
 
 -- the plain text was written, or a beginning of it
 -- (what the writer answered, and the bytes that it read, by other names)
-renamed : (old new : Option (List ℕ)) (s : Settled) (l left : List ℕ) → l ≡ left → (r q : Result Unit WriteFailed) → r ≡ q
+renamed : (old new : Option (List ℕ)) (s : Normalized) (l left : List ℕ) → l ≡ left → (r q : Result Unit WriteFailed) → r ≡ q
     → ((ts : List Token) → AreTokens l ts → WritesText {E = WriteFailed} old new r (plain_text (plain_data s.header s.description l ts)))
     → (ts : List Token) → AreTokens left ts → WritesText {E = WriteFailed} old new q (plain_text (plain_data s.header s.description left ts))
 renamed old new s l left same r q is h =
     subst (λ k. (ts : List Token) → AreTokens k ts → WritesText {E = WriteFailed} old new q (plain_text (plain_data s.header s.description k ts))) same
     (subst (λ p. (ts : List Token) → AreTokens l ts → WritesText {E = WriteFailed} old new p (plain_text (plain_data s.header s.description l ts))) is h)
 
-pub plain_done : (old new : Option (List ℕ)) (text left : List ℕ) (s : Settled) → IsSettled text s → IsReadOver text left → IsFieldFree s
+pub plain_done : (old new : Option (List ℕ)) (text left : List ℕ) (s : Normalized) → IsNormalized text s → IsReadOver text left → IsFieldFree s
     → (l : List ℕ) → l ≡ left → (r : Result Unit WriteFailed) → r ≡ Ok tt
     → ((ts : List Token) → AreTokens l ts → WritesText {E = WriteFailed} old new r (plain_text (plain_data s.header s.description l ts)))
     → IsWrittenPlain old new (Ok tt) text
@@ -186,7 +186,7 @@ plain_done old new text left s settled over free l same r is h = record {
       record { part = k.part; rest = k.rest; written = k.written; whole = k.whole; all = k.all };
 }
 
-pub plain_begun : (old new : Option (List ℕ)) (text left : List ℕ) (s : Settled) (failed : WriteFailed) → IsSettled text s → IsReadOver text left → IsFieldFree s
+pub plain_begun : (old new : Option (List ℕ)) (text left : List ℕ) (s : Normalized) (failed : WriteFailed) → IsNormalized text s → IsReadOver text left → IsFieldFree s
     → (l : List ℕ) → l ≡ left → (r : Result Unit WriteFailed) → r ≡ Err failed
     → ((ts : List Token) → AreTokens l ts → WritesText {E = WriteFailed} old new r (plain_text (plain_data s.header s.description l ts)))
     → IsWrittenPlain old new (Err fault.WriteFailed) text
@@ -213,7 +213,7 @@ reading_unread Plain x fault warned told h = answers_unread x fault warned told 
 reading_unread Field x fault warned told h = field_unread x fault warned told h
 
 -- the slot of a request is as long as the silent one was
-long_same : (c : Parts) (is : List Identity) (rs : List (List (Option (List ℕ)))) (e : Entry) (n : ℕ) → slot_need c e ≤ n → slot_need (configured c is rs) e ≤ n
+long_same : (c : Parts) (is : List Identity) (rs : List (List (Option (List ℕ)))) (e : Entry) (n : ℕ) → slot_need c e ≤ n → slot_need (with_configuration c is rs) e ≤ n
 long_same c is rs (Frame f) n h = h
 long_same c is rs (Sporadic k) n h = h
 long_same c is rs (Event e) n h = h
@@ -223,7 +223,7 @@ long_same c is rs (Fixed request) n h = h
 long_same c is rs Quiet n h = h
 
 long_entry : (c : Parts) (is : List Identity) (rs : List (List (Option (List ℕ)))) (e : Entry) (o : Option (List ℕ)) (n : ℕ)
-    → slot_need (configured c is rs) e ≤ n → slot_need (configured c is rs) (entry_with e o) ≤ n
+    → slot_need (with_configuration c is rs) e ≤ n → slot_need (with_configuration c is rs) (entry_with e o) ≤ n
 long_entry c is rs (Frame f) o n h = h
 long_entry c is rs (Sporadic k) o n h = h
 long_entry c is rs (Event e) o n h = h
@@ -233,9 +233,9 @@ long_entry c is rs (Fixed request) o n h = h
 long_entry c is rs Quiet (Some request) n h = h
 long_entry c is rs Quiet None n h = h
 
-long_configured : (c : Parts) (is : List Identity) (rs : List (List (Option (List ℕ)))) → NoSlotIsShort c → NoSlotIsShort (configured c is rs)
+long_configured : (c : Parts) (is : List Identity) (rs : List (List (Option (List ℕ)))) → NoSlotIsShort c → NoSlotIsShort (with_configuration c is rs)
 long_configured c is rs long =
-    let d : Parts = configured c is rs in
+    let d : Parts = with_configuration c is rs in
     let P : Line → Type 0 = λ l. slot_need d l.entry ≤ l.delay_us in
     let Q : Table → Type 0 = λ t. All P t.lines in
     changed-all Q table_with (λ t os h. changed-all P line_with (λ l o g. long_entry c is rs l.entry o l.delay_us g) t.lines os h) c.tables rs

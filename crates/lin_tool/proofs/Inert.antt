@@ -33,16 +33,16 @@ use Rattle.lin_log.proofs.Items.{at-place, both, joined}
 use Rattle.lin_values.specs.Coded.{CodedData, RangeData, encoding_of, range_in}
 use Rattle.lin_values.specs.Shown.{decimal_shown, fraction, last_digits, sign}
 use Rattle.lin_values.specs.declared.decimals.Decimal.{Decimal}
-use Rattle.lin_values.specs.declared.items.CodingType.{CodingType}
-use Rattle.lin_values.specs.declared.items.Item.{Item}
-use Rattle.lin_values.specs.declared.items.Item.TheVariants.{Logical, Physical, Bcd, Ascii}
-use Rattle.lin_values.specs.declared.items.PlacedItem.{PlacedItem}
+use Rattle.lin_values.specs.declared.codings.CodingType.{CodingType}
+use Rattle.lin_values.specs.declared.codings.Item.{Item}
+use Rattle.lin_values.specs.declared.codings.Item.TheVariants.{Logical, Physical, Bcd, Ascii}
+use Rattle.lin_values.specs.declared.codings.PlacedItem.{PlacedItem}
 use Rattle.lin_values.proofs.Powers.{first-digit, rest-below}
 use Rattle.lin_bench.specs.Played.{is_unmet}
 use Rattle.lin_bench.specs.declared.got.Judgement.{Judgement}
 use Rattle.lin_tool.specs.Page.{DataAreInert, alone_line, cluster_lines, data_head, log_head, unmet_line}
-use Rattle.lin_tool.specs.PageFields.{escaped, field, guarded, guarded_byte, is_inert, is_plain, no_less}
-use Rattle.lin_tool.specs.PageMeanings.{coded_lines, item_lines, logical_line, meaning_lines, physical_line, range_line, type_lines}
+use Rattle.lin_tool.specs.PageFields.{page_byte, field, guarded_text, guarded_byte, is_inert, is_unescaped, no_less}
+use Rattle.lin_tool.specs.PageMeanings.{coded_lines, encoding_lines, logical_line, meaning_lines, physical_line, physical_range_line, type_lines}
 use Rattle.lin_tool.specs.Placing.{missed_line}
 
 abbrev are_inert : List (List ℕ) → Bool
@@ -123,18 +123,18 @@ shown-inert d =
     (more (decimal (d.digits / 10 ^ d.places)) (fraction d.places (d.digits % 10 ^ d.places)) (number-inert (d.digits / 10 ^ d.places))
     (fraction-inert d.places (d.digits % 10 ^ d.places) (rest-below d.places d.digits)))
 
-plain-inert : (b : ℕ) (t : Bool) → is_plain b ≡ t → is_inert (if t then b ∷ [] else 37 ∷ encode_upper (b ∷ [])) ≡ true
+plain-inert : (b : ℕ) (t : Bool) → is_unescaped b ≡ t → is_inert (if t then b ∷ [] else 37 ∷ encode_upper (b ∷ [])) ≡ true
 plain-inert b true h = let g : no_less b ≡ true = grind (arith, common_steps) in rw g refl
 plain-inert b false h = encoded-inert (b ∷ [])
 
 field-inert : (t : List ℕ) → is_inert (field t) ≡ true
-field-inert t = each escaped (λ b. plain-inert b (is_plain b) refl) t
+field-inert t = each page_byte (λ b. plain-inert b (is_unescaped b) refl) t
 
 guarded-by : (b : ℕ) (t : Bool) → (b == 60) ≡ t → is_inert (if t then codes "%3C" else b ∷ []) ≡ true
 guarded-by b true h = refl
 guarded-by b false h = let g : no_less b ≡ true = ap not h in rw g refl
 
-guarded-inert : (t : List ℕ) → is_inert (guarded t) ≡ true
+guarded-inert : (t : List ℕ) → is_inert (guarded_text t) ≡ true
 guarded-inert t = each guarded_byte (λ b. guarded-by b (b == 60) refl) t
 
 -- ---- what stands before the log
@@ -150,13 +150,13 @@ logical-inert s (Physical from to scale offset unit) = refl
 logical-inert s Bcd = refl
 logical-inert s Ascii = refl
 
-range-inert : (s : ℕ) (r : Option RangeData) → is_inert (range_line s r) ≡ true
+range-inert : (s : ℕ) (r : Option RangeData) → is_inert (physical_range_line s r) ≡ true
 range-inert s None = refl
 range-inert s (Some r) =
     line-inert (codes "physical" ∷ decimal s ∷ decimal r.min ∷ decimal r.max ∷ decimal_shown r.scale ∷ decimal_shown r.offset ∷ field r.unit ∷ [])
     (rw (number-inert s, number-inert r.min, number-inert r.max, shown-inert r.scale, shown-inert r.offset, field-inert r.unit) refl)
 
-items-inert : (s : ℕ) (items : List PlacedItem) → is_inert (item_lines s items) ≡ true
+items-inert : (s : ℕ) (items : List PlacedItem) → is_inert (encoding_lines s items) ≡ true
 items-inert s items =
     more (flat_map (λ (p : PlacedItem). logical_line s p.item) items) (flat_map (λ (p : PlacedItem). physical_line s p.item) items)
     (each (λ (p : PlacedItem). logical_line s p.item) (λ (p : PlacedItem). logical-inert s p.item) items)
@@ -276,10 +276,10 @@ unmet-inert named c log j =
 pub data-inert : DataAreInert
 data-inert named c k file log judgements =
     let unmet = flat_map (unmet_line named c log) judgements in
-    let before = data_head c file ++ guarded (cluster_lines c) in
+    let before = data_head c file ++ guarded_text (cluster_lines c) in
     let head = before ++ log_head c k in
     more (head ++ text log) unmet
     (more head (text log)
-    (more before (log_head c k) (more (data_head c file) (guarded (cluster_lines c)) (head-inert c file) (guarded-inert (cluster_lines c))) (log-head-inert c k))
+    (more before (log_head c k) (more (data_head c file) (guarded_text (cluster_lines c)) (head-inert c file) (guarded-inert (cluster_lines c))) (log-head-inert c k))
     (log-inert log))
     (each (unmet_line named c log) (unmet-inert named c log) judgements)

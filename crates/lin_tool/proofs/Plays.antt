@@ -4,14 +4,14 @@ use Rattle.std.specs.Borrow.{Bor}
 use Rattle.std.specs.Io.KnownBytes.{Appends, Keeps}
 use Rattle.lin_text.specs.Written.{WritesText}
 use Rattle.lin_bench.specs.Scripts.{Script, read}
-use Rattle.lin_bench.specs.Played.{Run, played}
-use Rattle.lin_bench.specs.Plays.{IsLogFull, PlayFails, has_rule}
+use Rattle.lin_bench.specs.Played.{Run, play_result}
+use Rattle.lin_bench.specs.Plays.{EndsWithFullLog, PlayFails, has_rule}
 use Rattle.lin_bench.specs.declared.fault.PlayFault.{PlayFault}
 use Rattle.lin_bench.specs.declared.fault.PlayFault.TheVariants as play
 use Rattle.lin_parts.specs.declared.parts.Parts.{Parts}
-use Rattle.lin_bench.specs.declared.line.Line.{Line}
+use Rattle.lin_bench.specs.declared.line.ScriptLine.{ScriptLine}
 use Rattle.lin_values.specs.Coded.{CodedData}
-use Rattle.lin_tool.specs.Playing.{IsUnread, PlaysScript, Says, WritesPlayed, in_words, play_fault, run_as, told_text}
+use Rattle.lin_tool.specs.Playing.{IsUnread, PlaysScript, Says, WritesPlayed, judgements_with_meanings, play_fault, run_as, told_text}
 use Rattle.lin_tool.specs.declared.fault.Fault.{Fault}
 use Rattle.lin_tool.specs.declared.fault.Fault.TheVariants.{BadBenchLine, OutOfMemory, Unmet, WriteFailed}
 use Rattle.lin_tool.specs.declared.formats.Format.{Format}
@@ -63,8 +63,8 @@ unread format k shows named strict c opening capacity fault told old silent hear
 
 -- lines that can't be played
 pub unplayed : (format : Format) (k : Option CodedData) (shows : Bool) (named : Option (Bor (List ℕ))) (strict : Bool) (c : Parts) (opening capacity : ℕ) (fault : PlayFault)
-    (told old silent heard : Option (List ℕ)) (ls : List (ℕ × Line)) → Says c k told (Ok ls) → PlayFails strict c opening capacity ls fault
-    → (IsLogFull (Err fault) → has_rule ls ≡ true) → Keeps silent heard
+    (told old silent heard : Option (List ℕ)) (ls : List (ℕ × ScriptLine)) → Says c k told (Ok ls) → PlayFails strict c opening capacity ls fault
+    → (EndsWithFullLog (Err fault) → has_rule ls ≡ true) → Keeps silent heard
     → PlaysScript format k shows named strict c opening capacity (Err (play_fault fault)) told old old silent heard
 unplayed format k shows named strict c opening capacity (play.SlotLimit n) told old silent heard ls says fails few kept = ((ls, says, fails), keeps-same old, kept)
 unplayed format k shows named strict c opening capacity play.LogFull told old silent heard ls says fails few kept = (ls, says, fails, few tt, keeps-same old, kept)
@@ -78,10 +78,10 @@ unwritten format k shows named strict c opening capacity told old silent heard k
 
 -- a run of these lines was written, where nothing was told before
 pub plays : (format : Format) (k : Option CodedData) (shows : Bool) (named : Option (Bor (List ℕ))) (strict : Bool) (c : Parts) (opening capacity : ℕ) (result : Result Unit Fault)
-    (told old new silent mid heard : Option (List ℕ)) (ls : List (ℕ × Line)) (run : Run) → Says c k told (Ok ls) → played strict c opening capacity ls ≡ Ok run
+    (told old new silent mid heard : Option (List ℕ)) (ls : List (ℕ × ScriptLine)) (run : Run) → Says c k told (Ok ls) → play_result strict c opening capacity ls ≡ Ok run
     → Keeps silent mid
-    → WritesPlayed format (run_as format k shows named c opening capacity run) (in_words k run.judgements)
-    (told_text named strict c (reverse run.bench.past) (in_words k run.judgements)) result old new mid heard
+    → WritesPlayed format (run_as format k shows named c opening capacity run) (judgements_with_meanings k run.judgements)
+    (told_text named strict c (reverse run.bench.past) (judgements_with_meanings k run.judgements)) result old new mid heard
     → PlaysScript format k shows named strict c opening capacity result told old new silent heard
 plays format k shows named strict c opening capacity (Ok done) told old new silent mid heard ls run says comes kept (shown, met, (outcome, said)) =
     (run, (ls, says, comes), (shown, met, (outcome, writes-after kept said)))

@@ -15,7 +15,7 @@ use Rattle.lin_export.specs.declared.fault.ExportFault.{ExportFault}
 use Rattle.lin_export.specs.declared.fault.ExportFault.TheVariants as export
 use Rattle.lin_values.specs.Coded.{CodedData}
 use Rattle.lin_tool.specs.Formats.{Begins, export_fault}
-use Rattle.lin_tool.specs.Replaying.{IsLogOf, Replays, Stops, replay_fault}
+use Rattle.lin_tool.specs.Replaying.{IsLogOf, Replays, Stops, fault_of_replay}
 use Rattle.lin_tool.specs.declared.formats.Format.{Format}
 use Rattle.lin_tool.specs.declared.formats.Format.TheVariants.{Log}
 
@@ -59,7 +59,7 @@ stopped format k c opening capacity told old new export.WriteFailed memory stops
 pub replay-stopped : {X : Type 0} (k : Option CodedData) (c : Parts) (opening capacity : ℕ) (view : X → List LogEntry)
     (fault : ReplayFault) (told old new : Option (List ℕ))
     → IsReplay c opening capacity view (Err fault) told old new
-    → Replays Log k c opening capacity (Err (replay_fault fault)) told old new
+    → Replays Log k c opening capacity (Err (fault_of_replay fault)) told old new
 replay-stopped k c opening capacity view (replay.Script (script.BadLine n)) told old new h = h
 replay-stopped k c opening capacity view (replay.Script script.TooLong) told old new h = h
 replay-stopped k c opening capacity view (replay.Script script.ReadFailed) told old new h = h.1

@@ -12,21 +12,21 @@ use Rattle.lin_ldf.specs.declared.fault.LdfFault.{LdfFault}
 use Rattle.lin_ldf.specs.declared.fault.LdfFault.TheVariants as ldf
 use Rattle.lin_parts.specs.declared.description.Description.{Description}
 use Rattle.lin_parts.specs.declared.parts.Parts.{Parts}
-use Rattle.lin_field.specs.declared.checking.Remark.{Remark}
-use Rattle.lin_tool.specs.Clusters.{IsSaidBy, Tells, TextFaults}
-use Rattle.lin_tool.specs.Coding.{coded_read, configured_read, configuring_told, linted, AnswersCoded, AreWarnings, SaysSections}
+use Rattle.lin_field.specs.declared.field_check.Remark.{Remark}
+use Rattle.lin_tool.specs.Clusters.{IsSaidBy, IsParseFault, TextFaults}
+use Rattle.lin_tool.specs.Coding.{coded_read, configured_read, configuring_told, with_lints, AnswersCoded, AreWarnings, SaysSections}
 use Rattle.lin_tool.specs.Field.{ReadFaults}
 use Rattle.lin_tool.specs.Reading.{AnswersLdf}
 use Rattle.lin_tool.specs.declared.coding.Described.{Described}
 use Rattle.lin_tool.specs.declared.coding.Extras.{Extras}
-use Rattle.lin_tool.specs.declared.coding.Sections.{Sections}
+use Rattle.lin_tool.specs.declared.coding.ExtraSections.{ExtraSections}
 use Rattle.lin_tool.specs.declared.fault.Fault.{Fault}
 use Rattle.lin_tool.specs.declared.fault.Fault.TheVariants.{Ldf, Findings, LdfTooLong, OutOfMemory, ReadFailed}
 use Rattle.lin_field.specs.Checks.{remark}
 use Rattle.lin_tool.proofs.Warned.{linted_behind, reordered}
 
 -- what the program's fault says of the text
-pub tells_fault : (text : List ℕ) (told : Fault) (fault : LdfFault) → Tells told fault
+pub tells_fault : (text : List ℕ) (told : Fault) (fault : LdfFault) → IsParseFault told fault
     → ((d : Description) → Describes text d → fault ≡ ldf.OutOfMemory)
     → ((e : LdfFault) → IsLexFault text e → e ≢ ldf.OutOfMemory → (fault ≡ e) ⊎ (fault ≡ ldf.OutOfMemory)) → TextFaults told text
 tells_fault text (Ldf f) fault (same, some) only first = record {
@@ -51,16 +51,16 @@ warned_of true given text ts c same are =
 warned_of false given text ts c same are = refl
 
 -- what is answered to what was parsed, where its cluster is this one, and the commands are read from `given`
-pub coded_answer : (x : Extras) (r : Result Described Fault) (text given : List ℕ) (d : Description) (checked c : Parts) (s : Sections) (none odd rs warned : List Remark)
+pub coded_answer : (x : Extras) (r : Result Described Fault) (text given : List ℕ) (d : Description) (checked c : Parts) (s : ExtraSections) (none odd rs warned : List Remark)
     → (x.is_configured ≡ true → given ≡ text)
     → Describes text d → IsSaidBy d checked → SaysSections x text d s → IsPermutation (map (remark true) s.found) none
-    → IsPermutation (linted d [] s.configurables s.codings none) odd
+    → IsPermutation (with_lints d [] s.configurables s.codings none) odd
     → c ≡ configured_read x.is_configured checked (symbols_in given (start_of given).tokens)
     → IsPermutation (odd ++ map (remark true) (configuring_told x.is_configured checked (symbols_in given (start_of given).tokens))) rs
     → IfOk r (λ a. a.cluster ≡ c) → IfOk r (λ a. a.coded ≡ coded_read x.encodings a.cluster s.codings)
     → IfOk r (λ a. AreWarnings x.encodings a.cluster s.codings rs warned) → IfErr r (λ fault. fault ≡ OutOfMemory) → AnswersCoded x r warned text
 coded_answer x (Ok a) text given d checked c s none odd rs warned same described of (ts, are, is) kept joined sends told cluster coded warnings memory =
-    let found : List Remark = linted d [] s.configurables s.codings (map (remark true) s.found) in
+    let found : List Remark = with_lints d [] s.configurables s.codings (map (remark true) s.found) in
     let commands : List Remark = map (remark true) (configuring_told x.is_configured checked (symbols_in text ts)) in
     let behind : IsPermutation (odd ++ commands) rs =
     subst (λ fs. IsPermutation (odd ++ map (remark true) fs) rs) (warned_of x.is_configured given text ts checked same are) told in

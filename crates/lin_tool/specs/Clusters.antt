@@ -5,7 +5,7 @@ use Rattle.lin_ldf.specs.Tokens.{IsLexFault}
 use Rattle.lin_ldf.specs.declared.fault.LdfFault.{LdfFault}
 use Rattle.lin_ldf.specs.declared.fault.LdfFault.TheVariants as ldf
 use Rattle.lin_parts.specs.declared.description.Description.{Description}
-use Rattle.lin_cluster.specs.Checks.{IsFaultOf}
+use Rattle.lin_cluster.specs.Checks.{IsCheckFault}
 use Rattle.lin_cluster.specs.Described.{parts_of}
 use Rattle.lin_cluster.specs.Findings.{IsFree}
 use Rattle.lin_cluster.specs.SlotTimes.{NoSlotIsShort}
@@ -40,13 +40,13 @@ pub record IsTextFault (text : List ℕ) (fault : LdfFault) : Type 0 where
 pub record AreTextFindings (text : List ℕ) (found : List Finding) : Type 0 where
   pub description : Description
   pub described : Describes text description
-  pub all : IsFaultOf description (check.Findings found)
+  pub all : IsCheckFault description (check.Findings found)
 
 -- the program's fault for one of `parse`
-abbrev pub Tells : Fault → LdfFault → Type 0
-Tells (Ldf told) fault = (told ≡ fault) × (fault ≢ ldf.OutOfMemory)
-Tells OutOfMemory fault = fault ≡ ldf.OutOfMemory
-Tells _ fault = ⊥
+abbrev pub IsParseFault : Fault → LdfFault → Type 0
+IsParseFault (Ldf told) fault = (told ≡ fault) × (fault ≢ ldf.OutOfMemory)
+IsParseFault OutOfMemory fault = fault ≡ ldf.OutOfMemory
+IsParseFault _ fault = ⊥
 
 -- why an LDF text gives no cluster
 abbrev pub TextFaults : Fault → List ℕ → Type 0

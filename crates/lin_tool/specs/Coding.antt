@@ -14,25 +14,25 @@ use Rattle.lin_cluster.specs.declared.finding.Finding.{Finding}
 use Rattle.lin_cluster.specs.declared.lints.configurable.Configurable.{Configurable}
 use Rattle.lin_parts.specs.declared.parts.Parts.{Parts}
 use Rattle.lin_field.specs.Checks.{remark, remark_cmp}
-use Rattle.lin_field.specs.declared.checking.Remark.{Remark}
+use Rattle.lin_field.specs.declared.field_check.Remark.{Remark}
 use Rattle.lin_tool.specs.Clusters.{IsClusterOf, TextFaults}
 use Rattle.lin_tool.specs.declared.coding.Described.{Described}
 use Rattle.lin_tool.specs.declared.coding.Encodings.{Encodings}
 use Rattle.lin_tool.specs.declared.coding.Encodings.TheVariants.{Unread, Read, Told}
 use Rattle.lin_tool.specs.declared.coding.Extras.{Extras}
-use Rattle.lin_tool.specs.declared.coding.Sections.{Sections}
+use Rattle.lin_tool.specs.declared.coding.ExtraSections.{ExtraSections}
 use Rattle.lin_tool.specs.declared.fault.Fault.{Fault}
 use Rattle.lin_values.specs.AttributeLints.{attribute_lints}
 use Rattle.lin_values.specs.AttributeValues.{header_version}
 use Rattle.lin_values.specs.Attributes.{node_attributes}
-use Rattle.lin_values.specs.Coded.{coded, CodedData}
+use Rattle.lin_values.specs.Coded.{coded_signals, CodedData}
 use Rattle.lin_values.specs.Configured.{configurables}
 use Rattle.lin_values.specs.Configuring.{configured_by, warnings_by}
 use Rattle.lin_values.specs.Reading.{codings}
 use Rattle.lin_values.specs.Unknown.{unknown_words}
 use Rattle.lin_values.specs.Unused.{unused_encodings}
-use Rattle.lin_values.specs.Warnings.{warnings}
-use Rattle.lin_values.specs.declared.items.Codings.{Codings}
+use Rattle.lin_values.specs.Warnings.{encoding_warnings}
+use Rattle.lin_values.specs.declared.codings.Codings.{Codings}
 
 -- whether the sections of encodings are read, as they are where a text is linted
 abbrev pub are_read : Encodings → Bool → Bool
@@ -58,7 +58,7 @@ attributes_read is_linted d ts =
     if is_linted then attribute_lints d (header_version ts) (node_attributes ts) else []
 
 -- what the extras want of all that; with --field the unknown words in any case
-abbrev pub sections_read : Bool → Extras → Description → List Symbol → Sections
+abbrev pub sections_read : Bool → Extras → Description → List Symbol → ExtraSections
 sections_read is_field x d ts =
     record {
       codings = codings_read (are_read x.encodings x.is_linted) ts;
@@ -74,17 +74,17 @@ codings_kept Told k = k
 
 -- what the values of a cluster's signals mean by that
 abbrev pub coded_read : Encodings → Parts → Option Codings → Option CodedData
-coded_read e c k = option_map (coded c) (codings_kept e k)
+coded_read e c k = option_map (coded_signals c) (codings_kept e k)
 
 -- what is told of what is found in the sections of encodings
-abbrev pub told_of : Encodings → List Finding → List Finding
-told_of Unread found = []
-told_of Read found = []
-told_of Told found = found
+abbrev pub reported_findings : Encodings → List Finding → List Finding
+reported_findings Unread found = []
+reported_findings Read found = []
+reported_findings Told found = found
 
 -- what is wrong with them
 abbrev pub codings_told : Encodings → Parts → Option Codings → List Finding
-codings_told e c k = told_of e (option_map_or (warnings c) (codings_kept e k) [])
+codings_told e c k = reported_findings e (option_map_or (encoding_warnings c) (codings_kept e k) [])
 
 -- the encodings that no signal has
 abbrev pub unused_told : Description → Option Codings → List Finding
@@ -97,9 +97,9 @@ abbrev pub lints_told : Description → List Name → Option (List Configurable)
 lints_told d e cs k = option_map_or (λ c. lints d e c ++ unused_told d k) cs []
 
 -- warnings with that
-abbrev pub linted : Description → List Name → Option (List Configurable) → Option Codings
+abbrev pub with_lints : Description → List Name → Option (List Configurable) → Option Codings
     → List Remark → List Remark
-linted d e cs k rs = rs ++ map (remark true) (lints_told d e cs k)
+with_lints d e cs k rs = rs ++ map (remark true) (lints_told d e cs k)
 
 -- the cluster with the requests of its node configuration commands, where these are sent
 abbrev pub configured_read : Bool → Parts → List Symbol → Parts
@@ -118,12 +118,12 @@ pub record AreWarnings (e : Encodings) (c : Parts) (k : Option Codings) (rs warn
 -- ---- plain texts
 
 -- the sections of a text say this, as far as the extras want them
-abbrev pub SaysSections : Extras → List ℕ → Description → Sections → Type 0
+abbrev pub SaysSections : Extras → List ℕ → Description → ExtraSections → Type 0
 SaysSections x text d s =
     (ts : List Token) × AreTokens text ts × (s ≡ sections_read false x d (symbols_in text ts))
 
 -- what a text describes and what its sections say, or why it describes nothing
-abbrev pub AnswersSections : Extras → Result (Description × Sections) Fault → List ℕ → Type 0
+abbrev pub AnswersSections : Extras → Result (Description × ExtraSections) Fault → List ℕ → Type 0
 AnswersSections x (Ok parsed) text =
     Describes text parsed.0 × SaysSections x text parsed.0 parsed.1
 AnswersSections x (Err fault) text = TextFaults fault text
@@ -137,12 +137,12 @@ pub record IsCodedCluster (x : Extras) (text : List ℕ) (d : Described) (warned
   pub tokens : List Token
   pub are : AreTokens text tokens
   pub sends : d.cluster ≡ configured_read x.is_configured checked (symbols_in text tokens)
-  pub sections : Sections
+  pub sections : ExtraSections
   pub says : SaysSections x text cluster.description sections
   pub coded : d.coded ≡ coded_read x.encodings d.cluster sections.codings
   pub warnings
       : AreWarnings x.encodings d.cluster sections.codings
-      (linted cluster.description [] sections.configurables sections.codings
+      (with_lints cluster.description [] sections.configurables sections.codings
       (map (remark true) sections.found)
       ++ map (remark true)
       (configuring_told x.is_configured checked (symbols_in text tokens)))

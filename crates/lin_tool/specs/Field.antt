@@ -8,23 +8,23 @@ use Rattle.lin_ldf.specs.declared.token.Token.{Token}
 use Rattle.lin_cluster.specs.Described.{parts_of}
 use Rattle.lin_field.specs.Bytes.{field_bytes}
 use Rattle.lin_field.specs.Checks.{remark, remarks, AreRemarks, IsFieldFree, IsRefusalOf}
-use Rattle.lin_field.specs.Describes.{Reads}
-use Rattle.lin_field.specs.Marks.{blanked, extra_in, mended}
+use Rattle.lin_field.specs.Describes.{ReadsFieldText}
+use Rattle.lin_field.specs.Marks.{text_with_blanks, extra_in, without_extra_marks}
 use Rattle.lin_field.specs.Order.{byte_order}
 use Rattle.lin_field.specs.Plain.{plain_data, plain_text}
-use Rattle.lin_field.specs.Settled.{placed_elsewhere, settled, warnings}
-use Rattle.lin_field.specs.declared.checking.Checked.{Checked}
-use Rattle.lin_field.specs.declared.checking.FieldFault.TheVariants as check
-use Rattle.lin_field.specs.declared.checking.Remark.{Remark}
-use Rattle.lin_field.specs.declared.reading.FieldText.{FieldText}
-use Rattle.lin_field.specs.declared.settling.Settled.{Settled}
+use Rattle.lin_field.specs.Settled.{placed_elsewhere, normalized_description, warnings}
+use Rattle.lin_field.specs.declared.field_check.Checked.{Checked}
+use Rattle.lin_field.specs.declared.field_check.FieldFault.TheVariants as check
+use Rattle.lin_field.specs.declared.field_check.Remark.{Remark}
+use Rattle.lin_field.specs.declared.field_text.FieldText.{FieldText}
+use Rattle.lin_field.specs.declared.normalizing.Normalized.{Normalized}
 use Rattle.lin_parts.specs.declared.description.Description.{Description}
 use Rattle.lin_text.specs.Written.{WritesText}
 use Rattle.lin_tool.specs.Coding.{coded_read, configured_read, configuring_told}
-use Rattle.lin_tool.specs.Coding.{linted, sections_read, AreWarnings}
+use Rattle.lin_tool.specs.Coding.{with_lints, sections_read, AreWarnings}
 use Rattle.lin_tool.specs.declared.coding.Described.{Described}
 use Rattle.lin_tool.specs.declared.coding.Extras.{Extras}
-use Rattle.lin_tool.specs.declared.coding.Sections.{Sections}
+use Rattle.lin_tool.specs.declared.coding.ExtraSections.{ExtraSections}
 use Rattle.lin_tool.specs.declared.fault.Fault.{Fault}
 use Rattle.lin_tool.specs.declared.fault.Fault.TheVariants.{Ldf, Remarks, LdfTooLong, OutOfMemory}
 use Rattle.lin_tool.specs.declared.fault.Fault.TheVariants.{ReadFailed, WriteFailed}
@@ -33,13 +33,13 @@ use Rattle.lin_tool.specs.declared.fault.Fault.TheVariants.{ReadFailed, WriteFai
 abbrev pub IsReadOver : List ℕ → List ℕ → Type 0
 IsReadOver text left =
     (ts : List Token) × AreTokens (field_bytes text) ts
-    × (left ≡ blanked (field_bytes text) (extra_in ts))
+    × (left ≡ text_with_blanks (field_bytes text) (extra_in ts))
 
 -- this is what the text is settled to
-pub record IsSettled (text : List ℕ) (s : Settled) : Type 0 where
+pub record IsNormalized (text : List ℕ) (s : Normalized) : Type 0 where
   pub read : FieldText
-  pub reads : Reads text read
-  pub description : s.description ≡ settled read.loose
+  pub reads : ReadsFieldText text read
+  pub description : s.description ≡ normalized_description read.loose
   pub elsewhere : s.placed_elsewhere ≡ placed_elsewhere read.loose
   pub warnings : s.warnings.items ≡ warnings read
   pub order : s.byte_order.items ≡ byte_order read.loose
@@ -47,58 +47,58 @@ pub record IsSettled (text : List ℕ) (s : Settled) : Type 0 where
 -- the text describes nothing; where its tokens have a fault, it is this one
 pub record IsFieldFault (text : List ℕ) (fault : LdfFault) : Type 0 where
   pub some : fault ≢ ldf.OutOfMemory
-  pub nothing : (read : FieldText) → Reads text read → ⊥
+  pub nothing : (read : FieldText) → ReadsFieldText text read → ⊥
   pub first : (lexed : LdfFault) → IsLexFault (field_bytes text) lexed → lexed ≢ ldf.OutOfMemory
       → fault ≡ lexed
 
 -- what a text of the field is settled to, and the bytes that are left of it; or why it isn't
-abbrev pub AnswersSettled : Result Settled Fault → List ℕ → List ℕ → Type 0
-AnswersSettled (Ok s) text left = IsSettled text s × IsReadOver text left
-AnswersSettled (Err (Ldf f)) text left = IsFieldFault text f
-AnswersSettled (Err OutOfMemory) text left = Unit {0}
-AnswersSettled (Err _) text left = ⊥
+abbrev pub AnswersNormalized : Result Normalized Fault → List ℕ → List ℕ → Type 0
+AnswersNormalized (Ok s) text left = IsNormalized text s × IsReadOver text left
+AnswersNormalized (Err (Ldf f)) text left = IsFieldFault text f
+AnswersNormalized (Err OutOfMemory) text left = Unit {0}
+AnswersNormalized (Err _) text left = ⊥
 
 -- what is wrong with what a text is settled to
-abbrev pub CheckFaults : Fault → Settled → Type 0
+abbrev pub CheckFaults : Fault → Normalized → Type 0
 CheckFaults (Remarks found) s = IsRefusalOf s (check.Remarks found.0)
 CheckFaults OutOfMemory s = Unit {0}
 CheckFaults _ s = ⊥
 
 -- nothing is, and this is its cluster, and what is remarked
-pub record IsChecked (s : Settled) (checked : Checked) : Type 0 where
+pub record IsChecked (s : Normalized) (checked : Checked) : Type 0 where
   pub free : IsFieldFree s
   pub said : checked.cluster ≡ parts_of s.description
   pub warnings : AreRemarks s checked.warnings
 
-abbrev pub ChecksField : Settled → Result Checked Fault → Type 0
+abbrev pub ChecksField : Normalized → Result Checked Fault → Type 0
 ChecksField s (Ok checked) = IsChecked s checked
 ChecksField s (Err fault) = CheckFaults fault s
 
 -- this is its cluster where its sections say that, with the requests of the commands among these
 -- tokens where they are sent, and these are the warnings
-pub record IsFieldCluster (x : Extras) (s : Settled) (k : Sections) (ts : List Symbol)
+pub record IsFieldCluster (x : Extras) (s : Normalized) (k : ExtraSections) (ts : List Symbol)
     (d : Described) (warned : List Remark) : Type 0 where
   pub free : IsFieldFree s
   pub sends : d.cluster ≡ configured_read x.is_configured (parts_of s.description) ts
   pub coded : d.coded ≡ coded_read x.encodings d.cluster k.codings
   pub warnings
       : AreWarnings x.encodings d.cluster k.codings
-      (linted s.description s.placed_elsewhere k.configurables k.codings
+      (with_lints s.description s.placed_elsewhere k.configurables k.codings
       (remarks s ++ map (remark true) k.found)
       ++ map (remark true) (configuring_told x.is_configured (parts_of s.description) ts))
       warned
 
-abbrev pub AnswersChecked : Extras → Settled → Sections → List Symbol → Result Described Fault
+abbrev pub AnswersChecked : Extras → Normalized → ExtraSections → List Symbol → Result Described Fault
     → List Remark → Type 0
 AnswersChecked x s k ts (Ok d) warned = IsFieldCluster x s k ts d warned
 AnswersChecked x s k ts (Err fault) warned = CheckFaults fault s
 
 -- the tokens of a text of the field say this, without the marks that it has too many: its sections, as
 -- far as the extras want them, and its commands
-abbrev pub FieldSays : Extras → List ℕ → Description → Sections → List Symbol → Type 0
+abbrev pub FieldSays : Extras → List ℕ → Description → ExtraSections → List Symbol → Type 0
 FieldSays x text d k said =
     (ts : List Token) × AreTokens (field_bytes text) ts
-    × ((said ≡ mended (symbols_in (field_bytes text) ts)) × (k ≡ sections_read true x d said))
+    × ((said ≡ without_extra_marks (symbols_in (field_bytes text) ts)) × (k ≡ sections_read true x d said))
 
 -- when a reader has this fault: what it has is told, or it isn't
 abbrev pub ReadFaults : Fault → Option (List ℕ) → Type 0
@@ -110,11 +110,11 @@ ReadFaults _ told = ⊥
 -- what is answered to a text of the field that isn't too long, with these warnings
 abbrev pub AnswersFieldText : Extras → Result Described Fault → List Remark → List ℕ → Type 0
 AnswersFieldText x (Ok d) warned text =
-    (s : Settled) × IsSettled text s
-    × ((k : Sections) × ((said : List Symbol)
+    (s : Normalized) × IsNormalized text s
+    × ((k : ExtraSections) × ((said : List Symbol)
     × (FieldSays x text s.description k said × IsFieldCluster x s k said d warned)))
 AnswersFieldText x (Err (Ldf f)) warned text = IsFieldFault text f
-AnswersFieldText x (Err fault) warned text = (s : Settled) × IsSettled text s × CheckFaults fault s
+AnswersFieldText x (Err fault) warned text = (s : Normalized) × IsNormalized text s × CheckFaults fault s
 
 -- to what the reader has, where that is told
 abbrev pub FieldRead : Extras → Result Described Fault → List Remark → Option (List ℕ) → Type 0
@@ -134,8 +134,8 @@ AnswersField x (Err fault) warned told = ReadFaults fault told
 -- of it
 pub record IsWrittenPlain (old new : Option (List ℕ)) (result : Result Unit Fault) (text : List ℕ)
     : Type 0 where
-  pub s : Settled
-  pub settled : IsSettled text s
+  pub s : Normalized
+  pub settled : IsNormalized text s
   pub free : IsFieldFree s
   pub left : List ℕ
   pub over : IsReadOver text left
@@ -146,7 +146,7 @@ pub record IsWrittenPlain (old new : Option (List ℕ)) (result : Result Unit Fa
 abbrev pub WritesPlain : Option (List ℕ) → Option (List ℕ) → Result Unit Fault → List ℕ → Type 0
 WritesPlain old new (Err (Ldf f)) text = IsFieldFault text f
 WritesPlain old new (Err (Remarks found)) text =
-    (s : Settled) × IsSettled text s × IsRefusalOf s (check.Remarks found.0)
+    (s : Normalized) × IsNormalized text s × IsRefusalOf s (check.Remarks found.0)
 WritesPlain old new (Err OutOfMemory) text = Unit {0}
 WritesPlain old new (Ok done) text = IsWrittenPlain old new (Ok done) text
 WritesPlain old new (Err WriteFailed) text = IsWrittenPlain old new (Err WriteFailed) text

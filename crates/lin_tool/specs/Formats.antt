@@ -3,6 +3,7 @@ use Rattle.std.specs.Prelude.{◌≡◌, ℕ, List, ◌++◌, Option}
 use Rattle.std.specs.Borrow.{Bor}
 use Rattle.std.specs.Io.KnownBytes.{Appends}
 use Rattle.lin_parts.specs.declared.parts.Parts.{Parts}
+use Rattle.lin_core.specs.Core.{CoreData}
 use Rattle.lin_core.specs.declared.log.LogEntry.{LogEntry}
 use Rattle.lin_log.specs.Words.{text}
 use Rattle.lin_bench.specs.declared.got.Judgement.{Judgement}
@@ -11,6 +12,7 @@ use Rattle.lin_export.specs.Jsonl.{jsonl}
 use Rattle.lin_export.specs.Named.{named_log}
 use Rattle.lin_export.specs.Pcap.{pcap}
 use Rattle.lin_export.specs.Vcd.{vcd}
+use Rattle.lin_export.specs.WhereTold.{given_coding}
 use Rattle.lin_export.specs.declared.fault.ExportFault.{ExportFault}
 use Rattle.lin_export.specs.declared.fault.ExportFault.TheVariants as export
 use Rattle.lin_tool.specs.Page.{page}
@@ -19,6 +21,7 @@ use Rattle.lin_tool.specs.Junit.{junit}
 use Rattle.lin_tool.specs.declared.fault.Fault.{Fault}
 use Rattle.lin_tool.specs.declared.fault.Fault.TheVariants.{OutOfMemory, WriteFailed}
 use Rattle.lin_tool.specs.declared.formats.Format.{Format}
+use Rattle.lin_tool.specs.declared.formats.Shown.{Shown}
 use Rattle.lin_tool.specs.declared.formats.Format.TheVariants.{Log, Named, Csv, Jsonl, Pcap}
 use Rattle.lin_tool.specs.declared.formats.Format.TheVariants.{Vcd, Html, Junit}
 
@@ -36,6 +39,11 @@ log_as Pcap named c k opening capacity log js = pcap c log
 log_as Vcd named c k opening capacity log js = vcd c k log
 log_as (Html file) named c k opening capacity log js = page named c k file.now log js
 log_as (Junit file) named c k opening capacity log js = junit file.now c log js
+
+-- the log of a core as it is to be shown
+abbrev pub shown_log : Shown → CoreData → List ℕ
+shown_log s core =
+    log_as s.format s.script core.cluster (given_coding s.coded) s.table s.capacity core.log s.judgements.now
 
 -- a beginning of a text was written
 abbrev pub Begins : Option (List ℕ) → Option (List ℕ) → List ℕ → Type 0

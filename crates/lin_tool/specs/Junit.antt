@@ -14,8 +14,8 @@ use Rattle.lin_tool.specs.Placing.{placed_missed}
 
 -- a byte as it stands in XML: `&`, `<`, `>` and `"` are escaped, and `?` stands for one that isn't
 -- printable; those above 7F stand for themselves in a text that is UTF-8
-abbrev pub escaped : Bool → ℕ → List ℕ
-escaped is_text b =
+abbrev pub xml_byte : Bool → ℕ → List ℕ
+xml_byte is_text b =
     if b == 38 then codes "&amp;"
     else if b == 60 then codes "&lt;"
     else if b == 62 then codes "&gt;"
@@ -23,14 +23,14 @@ escaped is_text b =
     else if nat_le 32 b && nat_le b 126 || is_text && nat_le 128 b then b ∷ []
     else codes "?"
 
-abbrev pub escaped_text : List ℕ → List ℕ
-escaped_text text = flat_map (escaped (is_utf8 text)) text
+abbrev pub xml_text : List ℕ → List ℕ
+xml_text text = flat_map (xml_byte (is_utf8 text)) text
 
 -- what stands before the cases: how many judgements there are, and how many aren't met
-abbrev pub head : List ℕ → List Judgement → List ℕ
-head file js =
+abbrev pub junit_head : List ℕ → List Judgement → List ℕ
+junit_head file js =
     codes "<?xml version=\"1.0\" encoding=\"UTF-8\"?>\n<testsuites>\n<testsuite name=\""
-    ++ (escaped_text file
+    ++ (xml_text file
     ++ (codes "\" tests=\""
     ++ (decimal (length js)
     ++ (codes "\" failures=\""
@@ -41,17 +41,17 @@ head file js =
 abbrev pub case_name : List ℕ → ℕ → List ℕ → List ℕ
 case_name file n what =
     codes "<testcase classname=\""
-    ++ (escaped_text file
+    ++ (xml_text file
     ++ (codes "\" name=\"line "
-    ++ (decimal n ++ (codes ":" ++ (escaped_text (spaced_word what) ++ codes "\"")))))
+    ++ (decimal n ++ (codes ":" ++ (xml_text (spaced_word what) ++ codes "\"")))))
 
 -- where it isn't so, what is, and the line of `play --where`
 abbrev pub case_end : List ℕ → Option (List ℕ) → List ℕ
 case_end missed None = codes "/>\n"
 case_end missed (Some found) =
     codes ">\n<failure message=\""
-    ++ (escaped_text found
-    ++ (codes "\">" ++ (escaped_text missed ++ codes "</failure>\n</testcase>\n")))
+    ++ (xml_text found
+    ++ (codes "\">" ++ (xml_text missed ++ codes "</failure>\n</testcase>\n")))
 
 -- a judgement
 abbrev pub case_text : List ℕ → Parts → List LogEntry → Judgement → List ℕ
@@ -62,7 +62,7 @@ case_text file c log j =
 -- the judgements on this log, under the script's name
 abbrev pub junit : List ℕ → Parts → List LogEntry → List Judgement → List ℕ
 junit file c log js =
-    head file js
+    junit_head file js
     ++ (flat_map (case_text file c log) js ++ codes "</testsuite>\n</testsuites>\n")
 
 -- what is wrong, after the number of the line, where it is of one
@@ -74,9 +74,9 @@ error_name (Some n) what = codes "line " ++ (decimal n ++ (codes ": " ++ what))
 abbrev pub error_report : List ℕ → Option ℕ → List ℕ → List ℕ
 error_report file line what =
     codes "<?xml version=\"1.0\" encoding=\"UTF-8\"?>\n<testsuites>\n<testsuite name=\""
-    ++ (escaped_text file
+    ++ (xml_text file
     ++ (codes "\" tests=\"1\" failures=\"0\" errors=\"1\" skipped=\"0\">\n<testcase classname=\""
-    ++ (escaped_text file
+    ++ (xml_text file
     ++ (codes "\" name=\""
     ++ (error_name line what
     ++ (codes "\">\n<error message=\""

@@ -6,12 +6,14 @@ use Rattle.lin_bench.specs.Rules.{no_rules}
 use Rattle.lin_bench.specs.Slots.{slot_limit}
 use Rattle.lin_live.specs.Serving.{IsLive}
 use Rattle.lin_live.specs.Told.{HandData, IsFull, reply}
-use Rattle.lin_live.specs.declared.format.AnswerFormat.{AnswerFormat}
+use Rattle.lin_live.specs.declared.answer_format.AnswerFormat.{AnswerFormat}
 use Rattle.lin_live.specs.declared.fault.Fault.{Fault as LiveFault}
 use Rattle.lin_live.specs.declared.fault.Fault.TheVariants as live
+use Rattle.lin_tool.specs.Opening.{room_for}
 use Rattle.lin_tool.specs.declared.fault.Fault.{Fault}
 use Rattle.lin_tool.specs.declared.fault.Fault.TheVariants.{BadLines, Unmet, OutOfMemory}
 use Rattle.lin_tool.specs.declared.fault.Fault.TheVariants.{ReadFailed, WriteFailed, LogFull}
+use Rattle.lin_tool.specs.declared.opening.Opened.{Opened}
 
 -- the program's fault for one of answering lines
 abbrev pub live_fault : LiveFault → Fault
@@ -21,8 +23,8 @@ live_fault live.OutOfMemory = OutOfMemory
 live_fault live.LogFull = LogFull
 
 -- a bench in hand over a cluster, on which no line was made
-abbrev pub in_hand : AnswerFormat → Option CodedData → Bool → Parts → ℕ → ℕ → HandData
-in_hand format k is_physical c opening capacity = record {
+abbrev pub hand_of_cluster : AnswerFormat → Option CodedData → Bool → Parts → ℕ → ℕ → HandData
+hand_of_cluster format k is_physical c opening capacity = record {
   format = format;
   cluster = c;
   opening = opening;
@@ -35,14 +37,19 @@ in_hand format k is_physical c opening capacity = record {
   was_unmet = false;
 }
 
+-- the same over what was opened
+abbrev pub hand_of_opened : AnswerFormat → Opened → HandData
+hand_of_opened format o =
+    hand_of_cluster format o.coded o.settings.is_physical o.cluster o.table (room_for o.settings.capacity)
+
 -- how a bench ends on which all lines were answered: its answers have told which lines were bad, and
 -- which expectations weren't met
-abbrev pub ended : HandData → Result Unit Fault
-ended t =
+abbrev pub session_result : HandData → Result Unit Fault
+session_result t =
     if t.was_bad then Err BadLines else (if t.was_unmet then Err (Unmet (Ok tt)) else Ok tt)
 
 abbrev pub ends : HandData → Result Unit LiveFault → Result Unit Fault
-ends t (Ok done) = ended t
+ends t (Ok done) = session_result t
 ends t (Err fault) = Err (live_fault fault)
 
 -- What live answers on a bench in hand, what it read, and what the writer took: the answers to the

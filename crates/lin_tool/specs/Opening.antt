@@ -2,7 +2,7 @@
 use Rattle.std.specs.Prelude.{◌≡◌, ℕ, List, nat_lt, length, max, min, if◌then◌else◌, Option, Some, None}
 use Rattle.std.specs.Prelude.{Bool, false, Result, Ok, Err}
 use Rattle.std.specs.Borrow.{Bor}
-use Rattle.lin_field.specs.declared.checking.Remark.{Remark}
+use Rattle.lin_field.specs.declared.field_check.Remark.{Remark}
 use Rattle.lin_parts.specs.Cluster.{first_table}
 use Rattle.lin_parts.specs.declared.parts.Parts.{Parts}
 use Rattle.lin_tool.specs.Coding.{AnswersCoded}
@@ -28,9 +28,9 @@ abbrev pub room_for : ℕ → ℕ
 room_for n = max 1 (min 1024 n)
 
 -- the table where there is one, and otherwise that there is none
-abbrev pub Opens : Result ℕ Fault → Option ℕ → Type 0
-Opens (Ok t) table = table ≡ Some t
-Opens (Err fault) table = (fault ≡ NoSuchTable) × (table ≡ None)
+abbrev pub OpensTable : Result ℕ Fault → Option ℕ → Type 0
+OpensTable (Ok t) table = table ≡ Some t
+OpensTable (Err fault) table = (fault ≡ NoSuchTable) × (table ≡ None)
 
 -- how a run reads the sections of encodings: what they say is told where values are written as what
 -- they mean, and it is read where lines may say values in words

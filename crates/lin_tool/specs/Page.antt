@@ -17,13 +17,13 @@ use Rattle.lin_core.specs.declared.log.LogEntry.{LogEntry}
 use Rattle.lin_core.specs.declared.reply.Reply.{Reply}
 use Rattle.lin_core.specs.declared.reply.Reply.TheVariants.{Done, Refused}
 use Rattle.lin_log.specs.Words.{line, text, value_word}
-use Rattle.lin_export.specs.ListedFrames.{frames}
+use Rattle.lin_export.specs.ListedFrames.{frame_listing}
 use Rattle.lin_export.specs.Listing.{listing}
 use Rattle.lin_export.specs.ListedSlots.{slots}
 use Rattle.lin_export.specs.FirstSlots.{first_slots}
 use Rattle.lin_bench.specs.Played.{is_unmet}
 use Rattle.lin_bench.specs.declared.got.Judgement.{Judgement}
-use Rattle.lin_tool.specs.PageFields.{field, guarded, is_inert}
+use Rattle.lin_tool.specs.PageFields.{field, guarded_text, is_inert}
 use Rattle.lin_tool.specs.PageMeanings.{coded_lines}
 use Rattle.lin_tool.specs.Placing.{missed_line}
 use Rattle.lin_values.specs.Coded.{CodedData}
@@ -37,7 +37,7 @@ data_head c file =
 
 -- what the cluster has
 abbrev pub cluster_lines : Parts → List ℕ
-cluster_lines c = listing c ++ frames c ++ slots c
+cluster_lines c = listing c ++ frame_listing c ++ slots c
 
 -- a signal that no frame has, with its initial value
 abbrev pub alone_line : Parts → ℕ → List ℕ
@@ -70,9 +70,9 @@ abbrev pub is_look : Look → Event → Bool
 is_look look (Seen how) = look_number (look_of how) == look_number look
 is_look look event = false
 
-abbrev pub is_lost : Event → Bool
-is_lost (Lost host number why) = true
-is_lost event = false
+abbrev pub is_lost_event : Event → Bool
+is_lost_event (Lost host number why) = true
+is_lost_event event = false
 
 abbrev pub is_refusal : Reply → Bool
 is_refusal (Done events) = false
@@ -80,27 +80,27 @@ is_refusal (Refused refusal) = true
 
 -- what a reader without scripts sees first: how many slots there were and how they were seen, how
 -- many steps were refused and messages lost, and the time at the end
-abbrev pub number_of : List ℕ → List ℕ → List ℕ
-number_of word number = word ++ (codes ": " ++ number)
+abbrev pub labeled_number : List ℕ → List ℕ → List ℕ
+labeled_number word number = word ++ (codes ": " ++ number)
 
 abbrev pub look_count : List LogEntry → Look → List ℕ
 look_count log look =
-    codes ", " ++ number_of (look_word look) (decimal (events_so (is_look look) log))
+    codes ", " ++ labeled_number (look_word look) (decimal (events_so (is_look look) log))
 
 abbrev pub summary : Parts → List LogEntry → List ℕ
 summary c log =
-    codes "<p>" ++ number_of (codes "slots") (decimal (events_so is_seen log))
+    codes "<p>" ++ labeled_number (codes "slots") (decimal (events_so is_seen log))
     ++ flat_map (look_count log) looks
-    ++ number_of (codes ", refused") (decimal (count_by (λ e. is_refusal e.reply) log))
-    ++ number_of (codes ", lost") (decimal (events_so is_lost log))
-    ++ number_of (codes ", time_us") (decimal (time c (reverse log)))
+    ++ labeled_number (codes ", refused") (decimal (count_by (λ e. is_refusal e.reply) log))
+    ++ labeled_number (codes ", lost") (decimal (events_so is_lost_event log))
+    ++ labeled_number (codes ", time_us") (decimal (time c (reverse log)))
     ++ (codes "</p>" ++ 10 ∷ [])
 
 -- the data that the page's scripts read
 abbrev pub page_data : Option (Bor (List ℕ)) → Parts → Option CodedData → List ℕ → List LogEntry
     → List Judgement → List ℕ
 page_data named c k file log judgements =
-    data_head c file ++ guarded (cluster_lines c) ++ log_head c k ++ text log
+    data_head c file ++ guarded_text (cluster_lines c) ++ log_head c k ++ text log
     ++ flat_map (unmet_line named c log) judgements
 
 -- the page of a log of a cluster, with what its values mean, the name of its LDF, and the judgements

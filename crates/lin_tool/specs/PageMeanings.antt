@@ -9,38 +9,38 @@ use Rattle.lin_log.specs.Words.{line}
 use Rattle.lin_tool.specs.PageFields.{field}
 use Rattle.lin_values.specs.Coded.{encoding_of, range_in, CodedData, RangeData}
 use Rattle.lin_values.specs.Shown.{decimal_shown}
-use Rattle.lin_values.specs.declared.items.CodingType.{CodingType}
-use Rattle.lin_values.specs.declared.items.Item.{Item}
-use Rattle.lin_values.specs.declared.items.PlacedItem.{PlacedItem}
-use Rattle.lin_values.specs.declared.items.Item.TheVariants.{Logical, Physical, Bcd, Ascii}
+use Rattle.lin_values.specs.declared.codings.CodingType.{CodingType}
+use Rattle.lin_values.specs.declared.codings.Item.{Item}
+use Rattle.lin_values.specs.declared.codings.PlacedItem.{PlacedItem}
+use Rattle.lin_values.specs.declared.codings.Item.TheVariants.{Logical, Physical, Bcd, Ascii}
 
 -- a raw value and its text
-abbrev pub value_line : ℕ → ℕ → List ℕ → List ℕ
-value_line s v text = line (codes "logical" ∷ decimal s ∷ decimal v ∷ field text ∷ [])
+abbrev pub logical_value_line : ℕ → ℕ → List ℕ → List ℕ
+logical_value_line s v text = line (codes "logical" ∷ decimal s ∷ decimal v ∷ field text ∷ [])
 
 abbrev pub logical_line : ℕ → Item → List ℕ
-logical_line s (Logical v text) = value_line s v text
+logical_line s (Logical v text) = logical_value_line s v text
 logical_line s (Physical from to scale offset unit) = []
 logical_line s Bcd = []
 logical_line s Ascii = []
 
 -- the first and the last raw value, what they are multiplied by, what is added, and the unit
-abbrev pub range_line : ℕ → Option RangeData → List ℕ
-range_line s None = []
-range_line s (Some r) =
+abbrev pub physical_range_line : ℕ → Option RangeData → List ℕ
+physical_range_line s None = []
+physical_range_line s (Some r) =
     line (codes "physical" ∷ decimal s ∷ decimal r.min ∷ decimal r.max ∷ decimal_shown r.scale
     ∷ decimal_shown r.offset ∷ field r.unit ∷ [])
 
 abbrev pub physical_line : ℕ → Item → List ℕ
-physical_line s item = range_line s (range_in item)
+physical_line s item = physical_range_line s (range_in item)
 
-abbrev pub item_lines : ℕ → List PlacedItem → List ℕ
-item_lines s items =
+abbrev pub encoding_lines : ℕ → List PlacedItem → List ℕ
+encoding_lines s items =
     flat_map (λ p. logical_line s p.item) items ++ flat_map (λ p. physical_line s p.item) items
 
 abbrev pub type_lines : ℕ → Option CodingType → List ℕ
 type_lines s None = []
-type_lines s (Some t) = item_lines s t.items
+type_lines s (Some t) = encoding_lines s t.items
 
 abbrev pub meaning_lines : CodedData → ℕ → List ℕ
 meaning_lines k s = type_lines s (encoding_of k s)

@@ -1,5 +1,5 @@
 -- What `play --where` says of a bench script, after its file's name.
-use Rattle.std.specs.Prelude.{ℕ, zero, suc, ◌+◌, List, [], ◌∷◌, ◌++◌, flat_map, if◌then◌else◌, take, reverse, codes}
+use Rattle.std.specs.Prelude.{◌≡◌, ℕ, zero, suc, ◌+◌, List, [], ◌∷◌, ◌++◌, flat_map, if◌then◌else◌, take, reverse, codes}
 use Rattle.std.specs.Prelude.{Option, Some, None, option_map}
 use Rattle.std.specs.Borrow.{Bor}
 use Rattle.std.specs.Fmt.{decimal}
@@ -8,7 +8,7 @@ use Rattle.lin_parts.specs.Cluster.{line_of}
 use Rattle.lin_parts.specs.declared.parts.Parts.{Parts}
 use Rattle.lin_core.specs.History.{Slot, open_slot, time}
 use Rattle.lin_core.specs.declared.log.LogEntry.{LogEntry}
-use Rattle.lin_export.specs.Track.{slots_in}
+use Rattle.lin_export.specs.Track.{finished_slot_count}
 use Rattle.lin_values.specs.Coded.{CodedData}
 use Rattle.lin_bench.specs.Scripts.{bad_lines}
 use Rattle.lin_bench.specs.Played.{is_unmet}
@@ -18,33 +18,33 @@ use Rattle.lin_bench.specs.declared.reason.Reason.{Reason}
 use Rattle.lin_tool.specs.declared.placing.Moment.{Moment}
 
 -- a line's number after the file's name
-abbrev pub placed : List ℕ → ℕ → List ℕ
-placed file n = file ++ (codes ":" ++ (decimal n ++ codes ":"))
+abbrev pub line_place : List ℕ → ℕ → List ℕ
+line_place file n = file ++ (codes ":" ++ (decimal n ++ codes ":"))
 
 -- the line of a bad line
 abbrev pub placed_bad : List ℕ → ℕ × Reason → List ℕ
-placed_bad file bad = placed file bad.0 ++ (codes " bad line: " ++ (reason_text bad.1 ++ 10 ∷ []))
+placed_bad file bad = line_place file bad.0 ++ (codes " bad line: " ++ (reason_text bad.1 ++ 10 ∷ []))
 
 -- the history of a log's first entries
 abbrev pub past_at : List LogEntry → ℕ → List LogEntry
 past_at log n = reverse (take n log)
 
 -- the last of so many slots, which are counted from 0
-abbrev pub last_slot : ℕ → List ℕ
-last_slot zero = codes "no slot"
-last_slot (suc n) = codes "slot " ++ decimal n
+abbrev pub last_slot_text : ℕ → List ℕ
+last_slot_text zero = codes "no slot"
+last_slot_text (suc n) = codes "slot " ++ decimal n
 
 -- the last slot that was finished, by its number in a table of slots, and the time
 abbrev pub moment_text : ℕ → ℕ → List ℕ
 moment_text slots at =
-    codes " (" ++ (last_slot slots ++ (codes ", " ++ (decimal at ++ codes " us)")))
+    codes " (" ++ (last_slot_text slots ++ (codes ", " ++ (decimal at ++ codes " us)")))
 
 -- what is said of a judgement that isn't met, without the line's end
 abbrev pub placed_missed : List ℕ → Parts → List LogEntry → Judgement → List ℕ
 placed_missed file c log j =
-    placed file j.line
+    line_place file j.line
     ++ (judged_text c j.judged
-    ++ moment_text (slots_in (past_at log j.entries)) (time c (past_at log j.entries)))
+    ++ moment_text (finished_slot_count (past_at log j.entries)) (time c (past_at log j.entries)))
 
 -- the line of a judgement, where it isn't met
 abbrev pub placed_unmet : List ℕ → Parts → List LogEntry → Judgement → List ℕ
@@ -76,9 +76,13 @@ entry_in s = (s.table, s.entry)
 abbrev pub moment_of : Parts → List LogEntry → Moment
 moment_of c past = record {
   slot = option_map entry_in (open_slot past);
-  slots = slots_in past;
+  slots = finished_slot_count past;
   time_us = time c past;
 }
+
+-- what holds of each log in which the judgement was made at this moment
+abbrev pub AtMoment : Parts → Judgement → Moment → (List LogEntry → Type 0) → Type 0
+AtMoment c j moment Holds = (log : List LogEntry) → moment ≡ moment_of c (past_at log j.entries) → Holds log
 
 -- what a finish that is done makes of it
 abbrev pub finished_on : Parts → Moment → Moment

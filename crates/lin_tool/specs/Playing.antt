@@ -9,18 +9,20 @@ use Rattle.lin_log.specs.declared.fault.ScriptFault.TheVariants as script
 use Rattle.lin_values.specs.Coded.{CodedData}
 use Rattle.lin_bench.specs.Scripts.{Script, read}
 use Rattle.lin_bench.specs.Meanings.{with_meanings}
-use Rattle.lin_bench.specs.Played.{Run, played, some_unmet}
+use Rattle.lin_bench.specs.Played.{Run, play_result, some_unmet}
 use Rattle.lin_bench.specs.Plays.{Overfills, has_rule}
 use Rattle.lin_bench.specs.declared.fault.PlayFault.{PlayFault}
 use Rattle.lin_bench.specs.declared.fault.PlayFault.TheVariants as play
 use Rattle.lin_bench.specs.declared.got.Judgement.{Judgement}
-use Rattle.lin_bench.specs.declared.line.Line.{Line}
+use Rattle.lin_bench.specs.declared.line.ScriptLine.{ScriptLine}
 use Rattle.lin_bench.specs.declared.reason.Reason.{Reason}
-use Rattle.lin_tool.specs.Formats.{Begins, log_as}
+use Rattle.lin_tool.specs.Formats.{Begins, log_as, shown_log}
+use Rattle.lin_tool.specs.Opening.{room_for}
 use Rattle.lin_tool.specs.Placing.{bad_text, missed_text}
+use Rattle.lin_core.specs.Core.{CoreData}
 use Rattle.lin_core.specs.declared.log.LogEntry.{LogEntry}
 use Rattle.lin_text.specs.declared.fault.WriteFailed.{WriteFailed as Failed}
-use Rattle.lin_tool.specs.Replaying.{IsRefused}
+use Rattle.lin_tool.specs.Replaying.{RefusesScript}
 use Rattle.lin_tool.specs.Tally.{tally_text}
 use Rattle.lin_tool.specs.declared.fault.Fault.{Fault}
 use Rattle.lin_tool.specs.declared.fault.Fault.TheVariants.{BadBenchLine, SlotLimit, LogFull, Unmet}
@@ -28,6 +30,9 @@ use Rattle.lin_tool.specs.declared.fault.Fault.TheVariants.{ScriptTooLong, OutOf
 use Rattle.lin_tool.specs.declared.fault.Fault.TheVariants.{ReadFailed, WriteFailed}
 use Rattle.lin_tool.specs.declared.formats.Format.{Format}
 use Rattle.lin_tool.specs.declared.formats.Format.TheVariants.{Log}
+use Rattle.lin_tool.specs.declared.formats.Shown.{Shown}
+use Rattle.lin_tool.specs.declared.opening.Opened.{Opened}
+use Rattle.lin_tool.specs.declared.playing.Script.{Script as PlayedScript}
 
 -- the program's fault for one of playing
 abbrev pub play_fault : PlayFault → Fault
@@ -47,27 +52,27 @@ pub record Says (c : Parts) (k : Option CodedData) (told : Option (List ℕ)) (s
 abbrev pub ComesTo : Bool → Option CodedData → Parts → ℕ → ℕ → Option (List ℕ) → Result Run ℕ
     → Type 0
 ComesTo strict k c opening capacity told end =
-    (ls : List (ℕ × Line)) × Says c k told (Ok ls) × (played strict c opening capacity ls ≡ end)
+    (ls : List (ℕ × ScriptLine)) × Says c k told (Ok ls) × (play_result strict c opening capacity ls ≡ end)
 
 -- judgements; where what values mean is known, with that
-abbrev pub in_words : Option CodedData → List Judgement → List Judgement
-in_words None js = js
-in_words (Some k) js = with_meanings k js
+abbrev pub judgements_with_meanings : Option CodedData → List Judgement → List Judgement
+judgements_with_meanings None js = js
+judgements_with_meanings (Some k) js = with_meanings k js
 
 -- what signals mean, where values are shown as that
-abbrev pub shown_coding : Option CodedData → Bool → Option CodedData
-shown_coding k is_physical = if is_physical then k else None
+abbrev pub coding_if_physical : Option CodedData → Bool → Option CodedData
+coding_if_physical k is_physical = if is_physical then k else None
 
 -- the log of a run in a format, with what signals mean, where that is shown
 abbrev pub run_as : Format → Option CodedData → Bool → Option (Bor (List ℕ)) → Parts → ℕ → ℕ → Run
     → List ℕ
 run_as format k is_physical named c opening capacity run =
-    log_as format named c (shown_coding k is_physical) opening capacity (reverse run.bench.past)
-    (in_words k run.judgements)
+    log_as format named c (coding_if_physical k is_physical) opening capacity (reverse run.bench.past)
+    (judgements_with_meanings k run.judgements)
 
 -- a text was written, as far as the writer took it
-abbrev pub Tells : Option (List ℕ) → Option (List ℕ) → List ℕ → Type 0
-Tells silent heard text = (outcome : Result Unit Failed) × WritesText silent heard outcome text
+abbrev pub WritesTextOrPart : Option (List ℕ) → Option (List ℕ) → List ℕ → Type 0
+WritesTextOrPart silent heard text = (outcome : Result Unit Failed) × WritesText silent heard outcome text
 
 -- what is told of the judgements of a play, with this log: a line for each that isn't met, and of a
 -- strict play a line of numbers
@@ -75,13 +80,17 @@ abbrev pub told_text : Option (Bor (List ℕ)) → Bool → Parts → List LogEn
 told_text named strict c log js =
     missed_text named c log js ++ (if strict then tally_text c log js else [])
 
+-- what is reported of the judgements of a script's play
+abbrev pub script_verdict : PlayedScript → CoreData → List Judgement → List ℕ
+script_verdict script core js = told_text script.name script.is_strict core.cluster core.log js
+
 -- What is written of a run: its log (this is the whole of it), and then to errors what is told of
 -- its judgements, of which all are met where the answer is Ok; or writing the log stopped at some
 -- place. (The log's own text takes no memory.)
 abbrev pub WritesPlayed : Format → List ℕ → List Judgement → List ℕ → Result Unit Fault
     → Option (List ℕ) → Option (List ℕ) → Option (List ℕ) → Option (List ℕ) → Type 0
 WritesPlayed format whole js text (Ok done) old new silent heard =
-    Appends old new whole × (some_unmet js ≡ false) × Tells silent heard text
+    Appends old new whole × (some_unmet js ≡ false) × WritesTextOrPart silent heard text
 WritesPlayed format whole js text (Err (Unmet outcome)) old new silent heard =
     Appends old new whole × (some_unmet js ≡ true) × WritesText silent heard outcome text
 WritesPlayed format whole js text (Err WriteFailed) old new silent heard =
@@ -90,14 +99,21 @@ WritesPlayed format whole js text (Err OutOfMemory) old new silent heard =
     (format ≢ Log) × Begins old new whole × Keeps silent heard
 WritesPlayed format whole js text (Err _) old new silent heard = ⊥
 
+-- What is written of a run: the log of its core as it is to be shown, and the judgements beside it
+abbrev pub WritesShown : Shown → CoreData → PlayedScript → Result Unit Fault → Option (List ℕ) → Option (List ℕ)
+    → Option (List ℕ) → Option (List ℕ) → Type 0
+WritesShown s core script result old new silent heard =
+    WritesPlayed s.format (shown_log s core) s.judgements.now (script_verdict script core s.judgements.now) result old new
+    silent heard
+
 -- the lines of a bench script came to a run, and this was written of it
 abbrev pub WritesRunOf : Format → Option CodedData → Bool → Option (Bor (List ℕ)) → Bool → Parts
     → ℕ → ℕ → Result Unit Fault → Option (List ℕ) → Option (List ℕ) → Option (List ℕ)
     → Option (List ℕ) → Option (List ℕ) → Type 0
 WritesRunOf format k shows named strict c opening capacity result told old new silent heard =
     (run : Run) × ComesTo strict k c opening capacity told (Ok run)
-    × WritesPlayed format (run_as format k shows named c opening capacity run) (in_words k run.judgements)
-    (told_text named strict c (reverse run.bench.past) (in_words k run.judgements)) result old new
+    × WritesPlayed format (run_as format k shows named c opening capacity run) (judgements_with_meanings k run.judgements)
+    (told_text named strict c (reverse run.bench.past) (judgements_with_meanings k run.judgements)) result old new
     silent heard
 
 -- What a play in this format answers, what the writer took (from old to new), and what the writer
@@ -120,11 +136,11 @@ PlaysScript format k shows named strict c opening capacity
     (Err (SlotLimit n)) told old new silent heard =
     ComesTo strict k c opening capacity told (Err n) × Keeps old new × Keeps silent heard
 PlaysScript format k shows named strict c opening capacity (Err LogFull) told old new silent heard =
-    (ls : List (ℕ × Line)) × Says c k told (Ok ls) × Overfills c opening capacity ls
+    (ls : List (ℕ × ScriptLine)) × Says c k told (Ok ls) × Overfills c opening capacity ls
     × (has_rule ls ≡ true) × Keeps old new × Keeps silent heard
 PlaysScript format k shows named strict c opening capacity
     (Err ScriptTooLong) told old new silent heard =
-    IsRefused script.TooLong told old new × Keeps silent heard
+    RefusesScript script.TooLong told old new × Keeps silent heard
 PlaysScript format k shows named strict c opening capacity
     (Err ReadFailed) told old new silent heard =
     Keeps old new × Keeps silent heard
@@ -138,6 +154,17 @@ PlaysScript format k shows named strict c opening capacity
     WritesRunOf format k shows named strict c opening capacity (Err WriteFailed)
     told old new silent heard
 PlaysScript format k shows named strict c opening capacity (Err _) told old new silent heard = ⊥
+
+-- the same with what was opened
+abbrev pub PlaysOpened : Opened → Option (Bor (List ℕ)) → Result Unit Fault → Option (List ℕ) → Option (List ℕ)
+    → Option (List ℕ) → Option (List ℕ) → Option (List ℕ) → Type 0
+PlaysOpened o named result told old new silent heard =
+    PlaysScript o.settings.format o.coded o.settings.is_physical named o.settings.is_strict o.cluster o.table
+    (room_for o.settings.capacity) result told old new silent heard
+
+-- what is reported of the bad lines of a script, of which this is the first
+abbrev pub script_errors : PlayedScript → Opened → ℕ × Reason → List ℕ
+script_errors script o first = bad_text script.name o.cluster o.coded script.bytes.now first.0 first.1
 
 -- what telling bad lines by this text answers
 abbrev pub TellsBad : {E F : Type 0} → Result (Result Unit F) E → List ℕ → Option (List ℕ)
@@ -156,15 +183,21 @@ IsUnread named c k text _ silent heard = ⊥
 
 -- what reading the lines of a bench script answers, and what the writer of errors took
 abbrev pub ReadsLines : {X : Type 0} → Option (Bor (List ℕ)) → Parts → Option CodedData
-    → List ℕ → (X → List (ℕ × Line)) → Result X Fault → Option (List ℕ) → Option (List ℕ) → Type 0
+    → List ℕ → (X → List (ℕ × ScriptLine)) → Result X Fault → Option (List ℕ) → Option (List ℕ) → Type 0
 ReadsLines named c k text view (Ok x) silent heard =
     (read c k text ≡ Ok (view x)) × Keeps silent heard
 ReadsLines named c k text view (Err fault) silent heard = IsUnread named c k text fault silent heard
 
--- what judging these answers, of which this is told
-abbrev pub Judges : Result Unit Fault → List Judgement → List ℕ
+-- the same of a script
+abbrev pub ReadsScriptLines : {X : Type 0} → PlayedScript → Opened → (X → List (ℕ × ScriptLine)) → Result X Fault
     → Option (List ℕ) → Option (List ℕ) → Type 0
-Judges (Ok done) js text silent heard = (some_unmet js ≡ false) × Tells silent heard text
-Judges (Err (Unmet outcome)) js text silent heard =
+ReadsScriptLines script o view result silent heard =
+    ReadsLines script.name o.cluster o.coded script.bytes.now view result silent heard
+
+-- what judging these answers, of which this is told
+abbrev pub ReportsJudgements : Result Unit Fault → List Judgement → List ℕ
+    → Option (List ℕ) → Option (List ℕ) → Type 0
+ReportsJudgements (Ok done) js text silent heard = (some_unmet js ≡ false) × WritesTextOrPart silent heard text
+ReportsJudgements (Err (Unmet outcome)) js text silent heard =
     (some_unmet js ≡ true) × WritesText silent heard outcome text
-Judges (Err _) js text silent heard = ⊥
+ReportsJudgements (Err _) js text silent heard = ⊥

@@ -1,7 +1,7 @@
 -- What reading an LDF text answers, and the cluster of what was read.
 use Rattle.std.specs.Prelude.{◌≡◌, ℕ, ◌≤◌, List, length, Option, IfSome, Result, Ok, Err}
 use Rattle.lin_tool.specs.Coding.{AnswersCoded}
-use Rattle.lin_field.specs.declared.checking.Remark.{Remark}
+use Rattle.lin_field.specs.declared.field_check.Remark.{Remark}
 use Rattle.lin_tool.specs.Field.{AnswersField, ReadFaults}
 use Rattle.lin_tool.specs.declared.coding.Described.{Described}
 use Rattle.lin_tool.specs.declared.coding.Extras.{Extras}
@@ -11,9 +11,9 @@ use Rattle.lin_tool.specs.declared.describing.Reading.{Reading}
 use Rattle.lin_tool.specs.declared.describing.Reading.TheVariants.{Plain, Field}
 
 -- what reading all the bytes of a reader answers
-abbrev pub ReadsAll : {X : Type 0} → (X → List ℕ) → Result X Fault → Option (List ℕ) → Type 0
-ReadsAll view (Ok x) told = IfSome told (λ bytes. view x ≡ bytes) × (length (view x) ≤ 4194304)
-ReadsAll view (Err fault) told = ReadFaults fault told
+abbrev pub ReadsWholeInput : {X : Type 0} → (X → List ℕ) → Result X Fault → Option (List ℕ) → Type 0
+ReadsWholeInput view (Ok x) told = IfSome told (λ bytes. view x ≡ bytes) × (length (view x) ≤ 4194304)
+ReadsWholeInput view (Err fault) told = ReadFaults fault told
 
 -- this is answered to a text that isn't too long, with these warnings: to what the reader has, where
 -- that is told

@@ -12,24 +12,26 @@ use Rattle.lin_log.specs.declared.fault.ReplayFault.{ReplayFault}
 use Rattle.lin_log.specs.declared.fault.ReplayFault.TheVariants as replay
 use Rattle.lin_values.specs.Coded.{CodedData}
 use Rattle.lin_tool.specs.Formats.{Begins, log_as}
+use Rattle.lin_tool.specs.Opening.{room_for}
 use Rattle.lin_tool.specs.declared.fault.Fault.{Fault}
 use Rattle.lin_tool.specs.declared.fault.Fault.TheVariants.{BadLine, ScriptTooLong, OutOfMemory}
 use Rattle.lin_tool.specs.declared.fault.Fault.TheVariants.{ReadFailed, WriteFailed}
 use Rattle.lin_tool.specs.declared.formats.Format.{Format}
 use Rattle.lin_tool.specs.declared.formats.Format.TheVariants.{Log}
+use Rattle.lin_tool.specs.declared.opening.Opened.{Opened}
 
 -- the program's fault for a fault of a script
-abbrev pub script_fault : ScriptFault → Fault
-script_fault (script.BadLine n) = BadLine n
-script_fault script.TooLong = ScriptTooLong
-script_fault script.ReadFailed = ReadFailed
-script_fault script.OutOfMemory = OutOfMemory
+abbrev pub fault_of_script : ScriptFault → Fault
+fault_of_script (script.BadLine n) = BadLine n
+fault_of_script script.TooLong = ScriptTooLong
+fault_of_script script.ReadFailed = ReadFailed
+fault_of_script script.OutOfMemory = OutOfMemory
 
 -- the program's fault for one of a replay
-abbrev pub replay_fault : ReplayFault → Fault
-replay_fault (replay.Script fault) = script_fault fault
-replay_fault replay.OutOfMemory = OutOfMemory
-replay_fault replay.WriteFailed = WriteFailed
+abbrev pub fault_of_replay : ReplayFault → Fault
+fault_of_replay (replay.Script fault) = fault_of_script fault
+fault_of_replay replay.OutOfMemory = OutOfMemory
+fault_of_replay replay.WriteFailed = WriteFailed
 
 -- the log of the steps of a script: of its bytes where the reader tells them, and of some steps in
 -- any case
@@ -39,8 +41,8 @@ IsLogOf c opening capacity told log =
     × (log ≡ log_of c opening capacity said)
 
 -- the script has this fault, where the reader tells its bytes, and nothing was written
-abbrev pub IsRefused : ScriptFault → Option (List ℕ) → Option (List ℕ) → Option (List ℕ) → Type 0
-IsRefused fault told old new = IfSome told (ScriptFaults fault) × Keeps old new
+abbrev pub RefusesScript : ScriptFault → Option (List ℕ) → Option (List ℕ) → Option (List ℕ) → Type 0
+RefusesScript fault told old new = IfSome told (ScriptFaults fault) × Keeps old new
 
 -- of the log in this format a beginning was written
 abbrev pub Stops : Format → Option CodedData → Parts → ℕ → ℕ
@@ -57,12 +59,17 @@ Replays format k c opening capacity (Ok done) told old new =
     (log : List LogEntry) × IsLogOf c opening capacity told log
     × Appends old new (log_as format None c k opening capacity log [])
 Replays format k c opening capacity (Err (BadLine n)) told old new =
-    IsRefused (script.BadLine n) told old new
+    RefusesScript (script.BadLine n) told old new
 Replays format k c opening capacity (Err ScriptTooLong) told old new =
-    IsRefused script.TooLong told old new
+    RefusesScript script.TooLong told old new
 Replays format k c opening capacity (Err ReadFailed) told old new = Keeps old new
 Replays format k c opening capacity (Err OutOfMemory) told old new =
     Keeps old new ⊎ ((format ≢ Log) × Stops format k c opening capacity told old new)
 Replays format k c opening capacity (Err WriteFailed) told old new =
     Stops format k c opening capacity told old new
 Replays format k c opening capacity (Err _) told old new = ⊥
+
+-- the same with what was opened
+abbrev pub ReplaysOpened : Opened → Result Unit Fault → Option (List ℕ) → Option (List ℕ) → Option (List ℕ) → Type 0
+ReplaysOpened o result told old new =
+    Replays o.settings.format o.coded o.cluster o.table (room_for o.settings.capacity) result told old new

@@ -10,23 +10,23 @@ use Rattle.lin_core.specs.Links.{waiting}
 use Rattle.lin_core.specs.declared.log.LogEntry.{LogEntry}
 use Rattle.lin_bench.specs.Played.{is_unmet}
 use Rattle.lin_bench.specs.declared.got.Judgement.{Judgement}
-use Rattle.lin_tool.specs.Page.{events_so, is_lost, is_refusal, is_seen}
+use Rattle.lin_tool.specs.Page.{events_so, is_lost_event, is_refusal, is_seen}
 
 -- how many messages wait, of all hosts
 abbrev pub waiting_in : Parts → List LogEntry → ℕ
 waiting_in c past = sum_by (λ h. length (waiting c past h)) (numbers (nodes c))
 
 -- a number, and what it counts
-abbrev pub counted : ℕ → List ℕ → List ℕ
-counted count word = decimal count ++ word
+abbrev pub count_with_word : ℕ → List ℕ → List ℕ
+count_with_word count word = decimal count ++ word
 
 abbrev pub tally_text : Parts → List LogEntry → List Judgement → List ℕ
 tally_text c log js =
     codes "play: "
-    ++ (counted (length js) (codes " expected, ")
-    ++ (counted (count_by (λ (j : Judgement). is_unmet j.judged) js) (codes " unmet, ")
-    ++ (counted (events_so is_seen log) (codes " slots, ")
-    ++ (counted (time c (reverse log)) (codes " us, ")
-    ++ (counted (count_by (λ (e : LogEntry). is_refusal e.reply) log) (codes " refused, ")
-    ++ (counted (events_so is_lost log) (codes " lost, ")
-    ++ counted (waiting_in c (reverse log)) (codes " waiting\n")))))))
+    ++ (count_with_word (length js) (codes " expected, ")
+    ++ (count_with_word (count_by (λ (j : Judgement). is_unmet j.judged) js) (codes " unmet, ")
+    ++ (count_with_word (events_so is_seen log) (codes " slots, ")
+    ++ (count_with_word (time c (reverse log)) (codes " us, ")
+    ++ (count_with_word (count_by (λ (e : LogEntry). is_refusal e.reply) log) (codes " refused, ")
+    ++ (count_with_word (events_so is_lost_event log) (codes " lost, ")
+    ++ count_with_word (waiting_in c (reverse log)) (codes " waiting\n")))))))

@@ -1,12 +1,12 @@
 -- What the program says of a fault, as lines.
 use Rattle.std.specs.Prelude.{ℕ, ◌==◌, List, [], ◌∷◌, ◌++◌, flat_map, if◌then◌else◌, codes}
 use Rattle.std.specs.Fmt.{decimal}
-use Rattle.lin_parts.specs.declared.place.Place.{Place}
+use Rattle.lin_parts.specs.declared.place.Location.{Location}
 use Rattle.lin_ldf.specs.declared.fault.LdfFault.{LdfFault}
 use Rattle.lin_ldf.specs.declared.fault.LdfFault.TheVariants as ldf
 use Rattle.lin_cluster.specs.declared.finding.Finding.{Finding}
 use Rattle.lin_cluster.specs.Kinds.{finding_name}
-use Rattle.lin_field.specs.declared.checking.Remark.{Remark}
+use Rattle.lin_field.specs.declared.field_check.Remark.{Remark}
 use Rattle.lin_log.specs.Words.{line}
 use Rattle.lin_tool.specs.declared.fault.Fault.{Fault}
 use Rattle.lin_tool.specs.declared.fault.Fault.TheVariants.{BadLine, Ldf, Findings, LdfTooLong}
@@ -41,7 +41,7 @@ abbrev pub remark_line : Remark → List ℕ
 remark_line r = reported_line (remark_word r) r.finding
 
 -- the line of a fault of an LDF text, by its number and name
-abbrev pub ldf_line : Place → List ℕ → List ℕ
+abbrev pub ldf_line : Location → List ℕ → List ℕ
 ldf_line place name =
     line (codes "ldf" ∷ place_word place.line place.column ∷ codes "fault" ∷ name ∷ [])
 

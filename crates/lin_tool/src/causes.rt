@@ -3,7 +3,7 @@
 use crate::explaining::put_shown;
 use crate::misspelled::first_word;
 use crate::wanted::before;
-use lin_ldf::{LdfFault, Parser, Place, TokenKind};
+use lin_ldf::{LdfFault, Location, Parser, TokenKind};
 use std::alloc::{AllocError, Global};
 
 /// Quotes of word processors, in UTF-8 and in Windows-1252.
@@ -57,7 +57,7 @@ fn cause_of(before: &[u8], rest: &[u8], last: Option<TokenKind>) -> Option<&'sta
 #[derive(Clone, Copy)]
 struct Brace<'a> {
     word: &'a [u8],
-    place: Place,
+    place: Location,
 }
 
 /// What precedes a place: the braces that are open there, the last token, and its kind.
@@ -83,7 +83,7 @@ impl Preceding<'_> {
 }
 
 /// What precedes a place of a text.
-fn preceding_at(alloc: Global, text: &[u8], place: Place) -> Result<Preceding<'_>, AllocError> {
+fn preceding_at(alloc: Global, text: &[u8], place: Location) -> Result<Preceding<'_>, AllocError> {
     let mut parser = Parser::new(alloc, text);
     let mut opened = Preceding {
         braces: Vec::new(alloc),
@@ -92,7 +92,7 @@ fn preceding_at(alloc: Global, text: &[u8], place: Place) -> Result<Preceding<'_
     };
     let mut word: &[u8] = &[];
     for _ in 0..parser.left() {
-        let Place { line, column } = parser.place();
+        let Location { line, column } = parser.place();
         let Some(kind) = parser.front_kind() else {
             break;
         };
@@ -101,7 +101,7 @@ fn preceding_at(alloc: Global, text: &[u8], place: Place) -> Result<Preceding<'_
         }
         match kind {
             TokenKind::OpenBrace => {
-                let place = Place { line, column };
+                let place = Location { line, column };
                 opened.braces.push(Brace { word, place })?;
                 word = &[];
             }
@@ -126,7 +126,7 @@ fn put_open_brace(out: &mut String, opened: &Preceding<'_>, rest: &[u8]) -> Resu
         Some(Brace { word, place }) if opened.is_unclosed(rest) => {
             out.push_str("  the brace of ")?;
             put_shown(out, word)?;
-            let Place { line, column } = *place;
+            let Location { line, column } = *place;
             writeln!(
                 out,
                 " isn't closed: opened at {line}:{column}\n  help: add the missing brace"
@@ -142,7 +142,7 @@ pub(crate) fn put_cause(
     out: &mut String,
     text: &[u8],
     fault: &LdfFault,
-    place: Place,
+    place: Location,
 ) -> Result<(), AllocError> {
     let before = before(text, place);
     let rest = text.get(before.len()..).unwrap_or(&[]);

@@ -9,7 +9,7 @@ ghost use Rattle.lin_ldf.specs.Tokens.{AreTokens};
 ghost use Rattle.lin_ldf.specs.declared.token.Token.{Token};
 ghost use Rattle.lin_field.specs.Checks.{remark, remark_cmp};
 ghost use Rattle.lin_tool.specs.Coding.{are_read, coded_read, codings_kept, codings_read};
-ghost use Rattle.lin_tool.specs.Coding.{attributes_read, configurables_read, configured_read, configuring_told, linted, sections_read, told_of, unknown_read, unused_told, AreWarnings};
+ghost use Rattle.lin_tool.specs.Coding.{attributes_read, configurables_read, configured_read, configuring_told, with_lints, sections_read, reported_findings, unknown_read, unused_told, AreWarnings};
 ghost use Rattle.lin_tool.specs.declared.fault.Fault.TheVariants.{OutOfMemory};
 
 use crate::fault::Fault;
@@ -51,7 +51,7 @@ pub struct Extras {
 /// configurable frames of node attributes; and the words that LIN doesn't have, with what is odd in node
 /// attributes.
 #[derive(Drop)]
-pub(crate) struct Sections {
+pub(crate) struct ExtraSections {
     pub codings: Option<Codings>,
     pub configurables: Option<Many<Configurable>>,
     pub found: Many<Finding>,
@@ -159,7 +159,7 @@ pub(crate) fn sections_of(
     description: &Description,
     is_field: bool,
     extras: Extras,
-) -> Result<Sections, AllocError>
+) -> Result<ExtraSections, AllocError>
     ensures read { IfOk result (λ s. s ≡ sections_read is_field extras description.now
         (symbols_in text.now (start_of text.now).tokens)) }
     ensures tokens { (ts : List Token) → AreTokens text.now ts
@@ -171,7 +171,7 @@ pub(crate) fn sections_of(
     let mut found = unknown_of(alloc, text, is_field || extras.is_linted)?;
     let odd = attributes_of(alloc, text, description, extras.is_linted)?;
     found.extend_from_slice(odd.as_slice())?;
-    Ok(Sections {
+    Ok(ExtraSections {
         codings,
         configurables,
         found: Many::new(found),
@@ -231,7 +231,7 @@ pub(crate) fn with_lints(
 ) -> Result<Many<Remark>, AllocError>
     requires { IsSorted remark_cmp warnings }
     ensures all { IfOk result (λ all. IsPermutation
-        (linted description.now placed_elsewhere.now configurables
+        (with_lints description.now placed_elsewhere.now configurables
         (option_map (λ k. k.now) codings.entry) warnings)
         all) }
     ensures ordered { IfOk result (λ all. IsSorted remark_cmp all) }
@@ -260,7 +260,7 @@ fn with_told(
 ) -> Result<Many<Remark>, AllocError>
     requires { IsSorted remark_cmp warnings }
     ensures all { IfOk result
-        (λ all. IsPermutation (warnings ++ map (remark true) (told_of encodings found.now)) all) }
+        (λ all. IsPermutation (warnings ++ map (remark true) (reported_findings encodings found.now)) all) }
     ensures ordered { IfOk result (λ all. IsSorted remark_cmp all) }
 {
     match encodings {

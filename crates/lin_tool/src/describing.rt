@@ -4,13 +4,14 @@
 ghost use Rattle.std.specs.Prelude.{◌≡◌, List, ℕ, IfOk, IsSome, true};
 ghost use Rattle.lin_ldf.specs.Describes.{Describes};
 ghost use Rattle.lin_cluster.specs.SlotTimes.{NoSlotIsShort};
-ghost use Rattle.lin_tool.specs.Clusters.{AnswersParse, AnswersText, IsSaidBy, Tells};
+ghost use Rattle.lin_tool.specs.Clusters.{AnswersParse, AnswersText, IsSaidBy, IsParseFault};
 ghost use Rattle.lin_tool.specs.Coding.{AnswersCoded, AnswersSections};
-ghost use Rattle.lin_tool.specs.Reading.{AnswersLdf, AnswersReading, ReadsAll};
+ghost use Rattle.lin_tool.specs.Reading.{AnswersLdf, AnswersReading, ReadsWholeInput};
 ghost use Rattle.lin_tool.specs.declared.describing.Reading.TheVariants.{Plain};
 
 use crate::coding::{
-    Described, Extras, Sections, coded_noted, configured, sections_of, with_findings, with_lints,
+    Described, ExtraSections, Extras, coded_noted, configured, sections_of, with_findings,
+    with_lints,
 };
 use crate::fault::Fault;
 use crate::field::field_of_reader;
@@ -18,7 +19,7 @@ use crate::findings::Findings;
 use crate::notes::Notes;
 use lin_cluster::{CheckFault, check};
 use lin_field::Checked;
-use lin_ldf::{LdfFault, Parser, TokenKind, parse_noting};
+use lin_ldf::{LdfFault, Parser, TokenKind, UnknownWords, parse_noting};
 use lin_parts::Cluster;
 use lin_parts::description::Description;
 use lin_text::{Many, ReadFault, read_whole};
@@ -48,7 +49,7 @@ Schedule_tables { diag { MasterReq delay 10 ms; SlaveResp delay 10 ms; } }
 /// refused; `ReadFailed` where the reader answers an error, whatever its kind, after which it is
 /// asked no second time.
 pub fn read_text<R: Read>(alloc: Global, reader: &mut R) -> Result<Vec<u8>, Fault>
-    ensures { ReadsAll (λ v. v.items) result (R.remaining reader.old) }
+    ensures { ReadsWholeInput (λ v. v.items) result (R.remaining reader.old) }
 {
     match read_whole(alloc, reader, LIMIT) {
         Ok(bytes) => Ok(bytes),
@@ -60,7 +61,7 @@ pub fn read_text<R: Read>(alloc: Global, reader: &mut R) -> Result<Vec<u8>, Faul
 
 /// What a fault of `parse` is to the program.
 pub(crate) fn fault_of(fault: LdfFault) -> Fault
-    ensures { Tells result fault }
+    ensures { IsParseFault result fault }
 {
     match fault {
         LdfFault::OutOfMemory => Fault::OutOfMemory,
@@ -68,18 +69,18 @@ pub(crate) fn fault_of(fault: LdfFault) -> Fault
     }
 }
 
-/// Reads the declarations of an LDF. Sets whether it has sections or attributes that LIN doesn't have.
+/// Reads the declarations of an LDF, and the words of its sections and attributes that LIN doesn't have.
 ///
 /// # Errors
 /// `Ldf` for the first fault of the text; `OutOfMemory`.
-pub(crate) fn description_of(
+pub(crate) fn description_of<'a>(
     alloc: Global,
-    text: &[u8],
-    has_unknown: &mut bool,
+    text: &'a [u8],
+    unknown: &mut UnknownWords<'a>,
 ) -> Result<Description, Fault>
     ensures { AnswersParse result text.now }
 {
-    match parse_noting(alloc, text, has_unknown) {
+    match parse_noting(alloc, text, unknown) {
         Ok(description) => Ok(description),
         Err(fault) => Err(fault_of(fault)),
     }
@@ -108,8 +109,7 @@ fn said_by(alloc: Global, description: Description) -> Result<Cluster, Fault>
 pub fn cluster_of_text(alloc: Global, text: &[u8]) -> Result<Cluster, Fault>
     ensures { AnswersText result text.now }
 {
-    let mut has_unknown = false;
-    match description_of(alloc, text, &mut has_unknown) {
+    match description_of(alloc, text, &mut UnknownWords::new(alloc)) {
         Ok(description) => said_by(alloc, description),
         Err(fault) => Err(fault),
     }
@@ -122,20 +122,20 @@ pub(crate) fn let_go(text: &mut Vec<u8>) {
     text.shrink_to_fit();
 }
 
-/// Reads the declarations of an LDF, and what the extras want of its sections. Sets whether it has unknown
-/// ones, as `description_of` does.
+/// Reads the declarations of an LDF, what the extras want of its sections, and its unknown words, as
+/// `description_of` does.
 ///
 /// # Errors
 /// Those of `description_of`.
-fn parse_text(
+fn parse_text<'a>(
     alloc: Global,
-    text: &[u8],
+    text: &'a [u8],
     extras: Extras,
-    has_unknown: &mut bool,
-) -> Result<(Description, Sections), Fault>
+    unknown: &mut UnknownWords<'a>,
+) -> Result<(Description, ExtraSections), Fault>
     ensures { AnswersSections extras result text.now }
 {
-    let description = description_of(alloc, text, has_unknown)?;
+    let description = description_of(alloc, text, unknown)?;
     let sections = sections_of(alloc, text, &description, false, extras)?;
     Ok((description, sections))
 }
@@ -147,7 +147,7 @@ fn parse_text(
 /// That of what was parsed; those of `said_by`.
 fn check_parsed(
     alloc: Global,
-    parsed: Result<(Description, Sections), Fault>,
+    parsed: Result<(Description, ExtraSections), Fault>,
     extras: Extras,
     text: &[u8],
     notes: &mut Notes<'_>,
@@ -157,7 +157,7 @@ fn check_parsed(
         → AnswersCoded extras result notes.new.warnings source }
 {
     let (description, sections) = parsed?;
-    let Sections {
+    let ExtraSections {
         codings,
         configurables,
         found,
@@ -208,11 +208,14 @@ fn cluster_of_bytes(
 ) -> Result<Described, Fault>
     ensures { AnswersCoded extras result notes.new.warnings bytes.items }
 {
-    let mut has_unknown = false;
-    let parsed = parse_text(alloc, bytes.as_slice(), extras, &mut has_unknown);
-    if has_unknown && parsed.is_ok() && !extras.is_linted {
-        notes.count_unknown(alloc, bytes.as_slice())?;
-    }
+    let parsed = {
+        let mut unknown = UnknownWords::new(alloc);
+        let parsed = parse_text(alloc, bytes.as_slice(), extras, &mut unknown);
+        if parsed.is_ok() && !extras.is_linted {
+            notes.count_unknown(alloc, &unknown)?;
+        }
+        parsed
+    };
     let is_old = is_old(alloc, bytes.as_slice());
     if !is_old && !notes.is_text_wanted() && !extras.is_configured {
         let_go(&mut bytes);
@@ -313,8 +316,8 @@ pub fn cluster_of_file<R: AllocGlobal + Files>(
 {
     match path {
         None => {
-            let mut has_unknown = false;
-            let parsed = parse_text(rt.alloc(), BUILT_IN, extras, &mut has_unknown);
+            let mut unknown = UnknownWords::new(rt.alloc());
+            let parsed = parse_text(rt.alloc(), BUILT_IN, extras, &mut unknown);
             check_parsed(rt.alloc(), parsed, extras, BUILT_IN, notes)
         }
         Some(path) => {

@@ -11,7 +11,7 @@ use crate::wanted::put_wanted;
 use lin_cluster::Finding;
 use lin_core::{Listed, Log, Refusal, Reply};
 use lin_field::{Loose, Remark, read_field};
-use lin_ldf::{Description, LdfFault, Place};
+use lin_ldf::{Description, LdfFault, Location};
 use lin_log::first_line;
 use lin_parts::Cluster;
 use std::alloc::{AllocError, Global};
@@ -79,7 +79,7 @@ fn line_of(text: &[u8], number: u64) -> &[u8] {
 }
 
 /// Puts the line of a place in a text, and a mark under the place.
-pub(crate) fn put_place(out: &mut String, text: &[u8], place: Place) -> Result<(), AllocError> {
+pub(crate) fn put_place(out: &mut String, text: &[u8], place: Location) -> Result<(), AllocError> {
     let line = line_of(text, place.line);
     let at = line.len().min(place.column.saturating_sub(1) as usize);
     let from = at.saturating_sub(BEFORE);
@@ -95,7 +95,7 @@ pub(crate) fn put_place(out: &mut String, text: &[u8], place: Place) -> Result<(
 }
 
 /// Where a text is at fault, and the fault's number.
-pub(crate) fn place_of(fault: &LdfFault) -> Option<(Place, u8)> {
+pub(crate) fn place_of(fault: &LdfFault) -> Option<(Location, u8)> {
     match fault {
         LdfFault::BadByte(place) => Some((*place, 1)),
         LdfFault::OpenComment(place) => Some((*place, 2)),
@@ -142,7 +142,7 @@ fn put_found(out: &mut String, text: &[u8], finding: &Finding) -> Result<(), All
         needed_us: _,
     } = *finding;
     writeln!(out, "{line}:{column}")?;
-    put_place(out, text, Place { line, column })
+    put_place(out, text, Location { line, column })
 }
 
 /// Puts what a finding of a number means and what to change, and how many of it there are where there
@@ -172,7 +172,7 @@ fn put_unknown(
         column,
         needed_us: _,
     } = *finding;
-    let place = Place { line, column };
+    let place = Location { line, column };
     match description {
         _ if number == UNKNOWN_WORD => put_near_word(alloc, out, text, place),
         _ if number == UNKNOWN_COMMAND => put_near_command(alloc, out, text, place),

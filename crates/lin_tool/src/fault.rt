@@ -4,9 +4,9 @@ ghost use Rattle.std.specs.Prelude.{◌≡◌};
 ghost use Rattle.lin_tool.specs.Formats.{export_fault};
 ghost use Rattle.lin_tool.specs.Living.{live_fault};
 ghost use Rattle.lin_tool.specs.Playing.{play_fault};
-ghost use Rattle.lin_tool.specs.Replaying.{replay_fault, script_fault};
+ghost use Rattle.lin_tool.specs.Replaying.{fault_of_replay, fault_of_script};
 ghost use Rattle.lin_tool.specs.Running.{run_fault, split_fault};
-ghost use Rattle.lin_tool.specs.Statuses.{end_status, status_of};
+ghost use Rattle.lin_tool.specs.Statuses.{end_status, exit_status};
 ghost use Rattle.lin_tool.specs.declared.fault.Fault.TheVariants.{OutOfMemory, WriteFailed as NotWritten};
 
 use crate::findings::{Findings, Remarks};
@@ -83,7 +83,7 @@ impl Fault {
     /// expectations of a bench script aren't met. (0 is for a run without a fault, and 2 for a
     /// wrong command line.)
     pub fn status(&self) -> u8
-        ensures { result ≡ status_of self.now }
+        ensures { result ≡ exit_status self.now }
     {
         match self {
             Fault::Ldf(_)
@@ -116,7 +116,7 @@ pub fn exit_status(done: &Result<(), Fault>) -> u8
 }
 
 impl From<ScriptFault> for Fault {
-    ghost from_gives = { λ x y. y ≡ script_fault x };
+    ghost from_gives = { λ x y. y ≡ fault_of_script x };
 
     fn from(fault: ScriptFault) -> Fault {
         match fault {
@@ -129,7 +129,7 @@ impl From<ScriptFault> for Fault {
 }
 
 impl From<ReplayFault> for Fault {
-    ghost from_gives = { λ x y. y ≡ replay_fault x };
+    ghost from_gives = { λ x y. y ≡ fault_of_replay x };
 
     fn from(fault: ReplayFault) -> Fault {
         match fault {

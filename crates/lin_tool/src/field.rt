@@ -2,12 +2,12 @@
 
 ghost use Rattle.lin_ldf.specs.Stream.{start_of};
 ghost use Rattle.lin_ldf.specs.Symbols.{symbols_in};
-ghost use Rattle.lin_tool.specs.Field.{AnswersChecked, AnswersField, AnswersSettled, ChecksField};
+ghost use Rattle.lin_tool.specs.Field.{AnswersChecked, AnswersField, AnswersNormalized, ChecksField};
 ghost use Rattle.lin_tool.specs.Field.{WritesPlain};
 
 use crate::coding::{
-    Described, Encodings, Extras, Sections, coded_noted, configured, sections_of, with_findings,
-    with_lints,
+    Described, Encodings, ExtraSections, Extras, coded_noted, configured, sections_of,
+    with_findings, with_lints,
 };
 use crate::describing::{Reading, fault_of, let_go, read_text};
 use crate::fault::Fault;
@@ -15,7 +15,7 @@ use crate::findings::Remarks;
 use crate::notes::Notes;
 use crate::page::data::lines_of;
 use lin_field::{
-    Checked, FieldFault, Settled, check_field, read_field, read_over_bytes, settle, write_plain,
+    Checked, FieldFault, Normalized, check_field, read_field, read_over_bytes, settle, write_plain,
 };
 use lin_parts::Cluster;
 use lin_text::Many;
@@ -27,8 +27,8 @@ use std::io::{Read, Write};
 ///
 /// # Errors
 /// `Ldf` for the first fault of the text; `OutOfMemory`.
-pub(crate) fn settled_of(alloc: Global, bytes: &mut [u8]) -> Result<Settled, Fault>
-    ensures { AnswersSettled result bytes.old bytes.new }
+pub(crate) fn settled_of(alloc: Global, bytes: &mut [u8]) -> Result<Normalized, Fault>
+    ensures { AnswersNormalized result bytes.old bytes.new }
 {
     match read_field(alloc, bytes) {
         Ok(text) => Ok(settle(alloc, text)?),
@@ -36,7 +36,7 @@ pub(crate) fn settled_of(alloc: Global, bytes: &mut [u8]) -> Result<Settled, Fau
     }
 }
 
-fn check_settled(alloc: Global, settled: &Settled) -> Result<Checked, Fault>
+fn check_settled(alloc: Global, settled: &Normalized) -> Result<Checked, Fault>
     ensures { ChecksField settled.now result }
 {
     match check_field(alloc, settled) {
@@ -91,8 +91,8 @@ fn settled_noted(
     bytes: &mut [u8],
     text: &[u8],
     notes: &mut Notes<'_>,
-) -> Result<Settled, Fault>
-    ensures { AnswersSettled result bytes.old bytes.new }
+) -> Result<Normalized, Fault>
+    ensures { AnswersNormalized result bytes.old bytes.new }
 {
     let answer = settled_of(alloc, bytes);
     if let Err(fault) = &answer {
@@ -109,8 +109,8 @@ fn settled_noted(
 /// `Remarks` for all that is wrong, and the warnings of what was settled; `OutOfMemory`.
 fn cluster_noted(
     alloc: Global,
-    settled: &Settled,
-    sections: Sections,
+    settled: &Normalized,
+    sections: ExtraSections,
     extras: Extras,
     mended: &[u8],
     text: &[u8],
@@ -119,7 +119,7 @@ fn cluster_noted(
     ensures { AnswersChecked extras settled.now sections
         (symbols_in mended.now (start_of mended.now).tokens) result notes.new.warnings }
 {
-    let Sections {
+    let ExtraSections {
         codings,
         configurables,
         found,
@@ -190,7 +190,7 @@ pub(crate) fn write_field<W: Write>(
     let mut bytes = bytes;
     let text = noted_text(alloc, bytes.as_slice(), notes)?;
     let settled = settled_noted(alloc, bytes.as_mut_slice(), text.as_slice(), notes)?;
-    let sections = Sections {
+    let sections = ExtraSections {
         codings: None,
         configurables: None,
         found: Many::new(unknown_words(alloc, bytes.as_slice())?),

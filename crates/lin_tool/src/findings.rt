@@ -5,7 +5,7 @@ ghost use Rattle.lin_text.specs.Written.{Grows};
 ghost use Rattle.lin_log.specs.Words.{line_tail};
 ghost use Rattle.lin_tool.specs.Telling.{finding_line, reported_line, remark_line, remark_word, needed_words};
 ghost use Rattle.lin_tool.specs.Telling.{place_word};
-ghost use Rattle.lin_tool.specs.Levels.{is_reported, reported};
+ghost use Rattle.lin_tool.specs.Levels.{is_reported, reported_remarks};
 
 use crate::levels::Levels;
 use lin_cluster::Finding;
@@ -102,7 +102,7 @@ pub(crate) fn put_reported_remarks<W: Write>(
     remarks: &[Remark],
 )
     ensures { Grows W.contents out.old out.new
-        (flat_map remark_line (reported levels.now.allowed remarks.now)) }
+        (flat_map remark_line (reported_remarks levels.now.allowed remarks.now)) }
 {
     for remark in remarks {
         put_if_reported(out, levels, remark);

@@ -3,8 +3,7 @@
 ghost use Rattle.std.specs.Prelude.{◌≡◌, IfErr};
 ghost use Rattle.lin_export.specs.declared.fault.ExportFault.TheVariants.{WriteFailed};
 ghost use Rattle.lin_text.specs.Written.{WritesText};
-ghost use Rattle.lin_export.specs.WhereTold.{told};
-ghost use Rattle.lin_tool.specs.Formats.{log_as};
+ghost use Rattle.lin_tool.specs.Formats.{shown_log};
 ghost use Rattle.lin_tool.specs.declared.formats.Format.TheVariants.{Log};
 
 use crate::junit::write_junit;
@@ -70,8 +69,7 @@ pub fn write_shown<W: Write>(
     writer: &mut W,
 ) -> Result<(), ExportFault>
     ensures text { WritesText (W.contents writer.old) (W.contents writer.new) result
-        (log_as shown.now.format shown.now.script core.now.cluster (told shown.now.coded)
-        shown.now.table shown.now.capacity core.now.log shown.now.judgements.now) }
+        (shown_log shown.now core.now) }
     ensures memory { shown.now.format ≡ Log → IfErr result (λ fault. fault ≡ WriteFailed) }
 {
     let cluster = core.cluster();

@@ -3,14 +3,13 @@
 ghost use Rattle.std.specs.Prelude.{◌≡◌, ◌++◌, [], codes, drop, flat_map, IfOk, List, Some, ℕ};
 ghost use Rattle.std.specs.Option.{option_map_or};
 ghost use Rattle.std.specs.Str.{is_utf8};
-ghost use Rattle.lin_core.specs.declared.log.LogEntry.{LogEntry};
 ghost use Rattle.lin_log.specs.Words.{spaced_word};
 ghost use Rattle.lin_bench.specs.Texts.{found_text, what_text};
 ghost use Rattle.lin_export.specs.Putting.{PutsAll};
 ghost use Rattle.lin_text.specs.Written.{Grows, WritesText};
-ghost use Rattle.lin_tool.specs.Junit.{case_end, case_name, case_text, escaped, escaped_text, head};
+ghost use Rattle.lin_tool.specs.Junit.{case_end, case_name, case_text, xml_byte, xml_text, junit_head};
 ghost use Rattle.lin_tool.specs.Junit.{error_name, error_report, junit};
-ghost use Rattle.lin_tool.specs.Placing.{moment_of, past_at, placed_missed};
+ghost use Rattle.lin_tool.specs.Placing.{placed_missed, AtMoment};
 
 use crate::placing::{Moment, put_missed, within};
 use crate::tally::unmet_in;
@@ -30,7 +29,7 @@ fn is_utf8(text: &[u8]) -> bool
 
 /// A byte as it stands in XML: `?` for one that isn't printable, and for one above 7F but in UTF-8.
 fn put_escaped_byte<W: Write>(out: &mut TextWriter<'_, W>, byte: u8, is_text: bool)
-    ensures { Grows W.contents out.old out.new (escaped is_text byte) }
+    ensures { Grows W.contents out.old out.new (xml_byte is_text byte) }
 {
     if byte == b'&' {
         out.put_text("&amp;");
@@ -48,7 +47,7 @@ fn put_escaped_byte<W: Write>(out: &mut TextWriter<'_, W>, byte: u8, is_text: bo
 }
 
 fn put_escaped<W: Write>(out: &mut TextWriter<'_, W>, text: &[u8])
-    ensures { Grows W.contents out.old out.new (escaped_text text.now) }
+    ensures { Grows W.contents out.old out.new (xml_text text.now) }
 {
     let is_text = is_utf8(text);
     for byte in text {
@@ -94,9 +93,8 @@ fn missed_text(
     moment: Moment,
     judgement: &Judgement,
 ) -> Result<Vec<u8>, AllocError>
-    ensures { IfOk result (λ v. (log : List LogEntry)
-        → moment ≡ moment_of cluster.now (past_at log judgement.now.entries)
-        → v.items ≡ placed_missed file.now cluster.now log judgement.now) }
+    ensures { AtMoment cluster.now judgement.now moment (λ log. IfOk result
+        (λ v. v.items ≡ placed_missed file.now cluster.now log judgement.now)) }
 {
     let mut text = Vec::new(alloc);
     let mut buffer = TextBuffer::empty();
@@ -154,10 +152,9 @@ fn put_case<W: Write>(
     moment: Moment,
     judgement: &Judgement,
 ) -> Result<(), AllocError>
-    ensures { (log : List LogEntry)
-        → moment ≡ moment_of cluster.now (past_at log judgement.now.entries)
-        → PutsAll W.contents out.old out.new result
-        (case_text file.now cluster.now log judgement.now) }
+    ensures { AtMoment cluster.now judgement.now moment (λ log.
+        PutsAll W.contents out.old out.new result
+        (case_text file.now cluster.now log judgement.now)) }
 {
     let judged = &judgement.judged;
     let what = what_text(alloc, cluster, judged)?;
@@ -200,7 +197,7 @@ fn put_cases<W: Write>(
 
 /// What stands before the cases: how many there are, and how many fail.
 fn put_head<W: Write>(out: &mut TextWriter<'_, W>, file: &str, judgements: &[Judgement])
-    ensures { Grows W.contents out.old out.new (head file.now judgements.now) }
+    ensures { Grows W.contents out.old out.new (junit_head file.now judgements.now) }
 {
     out.put_text("<?xml version=\"1.0\" encoding=\"UTF-8\"?>\n<testsuites>\n<testsuite name=\"");
     put_escaped(out, file.as_bytes());

@@ -2,7 +2,7 @@
 
 ghost use Rattle.std.specs.Prelude.{◌≡◌, ◌&&◌, [], IfOk};
 ghost use Rattle.std.specs.List.{list_any};
-ghost use Rattle.lin_tool.specs.Levels.{is_among, is_denied, is_reported, reported};
+ghost use Rattle.lin_tool.specs.Levels.{is_in_ranges, is_denied, is_reported, reported_remarks};
 
 use lin_field::Remark;
 use lin_text::Many;
@@ -24,7 +24,7 @@ pub struct Levels {
 
 /// Whether one of these ranges has a number.
 fn is_among(ranges: &[NumberRange], number: u8) -> bool
-    ensures { result ≡ is_among ranges.now number }
+    ensures { result ≡ is_in_ranges ranges.now number }
 {
     ranges
         .iter()
@@ -64,7 +64,7 @@ impl Levels {
         alloc: Global,
         remarks: &[Remark],
     ) -> Result<Vec<Remark>, AllocError>
-        ensures { IfOk result (λ r. r.items ≡ reported self.now.allowed remarks.now) }
+        ensures { IfOk result (λ r. r.items ≡ reported_remarks self.now.allowed remarks.now) }
     {
         let mut reported = Vec::new(alloc);
         for remark in remarks {
@@ -96,7 +96,7 @@ impl Levels {
 
     /// Whether a warning that is reported is denied.
     pub(crate) fn is_any_denied(&self, remarks: &[Remark]) -> bool
-        ensures { result ≡ list_any (is_denied self.now.denied) (reported self.now.allowed remarks.now) }
+        ensures { result ≡ list_any (is_denied self.now.denied) (reported_remarks self.now.allowed remarks.now) }
     {
         self.is_any_reported_and_denied(remarks)
     }

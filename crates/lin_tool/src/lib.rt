@@ -17,6 +17,7 @@ mod comparing;
 mod describing;
 mod explaining;
 mod fault;
+mod fault_lines;
 mod field;
 mod findings;
 mod formats;
@@ -41,7 +42,6 @@ mod replaying;
 mod running;
 mod scripts;
 mod tally;
-mod telling;
 mod wanted;
 
 pub use checking::{check, check_plain};
@@ -52,6 +52,7 @@ pub use describing::{
     read_text,
 };
 pub use fault::{Fault, exit_status};
+pub use fault_lines::write_fault;
 pub use field::field_of_reader;
 pub use findings::{Findings, Remarks};
 pub use formats::{Format, Shown, write_shown};
@@ -69,4 +70,3 @@ pub use opening::{Opened, Settings, opening_table};
 pub use playing::{play, play_script};
 pub use replaying::{replay, replay_script};
 pub use running::run;
-pub use telling::write_fault;

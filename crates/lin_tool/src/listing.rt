@@ -2,7 +2,7 @@
 
 ghost use Rattle.std.specs.Prelude.{option_map};
 ghost use Rattle.lin_text.specs.Written.{WritesText};
-ghost use Rattle.lin_tool.specs.Listing.{listed, listed_frames, listed_maps, listed_signals, listed_slots};
+ghost use Rattle.lin_tool.specs.Listing.{wanted_listing, listed_frames, listed_maps, listed_signals, listed_slots};
 
 use lin_export::{write_frames, write_list, write_maps, write_signals, write_slots};
 use lin_parts::Cluster;
@@ -103,7 +103,7 @@ pub fn write_lists<W: Write>(
     writer: &mut W,
 ) -> Result<(), WriteFailed>
     ensures { WritesText (W.contents writer.old) (W.contents writer.new) result
-        (listed cluster.now (option_map (λ k. k.now) coded.entry) lists) }
+        (wanted_listing cluster.now (option_map (λ k. k.now) coded.entry) lists) }
 {
     write_list(cluster, writer)?;
     write_wanted_frames(cluster, lists.frames, writer)?;

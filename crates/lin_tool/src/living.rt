@@ -1,9 +1,8 @@
 //! `linsim live`: a bench in hand, which answers each line as it comes.
 
 ghost use Rattle.std.specs.Prelude.{◌≡◌, ◌<◌, IfErr, IfOk, length};
-ghost use Rattle.lin_tool.specs.Living.{Lives, ends, in_hand};
-ghost use Rattle.lin_tool.specs.Opening.{room_for};
-ghost use Rattle.lin_live.specs.declared.format.AnswerFormat.TheVariants.{Log, Named};
+ghost use Rattle.lin_tool.specs.Living.{Lives, ends, hand_of_opened};
+ghost use Rattle.lin_live.specs.declared.answer_format.AnswerFormat.TheVariants.{Log, Named};
 ghost use Rattle.lin_tool.specs.declared.fault.Fault.TheVariants.{OutOfMemory as NoMemory};
 ghost use Rattle.lin_tool.specs.declared.formats.Format.TheVariants.{Log as LogFormat};
 ghost use Rattle.lin_tool.specs.declared.formats.Format.TheVariants.{Named as NamedFormat};
@@ -39,9 +38,7 @@ fn ending(hand: &Hand, done: Result<(), lin_live::Fault>) -> Result<(), Fault>
 /// `OutOfMemory`.
 pub fn bench_in_hand(alloc: Global, opened: Opened<'_>, format: AnswerFormat) -> Result<Hand, Fault>
     requires { opened.table < length opened.cluster.tables }
-    ensures hand { IfOk result (λ hand. hand ≡ in_hand format opened.entry.coded
-        opened.entry.settings.is_physical opened.entry.cluster opened.entry.table
-        (room_for opened.entry.settings.capacity)) }
+    ensures hand { IfOk result (λ hand. hand ≡ hand_of_opened format opened.entry) }
     ensures memory { IfErr result (λ fault. fault ≡ NoMemory) }
 {
     let Opened {

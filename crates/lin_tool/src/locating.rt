@@ -8,7 +8,7 @@ use crate::meanings::FAULTS;
 use lin_cluster::Finding;
 use lin_export::{Problem, put_problem_line};
 use lin_field::Remark;
-use lin_ldf::{LdfFault, Place, Token, lex};
+use lin_ldf::{LdfFault, Location, Token, lex};
 use lin_text::{Text, TextBuffer, TextWriter};
 use std::alloc::{AllocError, Global};
 
@@ -22,7 +22,7 @@ struct Tokens<'a> {
 impl<'a> Tokens<'a> {
     /// The bytes of the token that begins at a place; no bytes where none does. Those before the
     /// place are left behind.
-    fn token_at(&mut self, place: Place) -> &'a [u8] {
+    fn token_at(&mut self, place: Location) -> &'a [u8] {
         'passing: while let [first, rest @ ..] = self.rest {
             if first.line > place.line
                 || (first.line == place.line && first.column >= place.column)
@@ -51,7 +51,7 @@ pub(crate) fn shown_token(alloc: Global, token: &[u8]) -> Result<String, AllocEr
 fn shown_at(
     alloc: Global,
     tokens: &mut Tokens<'_>,
-    place: Place,
+    place: Location,
 ) -> Result<Option<Text>, AllocError> {
     let token = tokens.token_at(place);
     if token.is_empty() {
@@ -96,7 +96,7 @@ fn problem_of_finding(
         column,
         needed_us,
     } = *finding;
-    let place = Place { line, column };
+    let place = Location { line, column };
     // (that a description has no table is found at its first byte, and of no token)
     let token = if line == 1 && column == 1 {
         None

@@ -5,15 +5,13 @@ use crate::explaining::put_shown;
 use crate::nearest::edits_between;
 use crate::wanted::before;
 use lin_cluster::Finding;
-use lin_field::{Settled, read_field, settle};
+use lin_field::{Normalized, read_field, settle};
 use lin_ldf::{
-    ATTRIBUTE_WORDS, Description, LdfFault, Parser, Place, SECTION_WORDS, TokenKind, parse,
+    ATTRIBUTE_WORDS, Description, LdfFault, Location, MOST_UNKNOWN, Parser, SECTION_WORDS,
+    TokenKind, UnknownWord, UnknownWords, parse,
 };
 use lin_values::unknown_words;
 use std::alloc::{AllocError, Global};
-
-/// How many words that LIN doesn't have are compared with those that it has.
-const COMPARED_WORDS: usize = 256;
 
 /// The words of node configuration commands (LIN 2.2A, 9.2.5).
 static COMMAND_WORDS: [&[u8]; 7] = [
@@ -48,7 +46,7 @@ pub(crate) fn described(
             let mut copy = Vec::from_slice(alloc, text)?;
             match read_field(alloc, copy.as_mut_slice()) {
                 Ok(read) => {
-                    let Settled {
+                    let Normalized {
                         header: _header,
                         description,
                         placed_elsewhere: _placed_elsewhere,
@@ -165,7 +163,7 @@ pub(crate) fn first_word(text: &[u8]) -> &[u8] {
 }
 
 /// The word at a place of a text.
-fn name_at(text: &[u8], place: Place) -> &[u8] {
+fn name_at(text: &[u8], place: Location) -> &[u8] {
     first_word(text.get(before(text, place).len()..).unwrap_or(&[]))
 }
 
@@ -176,7 +174,7 @@ pub(crate) fn put_near(
     out: &mut String,
     text: &[u8],
     description: &Description,
-    place: Place,
+    place: Location,
 ) -> Result<(), AllocError> {
     let mut near = Nearest::new(alloc, name_at(text, place));
     let kind = match kind_at(alloc, text, place) {
@@ -216,7 +214,7 @@ pub(crate) fn put_near_command(
     alloc: Global,
     out: &mut String,
     text: &[u8],
-    place: Place,
+    place: Location,
 ) -> Result<(), AllocError> {
     let mut nearest = Nearest::new(alloc, name_at(text, place));
     for command in COMMAND_WORDS.iter() {
@@ -266,10 +264,10 @@ impl<'a> Scan<'a> {
     }
 
     /// Passes over the tokens before a place, and returns the kind of the last one.
-    fn pass_to(&mut self, place: Place) -> Option<TokenKind> {
+    fn pass_to(&mut self, place: Location) -> Option<TokenKind> {
         let mut last = None;
         for _ in 0..self.parser.left() {
-            let Place { line, column } = self.parser.place();
+            let Location { line, column } = self.parser.place();
             let Some(kind) = self.parser.front_kind() else {
                 break;
             };
@@ -287,48 +285,49 @@ impl<'a> Scan<'a> {
 
 /// What a name at a place of an LDF text should be: told by the section in which it is, since a name
 /// that nothing declares may be left out of what the text describes.
-fn kind_at(alloc: Global, text: &[u8], place: Place) -> Kind {
+fn kind_at(alloc: Global, text: &[u8], place: Location) -> Kind {
     let mut scan = Scan::new(alloc, text);
     let last = scan.pass_to(place);
     scan.kind_after(last)
 }
 
-/// The word of a section or an attribute that LIN doesn't have, and the most similar one that it has.
-#[derive(Clone, Copy)]
-struct UnknownWord<'a> {
-    what: &'static str,
-    word: &'a [u8],
-    similar: Option<&'static [u8]>,
-}
-
 /// The word at a place that isn't before the scan's: outside of all braces it is a section's, and
 /// otherwise an attribute's.
-fn word_at<'a>(
-    alloc: Global,
-    scan: &mut Scan<'a>,
-    place: Place,
-) -> Result<UnknownWord<'a>, AllocError> {
+fn word_at<'a>(scan: &mut Scan<'a>, place: Location) -> UnknownWord<'a> {
     let _last = scan.pass_to(place);
-    let word = scan.parser.text();
-    let (what, known) = if scan.depth == 0 {
-        ("section", SECTION_WORDS.as_slice())
+    UnknownWord {
+        is_section: scan.depth == 0,
+        text: scan.parser.text(),
+    }
+}
+
+/// What a word is the name of.
+fn named_by(word: UnknownWord<'_>) -> &'static str {
+    if word.is_section {
+        "section"
     } else {
-        ("attribute", ATTRIBUTE_WORDS.as_slice())
+        "attribute"
+    }
+}
+
+/// The word of a section or an attribute of LIN that is the most similar to one that LIN doesn't have;
+/// nothing if none is similar.
+fn similar_word(alloc: Global, word: UnknownWord<'_>) -> Result<Option<&'static [u8]>, AllocError> {
+    let known = if word.is_section {
+        SECTION_WORDS.as_slice()
+    } else {
+        ATTRIBUTE_WORDS.as_slice()
     };
-    let mut nearest = Nearest::new(alloc, word);
+    let mut nearest = Nearest::new(alloc, word.text);
     for other in known {
         nearest.ask(*other)?;
     }
-    Ok(UnknownWord {
-        what,
-        word,
-        similar: nearest.name,
-    })
+    Ok(nearest.name)
 }
 
 /// The place of a finding.
-fn place_at(finding: &Finding) -> Place {
-    Place {
+fn place_at(finding: &Finding) -> Location {
+    Location {
         line: finding.line,
         column: finding.column,
     }
@@ -340,14 +339,10 @@ pub(crate) fn put_near_word(
     alloc: Global,
     out: &mut String,
     text: &[u8],
-    place: Place,
+    place: Location,
 ) -> Result<(), AllocError> {
-    let UnknownWord {
-        what,
-        word: _,
-        similar,
-    } = word_at(alloc, &mut Scan::new(alloc, text), place)?;
-    put_similar(out, what, similar)
+    let word = word_at(&mut Scan::new(alloc, text), place);
+    put_similar(out, named_by(word), similar_word(alloc, word)?)
 }
 
 /// Puts each of the first 256 sections and attributes of an LDF text that LIN doesn't have, if its word
@@ -355,16 +350,13 @@ pub(crate) fn put_near_word(
 pub(crate) fn put_unread(alloc: Global, out: &mut String, text: &[u8]) -> Result<(), AllocError> {
     let unknown = unknown_words(alloc, text)?;
     let mut scan = Scan::new(alloc, text);
-    for finding in unknown.as_slice().iter().take(COMPARED_WORDS) {
+    for finding in unknown.as_slice().iter().take(MOST_UNKNOWN) {
         let place = place_at(finding);
-        let UnknownWord {
-            what,
-            word,
-            similar,
-        } = word_at(alloc, &mut scan, place)?;
-        if let Some(similar) = similar {
+        let word = word_at(&mut scan, place);
+        if let Some(similar) = similar_word(alloc, word)? {
+            let what = named_by(word);
             write!(out, "  {}:{} the {what} ", place.line, place.column)?;
-            put_shown(out, word)?;
+            put_shown(out, word.text)?;
             out.push_str(" is ignored; did you mean ")?;
             put_shown(out, similar)?;
             out.push_str("?\n")?;
@@ -375,13 +367,13 @@ pub(crate) fn put_unread(alloc: Global, out: &mut String, text: &[u8]) -> Result
 
 /// How many sections and attributes of an LDF text LIN doesn't have, if one of the first 256 is similar
 /// to one that it has; otherwise 0.
-pub(crate) fn count_unread(alloc: Global, text: &[u8]) -> Result<usize, AllocError> {
-    let unknown = unknown_words(alloc, text)?;
-    let mut scan = Scan::new(alloc, text);
-    for finding in unknown.as_slice().iter().take(COMPARED_WORDS) {
-        let word = word_at(alloc, &mut scan, place_at(finding))?;
-        if word.similar.is_some() {
-            return Ok(unknown.len());
+pub(crate) fn count_if_similar(
+    alloc: Global,
+    unknown: &UnknownWords<'_>,
+) -> Result<usize, AllocError> {
+    for word in unknown.first.as_slice() {
+        if similar_word(alloc, *word)?.is_some() {
+            return Ok(unknown.number);
         }
     }
     Ok(0)

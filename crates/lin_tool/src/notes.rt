@@ -3,7 +3,7 @@
 
 ghost use Rattle.std.specs.Prelude.{◌≡◌, flat_map};
 ghost use Rattle.lin_text.specs.Written.{WritesText};
-ghost use Rattle.lin_tool.specs.Levels.{level_status, reported};
+ghost use Rattle.lin_tool.specs.Levels.{level_status, reported_remarks};
 ghost use Rattle.lin_tool.specs.Telling.{remark_line};
 
 use crate::describing::Reading;
@@ -12,16 +12,17 @@ use crate::explaining::{
     put_tables, put_text,
 };
 use crate::fault::{Fault, exit_status};
+use crate::fault_lines::{put_fault, write_fault};
 use crate::field::is_read_otherwise;
 use crate::findings::put_reported_remarks;
 use crate::levels::Levels;
 use crate::locating::{problems_of_fault, problems_of_remarks, put_places};
-use crate::misspelled::count_unread;
+use crate::misspelled::count_if_similar;
 use crate::nearest::put_bad_bench_line;
-use crate::telling::{put_fault, write_fault};
 use lin_bench::Reason;
 use lin_core::Log;
 use lin_field::Remark;
+use lin_ldf::UnknownWords;
 use lin_parts::Cluster;
 use lin_text::{Many, TextBuffer, TextWriter, WriteFailed, write_out};
 use std::alloc::{AllocError, Global};
@@ -161,7 +162,7 @@ impl<'a> Notes<'a> {
     fn write_warnings<W: Write>(&self, writer: &mut W) -> Result<(), WriteFailed>
         ensures { self.now.wanted.file ≡ None
             → WritesText (W.contents writer.old) (W.contents writer.new) result
-            (flat_map remark_line (reported self.now.levels.allowed self.now.warnings)) }
+            (flat_map remark_line (reported_remarks self.now.levels.allowed self.now.warnings)) }
     {
         let warnings = self.warnings.as_slice();
         if !warnings.is_empty() && self.wanted.file.is_some() {
@@ -173,7 +174,7 @@ impl<'a> Notes<'a> {
     /// Writes the lines of findings and warnings that are reported.
     fn write_remarks<W: Write>(&self, remarks: &[Remark], writer: &mut W) -> Result<(), WriteFailed>
         ensures { WritesText (W.contents writer.old) (W.contents writer.new) result
-            (flat_map remark_line (reported self.now.levels.allowed remarks.now)) }
+            (flat_map remark_line (reported_remarks self.now.levels.allowed remarks.now)) }
     {
         let mut buffer = TextBuffer::empty();
         let mut lines = TextWriter::new(writer, &mut buffer);
@@ -311,15 +312,19 @@ impl<'a> Notes<'a> {
         Ok(())
     }
 
-    /// Counts the sections and attributes of an LDF text that LIN doesn't have, if the word of one is
+    /// Keeps how many sections and attributes of an LDF text LIN doesn't have, if the word of one is
     /// similar to one that it has.
     ///
     /// # Errors
     /// Out of memory.
-    pub(crate) fn count_unknown(&mut self, alloc: Global, text: &[u8]) -> Result<(), AllocError>
+    pub(crate) fn count_unknown(
+        &mut self,
+        alloc: Global,
+        unknown: &UnknownWords<'_>,
+    ) -> Result<(), AllocError>
         ensures { self.new.warnings ≡ self.old.warnings }
     {
-        self.unknown = count_unread(alloc, text)?;
+        self.unknown = count_if_similar(alloc, unknown)?;
         Ok(())
     }
 

@@ -8,8 +8,8 @@ use crate::field::settled_of;
 use crate::locating::{lexed, problems_of_fault, problems_of_remarks, shown_token};
 use crate::notes::Notes;
 use lin_export::{Found, Problem, write_object};
-use lin_field::{Settled, read_over_bytes};
-use lin_ldf::{Token, TokenKind};
+use lin_field::{Normalized, read_over_bytes};
+use lin_ldf::{Token, TokenKind, UnknownWords};
 use lin_parts::description::Description;
 use lin_values::{CodingType, Codings, read_codings};
 use std::alloc::{AllocError, Global};
@@ -63,7 +63,7 @@ fn standard_source(alloc: Global, text: &[u8]) -> Result<Source, Fault> {
     let protocol = version(alloc, text, tokens.as_slice(), b"LIN_protocol_version")?;
     let language = version(alloc, text, tokens.as_slice(), b"LIN_language_version")?;
     Ok(Source {
-        description: description_of(alloc, text, &mut false)?,
+        description: description_of(alloc, text, &mut UnknownWords::new(alloc))?,
         codings: None,
         protocol,
         language,
@@ -72,7 +72,7 @@ fn standard_source(alloc: Global, text: &[u8]) -> Result<Source, Fault> {
 
 /// What an LDF that `--field` accepts has besides its cluster, without its encodings.
 fn field_source(alloc: Global, text: &mut [u8]) -> Result<Source, Fault> {
-    let Settled {
+    let Normalized {
         header,
         description,
         ..

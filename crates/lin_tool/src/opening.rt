@@ -2,7 +2,7 @@
 //! wait.
 
 ghost use Rattle.std.specs.Prelude.{◌≡◌, ◌≤◌, ◌<◌, length, IfOk};
-ghost use Rattle.lin_tool.specs.Opening.{IsOpened, Opens, encodings_of, opening_of, room_for};
+ghost use Rattle.lin_tool.specs.Opening.{IsOpened, OpensTable, encodings_of, opening_of, room_for};
 
 use crate::coding::{Described, Encodings, Extras};
 use crate::describing::{Reading, cluster_of_file};
@@ -40,7 +40,7 @@ pub struct Settings<'a> {
 /// # Errors
 /// `NoSuchTable` where no table has the name, or there is no table.
 pub fn opening_table(cluster: &Cluster, name: Option<&str>) -> Result<u16, Fault>
-    ensures table { Opens result (opening_of cluster.now name.entry) }
+    ensures table { OpensTable result (opening_of cluster.now name.entry) }
     ensures range { IfOk result (λ table. table < length cluster.now.tables) }
 {
     match name {

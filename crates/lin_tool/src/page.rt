@@ -2,7 +2,7 @@
 //! them (the crate's `page/` has these as files of their own).
 
 ghost use Rattle.std.specs.Prelude.{◌++◌};
-ghost use Rattle.lin_export.specs.WhereTold.{told};
+ghost use Rattle.lin_export.specs.WhereTold.{given_coding};
 ghost use Rattle.lin_text.specs.Written.{WritesText};
 ghost use Rattle.lin_tool.specs.Page.{page, page_data, summary};
 
@@ -41,7 +41,7 @@ fn write_data<W: Write>(
     writer: &mut W,
 ) -> Result<(), ExportFault>
     ensures { WritesText (W.contents writer.old) (W.contents writer.new) result
-        (page_data script.entry core.now.cluster (told coded.entry) file.now core.now.log
+        (page_data script.entry core.now.cluster (given_coding coded.entry) file.now core.now.log
         judgements.now) }
 {
     let cluster = core.cluster();
@@ -92,7 +92,7 @@ pub(crate) fn write_page<W: Write>(
     writer: &mut W,
 ) -> Result<(), ExportFault>
     ensures { WritesText (W.contents writer.old) (W.contents writer.new) result
-        (page script.entry core.now.cluster (told coded.entry) file.now core.now.log
+        (page script.entry core.now.cluster (given_coding coded.entry) file.now core.now.log
         judgements.now) }
 {
     write_out(writer, HEAD.as_bytes())?;

@@ -3,7 +3,7 @@
 use crate::explaining::put_shown;
 use crate::misspelled::{Scan, first_word};
 use crate::wanted::before;
-use lin_ldf::{Description, Frame, Name, Number, Place, PlacedSignal, TokenKind};
+use lin_ldf::{Description, Frame, Location, Name, Number, PlacedSignal, TokenKind};
 use std::alloc::{AllocError, Global};
 
 /// The number of the finding of an identifier that an earlier frame has.
@@ -28,16 +28,16 @@ struct Party<'a> {
     number: &'a Number,
 }
 
-fn is_number_at(number: &Number, place: Place) -> bool {
+fn is_number_at(number: &Number, place: Location) -> bool {
     number.line == place.line && number.column == place.column
 }
 
-fn is_name_at(name: &Name, place: Place) -> bool {
+fn is_name_at(name: &Name, place: Location) -> bool {
     name.line == place.line && name.column == place.column
 }
 
 /// The first of some parties that has the same number as the one whose number is at a place.
-fn first_alike<'a>(parties: &[Party<'a>], place: Place) -> Option<Party<'a>> {
+fn first_alike<'a>(parties: &[Party<'a>], place: Location) -> Option<Party<'a>> {
     let own = parties
         .iter()
         .find(|party| is_number_at(party.number, place))?;
@@ -106,7 +106,7 @@ fn do_overlap(description: &Description, a: &PlacedSignal, b: &PlacedSignal) -> 
 fn first_overlapped<'a>(
     description: &Description,
     frame: &'a Frame,
-    place: Place,
+    place: Location,
 ) -> Option<&'a Name> {
     let placed = frame.placed.as_slice();
     let own = placed.iter().find(|own| {
@@ -139,7 +139,7 @@ pub(crate) fn put_party(
     out: &mut String,
     description: &Description,
     number: u8,
-    place: Place,
+    place: Location,
 ) -> Result<(), AllocError> {
     match number {
         ID_TWICE => {
@@ -171,7 +171,7 @@ pub(crate) fn put_party(
 }
 
 /// Whether a frame has a signal that is placed in it at a place.
-fn has_placed_at(frame: &Frame, place: Place) -> bool {
+fn has_placed_at(frame: &Frame, place: Location) -> bool {
     let mut placed = frame.placed.as_slice().iter();
     placed.any(|own| is_name_at(&own.signal, place) || is_number_at(&own.offset, place))
 }
@@ -181,7 +181,7 @@ fn has_placed_at(frame: &Frame, place: Place) -> bool {
 fn put_given_size(
     out: &mut String,
     description: &Description,
-    place: Place,
+    place: Location,
 ) -> Result<(), AllocError> {
     for frame in description.frames() {
         let (id, size) = (&frame.id, &frame.size);
@@ -209,7 +209,7 @@ fn frame_named<'a>(description: &'a Description, name: &Name) -> Option<&'a Fram
 fn first_by<'a>(
     description: &Description,
     members: &'a [Name],
-    place: Place,
+    place: Location,
     publisher: &Name,
 ) -> Option<&'a Name> {
     for member in members {
@@ -235,7 +235,7 @@ fn put_conditions(
     let Some(frame) = frame_named(description, member) else {
         return out.push_str("  it isn't an unconditional frame\n");
     };
-    let place = Place {
+    let place = Location {
         line: member.line,
         column: member.column,
     };
@@ -266,7 +266,7 @@ fn put_conditions(
 fn put_bad_member(
     out: &mut String,
     description: &Description,
-    place: Place,
+    place: Location,
 ) -> Result<(), AllocError> {
     for event in description.events() {
         let members = event.members.as_slice();
@@ -286,8 +286,8 @@ fn are_together(section: &[u8], other: &[u8]) -> bool {
 
 /// A declaration: where it is, its section, and what follows it.
 #[derive(Clone, Copy)]
-struct Declared<'a> {
-    place: Place,
+struct Declaration<'a> {
+    place: Location,
     section: &'a [u8],
     depth: u64,
     next: Option<TokenKind>,
@@ -298,11 +298,11 @@ pub(crate) fn put_declared(
     alloc: Global,
     out: &mut String,
     text: &[u8],
-    place: Place,
+    place: Location,
 ) -> Result<(), AllocError> {
     let name = first_word(text.get(before(text, place).len()..).unwrap_or(&[]));
     let mut scan = Scan::new(alloc, text);
-    let mut found: Option<Declared<'_>> = None;
+    let mut found: Option<Declaration<'_>> = None;
     for _ in 0..scan.parser.left() {
         let Some(kind) = scan.parser.front_kind() else {
             break;
@@ -314,7 +314,7 @@ pub(crate) fn put_declared(
         if kind != TokenKind::Word || word != name {
             continue;
         }
-        let this = Declared {
+        let this = Declaration {
             place: at,
             section,
             depth,
@@ -331,15 +331,15 @@ pub(crate) fn put_declared(
 /// Puts where the earlier of two declarations is, where both are of one kind.
 fn put_first(
     out: &mut String,
-    earlier: Option<Declared<'_>>,
-    later: Declared<'_>,
+    earlier: Option<Declaration<'_>>,
+    later: Declaration<'_>,
 ) -> Result<(), AllocError> {
     match earlier {
         Some(first)
             if first.depth == later.depth
                 && are_together(first.section, later.section)
                 && (first.next == later.next || first.section == b"Nodes".as_slice()) => {
-            let Place { line, column } = first.place;
+            let Location { line, column } = first.place;
             writeln!(out, "  first declared at {line}:{column}")
         }
         _ => Ok(()),

@@ -8,8 +8,8 @@ ghost use Rattle.lin_parts.specs.declared.parts.Parts.{Parts};
 ghost use Rattle.lin_core.specs.History.{Slot, slot_after_event, slot_after_events};
 ghost use Rattle.lin_core.specs.declared.log.LogEntry.{LogEntry};
 ghost use Rattle.lin_text.specs.Written.{Grows, WritesText};
-ghost use Rattle.lin_tool.specs.Placing.{entry_in, finished_on, last_slot, moment_of, moment_text, past_at};
-ghost use Rattle.lin_tool.specs.Placing.{placed, placed_bad, placed_missed, placed_unmet};
+ghost use Rattle.lin_tool.specs.Placing.{entry_in, finished_on, last_slot_text, moment_of, moment_text, past_at, AtMoment};
+ghost use Rattle.lin_tool.specs.Placing.{line_place, placed_bad, placed_missed, placed_unmet};
 
 use lin_bench::{Judgement, Reason, is_unmet, put_judged, put_reason};
 use lin_core::{Event, Log, LogEntry, Reply, Step};
@@ -140,7 +140,7 @@ impl Moment {
 
 /// A line's number after a file's name.
 fn put_placed<W: Write>(out: &mut TextWriter<'_, W>, file: &str, line: u64)
-    ensures { Grows W.contents out.old out.new (placed file.now line) }
+    ensures { Grows W.contents out.old out.new (line_place file.now line) }
 {
     out.put_text(file);
     out.put_text(":");
@@ -186,7 +186,7 @@ pub(crate) fn write_bad_lines<W: Write>(
 
 /// The last of so many slots, which are counted from 0.
 fn put_last<W: Write>(out: &mut TextWriter<'_, W>, slots: u64)
-    ensures { Grows W.contents out.old out.new (last_slot slots) }
+    ensures { Grows W.contents out.old out.new (last_slot_text slots) }
 {
     if slots == 0 {
         out.put_text("no slot");
@@ -216,10 +216,9 @@ pub(crate) fn put_missed<W: Write>(
     moment: Moment,
     judgement: &Judgement,
 )
-    ensures { (log : List LogEntry)
-        → moment ≡ moment_of cluster.now (past_at log judgement.now.entries)
-        → Grows W.contents out.old out.new
-        (placed_missed file.now cluster.now log judgement.now) }
+    ensures { AtMoment cluster.now judgement.now moment (λ log.
+        Grows W.contents out.old out.new
+        (placed_missed file.now cluster.now log judgement.now)) }
 {
     put_placed(out, file, judgement.line);
     put_judged(out, cluster, &judgement.judged);
@@ -234,10 +233,9 @@ fn put_unmet<W: Write>(
     moment: Moment,
     judgement: &Judgement,
 )
-    ensures { (log : List LogEntry)
-        → moment ≡ moment_of cluster.now (past_at log judgement.now.entries)
-        → Grows W.contents out.old out.new
-        (placed_unmet file.now cluster.now log judgement.now) }
+    ensures { AtMoment cluster.now judgement.now moment (λ log.
+        Grows W.contents out.old out.new
+        (placed_unmet file.now cluster.now log judgement.now)) }
 {
     if is_unmet(&judgement.judged) {
         put_missed(out, file, cluster, moment, judgement);

@@ -4,12 +4,11 @@
 ghost use Rattle.std.specs.Prelude.{◌≡◌, ◌≢◌, ◌≤◌, ◌<◌, [], length, IfOk};
 ghost use Rattle.std.specs.Io.KnownBytes.{Keeps};
 ghost use Rattle.lin_text.specs.Written.{WritesText};
-ghost use Rattle.lin_export.specs.WhereTold.{told};
-ghost use Rattle.lin_tool.specs.Formats.{log_as};
-ghost use Rattle.lin_tool.specs.Opening.{room_for};
-ghost use Rattle.lin_tool.specs.Placing.{bad_text, missed_text};
-ghost use Rattle.lin_tool.specs.Playing.{in_words, shown_coding};
-ghost use Rattle.lin_tool.specs.Playing.{Judges, PlaysScript, ReadsLines, TellsBad, WritesPlayed, told_text};
+ghost use Rattle.lin_export.specs.WhereTold.{given_coding};
+ghost use Rattle.lin_tool.specs.Placing.{missed_text};
+ghost use Rattle.lin_tool.specs.Playing.{judgements_with_meanings, coding_if_physical};
+ghost use Rattle.lin_tool.specs.Playing.{script_errors, script_verdict, told_text, PlaysOpened, ReadsScriptLines};
+ghost use Rattle.lin_tool.specs.Playing.{ReportsJudgements, TellsBad, WritesShown};
 
 use crate::fault::Fault;
 use crate::formats::{Format, Shown, write_shown};
@@ -19,8 +18,8 @@ use crate::opening::{Opened, Settings, begin, within_limits};
 use crate::placing::{write_bad_lines, write_placed_unmet};
 use crate::tally::write_tally;
 use lin_bench::{
-    Judgement, Line, Played, ReadFault, Reason, bad_lines, play as play_lines, read, some_unmet,
-    told_meanings, write_bad_line, write_unmet,
+    Judgement, Played, ReadFault, Reason, ScriptLine, bad_lines, play as play_lines, read,
+    some_unmet, told_meanings, write_bad_line, write_unmet,
 };
 use lin_core::Core;
 use lin_log::read_bytes;
@@ -56,8 +55,7 @@ fn tell_bad<E: Write>(
 ) -> Result<Result<(), WriteFailed>, AllocError>
     requires { length script.bytes.now ≤ 16777216 }
     ensures { TellsBad result
-        (bad_text script.entry.name opened.now.cluster opened.now.coded script.entry.bytes.now
-        first.now.0 first.now.1) (E.contents errors.old) (E.contents errors.new) }
+        (script_errors script.entry opened.now first.now) (E.contents errors.old) (E.contents errors.new) }
 {
     let cluster = &opened.cluster;
     let bytes = script.bytes;
@@ -88,10 +86,10 @@ fn bench_lines<E: Write>(
     script: Script<'_>,
     errors: &mut E,
     notes: &mut Notes<'_>,
-) -> Result<Vec<(u64, Line)>, Fault>
+) -> Result<Vec<(u64, ScriptLine)>, Fault>
     requires { length script.bytes.now ≤ 16777216 }
-    ensures lines { ReadsLines script.entry.name opened.now.cluster opened.now.coded
-        script.entry.bytes.now (λ v. v.items) result (E.contents errors.old) (E.contents errors.new) }
+    ensures lines { ReadsScriptLines script.entry opened.now (λ v. v.items) result
+        (E.contents errors.old) (E.contents errors.new) }
     ensures few { IfOk result (λ v. length v.items ≤ 16777217) }
 {
     match read(alloc, &opened.cluster, opened.coded.as_ref(), script.bytes) {
@@ -156,9 +154,8 @@ fn judge<E: Write>(
     judgements: &[Judgement],
     errors: &mut E,
 ) -> Result<(), Fault>
-    ensures { Judges result judgements.now
-        (told_text script.entry.name script.entry.is_strict core.now.cluster core.now.log
-        judgements.now) (E.contents errors.old) (E.contents errors.new) }
+    ensures { ReportsJudgements result judgements.now
+        (script_verdict script.entry core.now judgements.now) (E.contents errors.old) (E.contents errors.new) }
 {
     let told = tell(core, script.name, script.is_strict, judgements, errors);
     if some_unmet(judgements) {
@@ -183,12 +180,7 @@ fn put_played<W: Write, E: Write>(
     writer: &mut W,
     errors: &mut E,
 ) -> Result<(), Fault>
-    ensures { WritesPlayed shown.now.format
-        (log_as shown.now.format shown.now.script core.now.cluster (told shown.now.coded)
-        shown.now.table shown.now.capacity core.now.log shown.now.judgements.now)
-        shown.now.judgements.now
-        (told_text script.entry.name script.entry.is_strict core.now.cluster core.now.log
-        shown.now.judgements.now) result
+    ensures { WritesShown shown.now core.now script.entry result
         (W.contents writer.old) (W.contents writer.new)
         (E.contents errors.old) (E.contents errors.new) }
 {
@@ -204,7 +196,7 @@ fn in_words(
     coded: Option<&Coded>,
     judgements: Many<Judgement>,
 ) -> Result<Many<Judgement>, AllocError>
-    ensures { IfOk result (λ js. js ≡ in_words (told coded.entry) judgements) }
+    ensures { IfOk result (λ js. js ≡ judgements_with_meanings (given_coding coded.entry) judgements) }
 {
     match coded {
         Some(coded) => told_meanings(alloc, coded, judgements),
@@ -214,7 +206,7 @@ fn in_words(
 
 /// What signals mean, where values are shown as that.
 fn shown(coded: Option<&Coded>, is_physical: bool) -> Option<&Coded>
-    ensures { told result ≡ shown_coding (told coded.entry) is_physical }
+    ensures { given_coding result ≡ coding_if_physical (given_coding coded.entry) is_physical }
 {
     if is_physical { coded } else { None }
 }
@@ -242,9 +234,7 @@ pub fn play_script<R: Read, W: Write, E: Write>(
     notes: &mut Notes<'_>,
 ) -> Result<(), Fault>
     requires { opened.table < length opened.cluster.tables }
-    ensures { PlaysScript opened.entry.settings.format opened.entry.coded
-        opened.entry.settings.is_physical notes.old.wanted.script opened.entry.settings.is_strict
-        opened.entry.cluster opened.entry.table (room_for opened.entry.settings.capacity) result
+    ensures { PlaysOpened opened.entry notes.old.wanted.script result
         (R.remaining reader.old)
         (W.contents writer.old) (W.contents writer.new)
         (E.contents errors.old) (E.contents errors.new) }

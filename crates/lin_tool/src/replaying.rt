@@ -3,8 +3,7 @@
 
 ghost use Rattle.std.specs.Prelude.{◌≤◌, ◌<◌, length, Option};
 ghost use Rattle.lin_values.specs.Coded.{CodedData};
-ghost use Rattle.lin_tool.specs.Opening.{room_for};
-ghost use Rattle.lin_tool.specs.Replaying.{Replays};
+ghost use Rattle.lin_tool.specs.Replaying.{Replays, ReplaysOpened};
 ghost use Rattle.lin_tool.specs.declared.formats.Format.TheVariants.{Log};
 
 use crate::fault::Fault;
@@ -57,8 +56,7 @@ pub fn replay_script<R: Read, W: Write>(
     notes: &mut Notes<'_>,
 ) -> Result<(), Fault>
     requires { opened.table < length opened.cluster.tables }
-    ensures { Replays opened.entry.settings.format opened.entry.coded opened.entry.cluster
-        opened.entry.table (room_for opened.entry.settings.capacity) result
+    ensures { ReplaysOpened opened.entry result
         (R.remaining reader.old) (W.contents writer.old) (W.contents writer.new) }
 {
     let Opened {

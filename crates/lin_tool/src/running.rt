@@ -7,8 +7,7 @@ ghost use Rattle.lin_parts.specs.Cluster.{nodes};
 ghost use Rattle.lin_core.specs.declared.port.PortId.TheVariants.{Bus};
 ghost use Rattle.lin_threads.specs.Steps.{logged};
 ghost use Rattle.lin_threads.specs.Runs.{bus_steps};
-ghost use Rattle.lin_export.specs.WhereTold.{told};
-ghost use Rattle.lin_tool.specs.Formats.{log_as};
+ghost use Rattle.lin_tool.specs.Formats.{shown_log};
 ghost use Rattle.lin_tool.specs.Running.{ReadsHosts, WritesRun};
 
 use crate::fault::Fault;
@@ -149,8 +148,7 @@ fn put_report<W: Write>(
     requires table { report.now.core.opening ≡ shown.now.table }
     requires capacity { report.now.core.capacity ≡ shown.now.capacity }
     ensures { WritesRun shown.now.format
-        (log_as shown.now.format shown.now.script report.now.core.cluster (told shown.now.coded)
-        shown.now.table shown.now.capacity report.now.core.log shown.now.judgements.now)
+        (shown_log shown.now report.now.core)
         report.now.ended.items (W.contents writer.old) (W.contents writer.new) result }
 {
     write_shown(alloc, shown, &report.core, writer)?;

@@ -6,7 +6,7 @@ ghost use Rattle.lin_bench.specs.declared.got.Judgement.{Judgement};
 ghost use Rattle.lin_bench.specs.Played.{is_unmet};
 ghost use Rattle.lin_core.specs.Core.{past_of};
 ghost use Rattle.lin_text.specs.Written.{Grows, WritesText};
-ghost use Rattle.lin_tool.specs.Tally.{counted, tally_text, waiting_in};
+ghost use Rattle.lin_tool.specs.Tally.{count_with_word, tally_text, waiting_in};
 
 use crate::page::summary::{messages_lost, slots_finished, steps_refused};
 use lin_bench::{Judgement, is_unmet};
@@ -40,7 +40,7 @@ fn waiting_in(core: &Core) -> u128
 
 /// A number, and what it counts.
 fn put_counted<W: Write>(out: &mut TextWriter<'_, W>, count: u128, word: &str)
-    ensures { Grows W.contents out.old out.new (counted count word.now) }
+    ensures { Grows W.contents out.old out.new (count_with_word count word.now) }
 {
     out.put_number(count);
     out.put_text(word);

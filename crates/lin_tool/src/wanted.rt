@@ -3,7 +3,7 @@
 use crate::describing::Reading;
 use crate::explaining::{place_of, put_place};
 use lin_field::read_field;
-use lin_ldf::{LdfFault, Parser, Place, parse};
+use lin_ldf::{LdfFault, Location, Parser, parse};
 use std::alloc::{AllocError, Global};
 
 /// Names, numbers, texts and marks: what each is called, and one of them.
@@ -47,11 +47,11 @@ struct Beginning<'a> {
     reading: Reading,
     text: &'a [u8],
     tried: Vec<u8>,
-    place: Place,
+    place: Location,
 }
 
 /// The part of a text before a place.
-pub(crate) fn before(text: &[u8], place: Place) -> &[u8] {
+pub(crate) fn before(text: &[u8], place: Location) -> &[u8] {
     let mut line: u64 = 1;
     let mut start: usize = 0;
     for (at, byte) in text.iter().enumerate() {
@@ -70,13 +70,13 @@ pub(crate) fn before(text: &[u8], place: Place) -> &[u8] {
 impl<'a> Beginning<'a> {
     /// (A token is tried in a line of its own, so that it continues neither the token before it nor a
     /// comment.)
-    fn new(alloc: Global, reading: Reading, text: &'a [u8], place: Place) -> Beginning<'a> {
+    fn new(alloc: Global, reading: Reading, text: &'a [u8], place: Location) -> Beginning<'a> {
         Beginning {
             alloc,
             reading,
             text: before(text, place),
             tried: Vec::new(alloc),
-            place: Place {
+            place: Location {
                 line: place.line.saturating_add(1),
                 column: 1,
             },
@@ -182,15 +182,15 @@ fn wanted(here: &mut Beginning<'_>) -> Result<Vec<&'static str>, AllocError> {
 }
 
 /// Where the token before a place ends.
-fn end_before(alloc: Global, text: &[u8], place: Place) -> Option<Place> {
+fn end_before(alloc: Global, text: &[u8], place: Location) -> Option<Location> {
     let mut parser = Parser::new(alloc, text);
     let mut end = None;
     for _ in 0..parser.left() {
-        let Place { line, column } = parser.place();
+        let Location { line, column } = parser.place();
         if parser.front_kind().is_none() || (line, column) >= (place.line, place.column) {
             break;
         }
-        end = Some(Place {
+        end = Some(Location {
             line,
             column: column.saturating_add(parser.text().len() as u64),
         });
@@ -218,7 +218,7 @@ pub(crate) fn put_wanted(
     out: &mut String,
     reading: Reading,
     text: &[u8],
-    place: Place,
+    place: Location,
 ) -> Result<(), AllocError> {
     let mut here = Beginning::new(alloc, reading, text, place);
     let words = wanted(&mut here)?;

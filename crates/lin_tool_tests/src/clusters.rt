@@ -1,6 +1,6 @@
 //! Clusters of LDF texts, and logs and bench scripts run on them.
 
-use lin_bench::{Line, PlayFault, Played, ReadFault, play, read, write_unmet};
+use lin_bench::{PlayFault, Played, ReadFault, ScriptLine, play, read, write_unmet};
 use lin_cluster::check;
 use lin_core::Core;
 use lin_ldf::parse;
@@ -32,7 +32,7 @@ pub fn read_text(
     alloc: Global,
     cluster: &Cluster,
     text: &[u8],
-) -> Result<Result<Vec<(u64, Line)>, ReadFault>, Fail> {
+) -> Result<Result<Vec<(u64, ScriptLine)>, ReadFault>, Fail> {
     if text.len() > 16_777_216 {
         return Err(Fail::from("too long"));
     }
@@ -40,7 +40,11 @@ pub fn read_text(
 }
 
 /// The lines of a text.
-pub fn lines_of(alloc: Global, cluster: &Cluster, text: &[u8]) -> Result<Vec<(u64, Line)>, Fail> {
+pub fn lines_of(
+    alloc: Global,
+    cluster: &Cluster,
+    text: &[u8],
+) -> Result<Vec<(u64, ScriptLine)>, Fail> {
     match read_text(alloc, cluster, text)? {
         Ok(lines) => Ok(lines),
         Err(ReadFault::OutOfMemory) => Err(Fail::from("OutOfMemory")),

@@ -2,7 +2,7 @@
 
 use crate::clusters::expect_bytes;
 use lin_export::write_frames;
-use lin_field::{Checked, Settled, check_field, read_field, settle, write_plain};
+use lin_field::{Checked, Normalized, check_field, read_field, settle, write_plain};
 use std::alloc::Global;
 use std::process::Abort;
 use std::test::Fail;
@@ -30,14 +30,14 @@ const OLD_WARNINGS: [(u64, u64, u8); 9] = [
     (10, 63, 16),
 ];
 
-fn settled_of(alloc: Global, bytes: &mut [u8]) -> Result<Settled, Fail> {
+fn settled_of(alloc: Global, bytes: &mut [u8]) -> Result<Normalized, Fail> {
     match read_field(alloc, bytes) {
         Ok(text) => Ok(settle(alloc, text)?),
         Err(_) => Err(Fail::from("not read")),
     }
 }
 
-fn checked_of(alloc: Global, settled: &Settled) -> Result<Checked, Fail> {
+fn checked_of(alloc: Global, settled: &Normalized) -> Result<Checked, Fail> {
     match check_field(alloc, settled) {
         Ok(checked) => Ok(checked),
         Err(_) => Err(Fail::from("refused")),

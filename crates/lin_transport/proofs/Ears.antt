@@ -4,7 +4,7 @@ use Rattle.std.specs.Prelude.{Option, Some, None, ◌&&◌, ◌||◌, eqb, slice
 use Rattle.std.proofs.lemmas.Bool.Decides.{nat_tests}
 use Rattle.std.proofs.lemmas.Bool.{ne_eqb, false≢true}
 use Rattle.lin_frame.specs.Words.{numbers}
-use Rattle.lin_transport.specs.Transport.{functional, frame, first, frames, frame_count, message_in, message_to, Ear, looks_at}
+use Rattle.lin_transport.specs.Transport.{functional, frame, first_frames, frames, frame_count, message_in, message_to, Ear, looks_at}
 use Rattle.lin_transport.specs.Receiver.{IsOwn, IsReadAs}
 use Rattle.lin_transport.specs.Law.{Addressed, IsFor}
 use Rattle.lin_transport.proofs.Frames.{first-cons, frame-address, count-some, reads-all, reads-none}
@@ -69,7 +69,7 @@ pub own-if : (e : Ear) (n : ℕ) → n ≡ e.nad → (e.all && eqb n functional)
 own-if e n is h = λ all z. false≢true (sym h ∙ rw (all, eqb-same n functional (is ∙ z)))
 
 -- the first frames of a message that a receiver is meant by
-pub first-own : (e : Ear) (n : ℕ) (m : List ℕ) (k : ℕ) → n ≡ e.nad → (e.all && eqb n functional) ≡ false → message_to e (first n m (suc k)) ≡ message_in n (first n m (suc k))
+pub first-own : (e : Ear) (n : ℕ) (m : List ℕ) (k : ℕ) → n ≡ e.nad → (e.all && eqb n functional) ≡ false → message_to e (first_frames n m (suc k)) ≡ message_in n (first_frames n m (suc k))
 first-own e n m k is h =
     let fs : List (List ℕ) = map (frame n m) (map suc (numbers k))
     in let other : (e.all && eqb (slice_index (frame n m 0) 0) functional) ≡ false = ap (λ (a : ℕ). e.all && eqb a functional) (frame-address n m 0) ∙ h
@@ -88,7 +88,7 @@ is-to e m i = to e m.nad (i.heard)
 pub to-all : (e : Ear) (m : Addressed) → IsFor e m → message_to e (frames m.nad m.bytes) ≡ Some m.bytes
 to-all e m i = elim (is-to e m i) [
   | all h ↦
-      let one : frames m.nad m.bytes ≡ frame m.nad m.bytes 0 ∷ [] = ap (first m.nad m.bytes) (short-one e m i h)
+      let one : frames m.nad m.bytes ≡ frame m.nad m.bytes 0 ∷ [] = ap (first_frames m.nad m.bytes) (short-one e m i h)
       in let at : slice_index (frame m.nad m.bytes 0) 0 ≡ functional = frame-address m.nad m.bytes 0 ∙ h.1
       in ap (message_to e) one ∙ all-piece e (frame m.nad m.bytes 0) [] (h.0, at)
       ∙ ap (λ (n : ℕ). message_in n (frame m.nad m.bytes 0 ∷ [])) (sym h.1)
@@ -96,12 +96,12 @@ to-all e m i = elim (is-to e m i) [
   | own is h ↦
       let j : ℕ = frame_count (length m.bytes) - 1
       in let c : frame_count (length m.bytes) ≡ suc j = let some : 1 ≤ frame_count (length m.bytes) = count-some m.bytes in omega arith
-      in ap (λ (k : ℕ). message_to e (first m.nad m.bytes k)) c ∙ first-own e m.nad m.bytes j is h
-      ∙ ap (λ (k : ℕ). message_in m.nad (first m.nad m.bytes k)) (sym c) ∙ reads-all m.nad m.bytes i.can
+      in ap (λ (k : ℕ). message_to e (first_frames m.nad m.bytes k)) c ∙ first-own e m.nad m.bytes j is h
+      ∙ ap (λ (k : ℕ). message_in m.nad (first_frames m.nad m.bytes k)) (sym c) ∙ reads-all m.nad m.bytes i.can
 ]
 
 -- fewer of them
-pub to-none : (e : Ear) (m : Addressed) (k : ℕ) → IsFor e m → suc k < frame_count (length m.bytes) → message_to e (first m.nad m.bytes (suc k)) ≡ None
+pub to-none : (e : Ear) (m : Addressed) (k : ℕ) → IsFor e m → suc k < frame_count (length m.bytes) → message_to e (first_frames m.nad m.bytes (suc k)) ≡ None
 to-none e m k i more = elim (is-to e m i) [
   | all h ↦ absurd (let one = short-one e m i h in omega arith)
   | own is h ↦ first-own e m.nad m.bytes k is h ∙ reads-none m.nad m.bytes k i.can more

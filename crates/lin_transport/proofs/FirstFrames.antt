@@ -10,7 +10,7 @@ use Rattle.std.proofs.lemmas.List.{append-nil, drop-drop, length-drop, length-ta
 use Rattle.std.proofs.lemmas.List.Elements.{All-tail}
 use Rattle.lin_frame.specs.Words.{numbers}
 use Rattle.lin_transport.specs.Words.{begin_with}
-use Rattle.lin_transport.specs.Transport.{needed_frame, frame_count, length_in, bytes_in, message_in}
+use Rattle.lin_transport.specs.Transport.{needed_frame, frame_count, length_in, message_bytes, message_in}
 use Rattle.lin_transport.specs.Law.{BeginsWith, HasFirst, ReadsFirstFrames}
 use Rattle.lin_transport.proofs.Frames.{eqb-self, numbers-suc, size, short, long, count-some, count-suc, six-suc, reads-by}
 use Rattle.lin_transport.proofs.Partial.{is-long, map-suc, sixth}
@@ -88,7 +88,7 @@ begins-by n m read f fs true fits e is =
 read-begins : (n : ℕ) (m : List ℕ) (piece : List (List ℕ)) → message_in n piece ≡ Some m → BeginsWith n m piece
 read-begins n m [] is = cc
 read-begins n m (f ∷ fs) is =
-    let read : List ℕ = take (length_in f) (bytes_in (f ∷ fs))
+    let read : List ℕ = take (length_in f) (message_bytes (f ∷ fs))
     in let fits : length read ≤ length_in f = simp length-take (omega arith)
     in begins-by n m read f fs (nat_lt 0 (length read) && begin_with (f ∷ fs) (map (needed_frame n read) (numbers (frame_count (length read))))) fits refl is
 
@@ -127,12 +127,12 @@ later-bytes n (suc j) (a ∷ b ∷ c ∷ d ∷ e ∷ g ∷ xs) (f ∷ fs) l more
     in rw (h.is, none) (ap (λ (ys : List ℕ). a ∷ b ∷ c ∷ d ∷ e ∷ g ∷ ys) (later-bytes n j xs fs (omega (arith, six-suc j)) (omega arith) later (All-tail (λ f. length f ≡ 8) f fs eight)))
 
 -- the bytes of a message, where a piece begins with its frames
-short-bytes : (n : ℕ) (m unused : List ℕ) (fs : List (List ℕ)) → length m ≤ 6 → take (length_in (n ∷ length m ∷ (m ++ unused))) (bytes_in ((n ∷ length m ∷ (m ++ unused)) ∷ fs)) ≡ m
+short-bytes : (n : ℕ) (m unused : List ℕ) (fs : List (List ℕ)) → length m ≤ 6 → take (length_in (n ∷ length m ∷ (m ++ unused))) (message_bytes ((n ∷ length m ∷ (m ++ unused)) ∷ fs)) ≡ m
 short-bytes n m unused fs l =
     let single : nat_lt (length m) 16 ≡ true = grind (arith, nat_tests)
     in rw (single, append_assoc m unused (concat (map (drop 2) fs))) (take-append_seam m (unused ++ concat (map (drop 2) fs)))
 
-long-bytes : (n : ℕ) (m f : List ℕ) (fs : List (List ℕ)) → 7 ≤ length m → BeginsWith n m (f ∷ fs) → AreEight (f ∷ fs) → take (length_in f) (bytes_in (f ∷ fs)) ≡ m
+long-bytes : (n : ℕ) (m f : List ℕ) (fs : List (List ℕ)) → 7 ≤ length m → BeginsWith n m (f ∷ fs) → AreEight (f ∷ fs) → take (length_in f) (message_bytes (f ∷ fs)) ≡ m
 long-bytes n m f fs l b eight =
     let h : nat_le (length m) 6 ≡ false = is-long m l
     in let few : length m ≤ 4095 = b.can.few
@@ -150,7 +150,7 @@ long-bytes n m f fs l b eight =
     = later-bytes n (length m / 6) (drop 5 m) fs (rw length-drop (omega arith)) (let e = b.enough in omega arith) later (All-tail (λ x. length x ≡ 8) f fs eight)
     in rw (is, big, said, take-append-add (take 5 m) (concat (map (drop 2) fs)) (length (drop 5 m)), rest) (take-append-drop 5 m)
 
-piece-bytes : (n : ℕ) (m f : List ℕ) (fs : List (List ℕ)) → BeginsWith n m (f ∷ fs) → AreEight (f ∷ fs) → take (length_in f) (bytes_in (f ∷ fs)) ≡ m
+piece-bytes : (n : ℕ) (m f : List ℕ) (fs : List (List ℕ)) → BeginsWith n m (f ∷ fs) → AreEight (f ∷ fs) → take (length_in f) (message_bytes (f ∷ fs)) ≡ m
 piece-bytes n m f fs b eight = elim (size m) [
   | short h l ↦
       let count : 1 ≤ frame_count (length m) = count-some m

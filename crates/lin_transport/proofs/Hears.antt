@@ -5,7 +5,7 @@ use Rattle.std.specs.List.{cons_option}
 use Rattle.std.proofs.lemmas.List.{append-nil}
 use Rattle.std.proofs.lemmas.Bool.Decides.{nat_tests}
 use Rattle.std.proofs.lemmas.Bool.{ne_eqb}
-use Rattle.lin_transport.specs.Transport.{functional, begins, message_in, message_to, messages_to, Ear, Heard, heard_to}
+use Rattle.lin_transport.specs.Transport.{functional, begins_message, message_in, message_to, messages_to, Ear, Heard, heard_to}
 use Rattle.lin_transport.specs.Transport.Heard.{Frame}
 use Rattle.lin_transport.specs.Receiver.{Part, Reception, IsOwn, current, Holds, Reads, IsReadAs, IsBegun, IsContinued}
 use Rattle.lin_transport.proofs.Pieces.{reads-last, reads-begun, current-begun, current-more, earlier_pieces, earlier-more}
@@ -46,7 +46,7 @@ reception e part spare = record { nad = e.nad; part = part; all = e.all; spare =
 pub hears-begins : (e : Ear) (was new : Option Part) (s t : ℕ) (f : List ℕ) (heard : List Heard) (o : Option (List ℕ)) → To e (slice_index f 0) → slice_index f 1 < 32 → Holds e new (f ∷ []) → message_to e (f ∷ []) ≡ o
     → Reads (reception e was s) f heard o (reception e new t)
 hears-begins e was new s t f heard o to low holds read =
-    let b : begins f ≡ true = grind (arith, nat_tests)
+    let b : begins_message f ≡ true = grind (arith, nat_tests)
     in record {
       ear = refl;
       stands = rw (heard-own e f heard to, current-begun f heard b) holds;
@@ -78,7 +78,7 @@ hears-begun e was new s t f heard o is low r =
 pub hears-continued : (e : Ear) (was new : Option Part) (s t : ℕ) (f : List ℕ) (heard : List Heard) (o : Option (List ℕ)) → To e (slice_index f 0) → 32 ≤ slice_index f 1
     → IsContinued e f (current heard) o new → Reads (reception e was s) f heard o (reception e new t)
 hears-continued e was new s t f heard o to high r =
-    let b : begins f ≡ false = grind (arith, nat_tests)
+    let b : begins_message f ≡ false = grind (arith, nat_tests)
     in record {
       ear = refl;
       stands = rw (heard-own e f heard to, current-more f heard b) r.holds;

@@ -11,7 +11,7 @@ use Rattle.std.proofs.lemmas.List.{map-append, take-append-le, take-append-drop,
 use Rattle.std.proofs.lemmas.List.Folds.{concat-append}
 use Rattle.lin_frame.specs.Words.{numbers}
 use Rattle.lin_transport.specs.Words.{begin_with}
-use Rattle.lin_transport.specs.Transport.{needed_frame, frame, first, frame_count, bytes_in, message_in, CanSend}
+use Rattle.lin_transport.specs.Transport.{needed_frame, frame, first_frames, frame_count, message_bytes, message_in, CanSend}
 use Rattle.lin_transport.specs.Receiver.{Part, AreFirst}
 use Rattle.lin_transport.proofs.Frames.{eqb-self, frame-address, numbers-suc, first-more, first-cons, length-first, length-numbers, begin-needed, begin-not, and-false, count-suc, chunks, chunks-suc, chunks-are, length_in-long, first-five, six-suc, reads-none, reads-by}
 
@@ -35,7 +35,7 @@ chunks-full (suc n) (a ∷ b ∷ c ∷ d ∷ e ∷ f ∷ xs) h =
 
 -- the frames of a part have exactly its bytes, and more frames have more after them
 pub bytes_in-first : (n : ℕ) (m : List ℕ) (k : ℕ) (more : List (List ℕ)) → CanSend m → 7 ≤ length m → 5 + 6 * k ≤ length m
-    → bytes_in (first n m (suc k) ++ more) ≡ take (5 + 6 * k) m ++ concat (map (drop 2) more)
+    → message_bytes (first_frames n m (suc k) ++ more) ≡ take (5 + 6 * k) m ++ concat (map (drop 2) more)
 bytes_in-first n m k more s l full =
     let h : nat_le (length m) 6 ≡ false = is-long m l
     in let few : length m ≤ 4095 = s.few
@@ -45,7 +45,7 @@ bytes_in-first n m k more s l full =
     = ap concat (map-append (drop 2) later more) ∙ concat-append (map (drop 2) later) (map (drop 2) more)
     ∙ ap (λ (xs : List (List ℕ)). concat xs ++ concat (map (drop 2) more)) (chunks-are n m (numbers k))
     in let after : chunks (drop 5 m) k ≡ take (6 * k) (drop 5 m) = chunks-full k (drop 5 m) (simp length-drop (omega arith))
-    in ap (λ (fs : List (List ℕ)). bytes_in (fs ++ more)) (first-cons n m k)
+    in ap (λ (fs : List (List ℕ)). message_bytes (fs ++ more)) (first-cons n m k)
     ∙ rw (h, big, first-five m l, all, after, ← append_assoc, ← take-add 5 (6 * k) m) refl
 
 pub map-suc : (g : ℕ → List ℕ) (ks : List ℕ) → map g (map suc ks) ≡ map (λ k. g (suc k)) ks
@@ -70,7 +70,7 @@ begin-after (x ∷ xs) more f y [] l h = absurd (omega arith)
 begin-after (x ∷ xs) more f y (z ∷ ys) l h = begin-after-by xs more f y ys (starts_with eqb x z) h (λ k. begin-after xs more f y ys (omega arith) k)
 
 -- a part is read as nothing
-pub part-fails : (n : ℕ) (m : List ℕ) (k : ℕ) → CanSend m → 7 ≤ length m → 5 + 6 * k < length m → message_in n (first n m (suc k)) ≡ None
+pub part-fails : (n : ℕ) (m : List ℕ) (k : ℕ) → CanSend m → 7 ≤ length m → 5 + 6 * k < length m → message_in n (first_frames n m (suc k)) ≡ None
 part-fails n m k s l more = reads-none n m k s (let c = count-suc m (is-long m l) in omega arith)
 
 starts-part : (k j : ℕ) (xs : List ℕ) → starts_with eqb xs (take k (take j xs)) ≡ true
@@ -80,7 +80,7 @@ starts-part (suc k) (suc j) [] = refl
 starts-part (suc k) (suc j) (x ∷ xs) = rw (eqb-self x) (starts-part k j xs)
 
 completed-bytes : (n : ℕ) (m : List ℕ) (k : ℕ) (f c : List ℕ) (more : List (List ℕ)) → CanSend m → 7 ≤ length m → 5 + 6 * k < length m → length m ≤ 11 + 6 * k → length c ≡ 6 → drop 2 f ≡ c
-    → drop (5 + 6 * k) m ≡ take (length m - (5 + 6 * k)) c → take (length m) (bytes_in (first n m (suc k) ++ f ∷ more)) ≡ m
+    → drop (5 + 6 * k) m ≡ take (length m - (5 + 6 * k)) c → take (length m) (message_bytes (first_frames n m (suc k) ++ f ∷ more)) ≡ m
 completed-bytes n m k f c more s l low high six d last =
     let part : ℕ = 5 + 6 * k
     in let front : List ℕ = take part m
@@ -101,22 +101,22 @@ completed-count m k l low high = count-suc m (is-long m l) ∙ ap suc (omega ari
 
 -- with the last frame after it, it is read as the message, whatever comes after that
 pub completed-reads : (n : ℕ) (m : List ℕ) (k : ℕ) (c : List ℕ) (more : List (List ℕ)) → CanSend m → 7 ≤ length m → 5 + 6 * k < length m → length m ≤ 11 + 6 * k → length c ≡ 6
-    → drop (5 + 6 * k) m ≡ take (length m - (5 + 6 * k)) c → message_in n (first n m (suc k) ++ (n ∷ (32 + suc k % 16) ∷ c) ∷ more) ≡ Some m
+    → drop (5 + 6 * k) m ≡ take (length m - (5 + 6 * k)) c → message_in n (first_frames n m (suc k) ++ (n ∷ (32 + suc k % 16) ∷ c) ∷ more) ≡ Some m
 completed-reads n m k c more s l low high six last =
     let f : List ℕ = n ∷ (32 + suc k % 16) ∷ c
     in let later : List (List ℕ) = map (frame n m) (map suc (numbers k))
-    in let whole : take (length m) (bytes_in (first n m (suc k) ++ f ∷ more)) ≡ m = completed-bytes n m k f c more s l low high six refl last
+    in let whole : take (length m) (message_bytes (first_frames n m (suc k) ++ f ∷ more)) ≡ m = completed-bytes n m k f c more s l low high six refl last
     in let own : starts_with eqb c (take 6 (drop (5 + 6 * k) m)) ≡ true = rw last (starts-part 6 (length m - (5 + 6 * k)) c)
-    in let all : begin_with (first n m (suc k) ++ f ∷ more) (map (needed_frame n m) (numbers (frame_count (length m)))) ≡ true
-    = ap (λ (j : ℕ). begin_with (first n m (suc k) ++ f ∷ more) (map (needed_frame n m) (numbers j))) (completed-count m k l low high)
-    ∙ ap (begin_with (first n m (suc k) ++ f ∷ more)) (map-append (needed_frame n m) (numbers (suc k)) (suc k ∷ []))
-    ∙ begin-after (first n m (suc k)) more f (needed_frame n m (suc k)) (map (needed_frame n m) (numbers (suc k)))
+    in let all : begin_with (first_frames n m (suc k) ++ f ∷ more) (map (needed_frame n m) (numbers (frame_count (length m)))) ≡ true
+    = ap (λ (j : ℕ). begin_with (first_frames n m (suc k) ++ f ∷ more) (map (needed_frame n m) (numbers j))) (completed-count m k l low high)
+    ∙ ap (begin_with (first_frames n m (suc k) ++ f ∷ more)) (map-append (needed_frame n m) (numbers (suc k)) (suc k ∷ []))
+    ∙ begin-after (first_frames n m (suc k)) more f (needed_frame n m (suc k)) (map (needed_frame n m) (numbers (suc k)))
     (length-first n m (suc k) ∙ sym (length-map (numbers (suc k)) (needed_frame n m) ∙ length-numbers (suc k)))
     (begin-needed n m (numbers (suc k)))
     ∙ rw (eqb-self n, eqb-self (32 + suc k % 16)) own
-    in let start : first n m (suc k) ++ f ∷ more ≡ frame n m 0 ∷ (later ++ f ∷ more) = ap (λ (fs : List (List ℕ)). fs ++ f ∷ more) (first-cons n m k)
+    in let start : first_frames n m (suc k) ++ f ∷ more ≡ frame n m 0 ∷ (later ++ f ∷ more) = ap (λ (fs : List (List ℕ)). fs ++ f ∷ more) (first-cons n m k)
     in let P : List (List ℕ) → Type 0 = λ fs. begin_with fs (map (needed_frame n m) (numbers (frame_count (length m)))) ≡ true
-    in let Q : List (List ℕ) → Type 0 = λ fs. take (length m) (bytes_in fs) ≡ m
+    in let Q : List (List ℕ) → Type 0 = λ fs. take (length m) (message_bytes fs) ≡ m
     in ap (message_in n) start
     ∙ reads-by n m (frame n m 0) (later ++ f ∷ more) s (subst P start all) (rw (length_in-long n m s (is-long m l)) (subst Q start whole))
 
@@ -173,9 +173,9 @@ first-continues n part fs c a six more = record {
       in let whole : take 6 (c ++ replicate 8 255) ≡ c = take-append-le 6 c (replicate 8 255) (omega arith) ∙ take_all 6 c (omega arith)
       in let last : frame n m (suc k) ≡ n ∷ (32 + suc k % 16) ∷ c = rw (after, own, whole)
       in ap (λ (xs : List (List ℕ)). xs ++ (n ∷ (32 + suc k % 16) ∷ c) ∷ []) (a.frames (c ++ rest) fits)
-      ∙ ap (λ (f : List ℕ). first n m (suc k) ++ f ∷ []) (sym last)
+      ∙ ap (λ (f : List ℕ). first_frames n m (suc k) ++ f ∷ []) (sym last)
       ∙ sym (first-more n m (suc k))
-      ∙ ap (λ (xs : List ℕ). first n xs (suc (suc k))) (sym (append_assoc part.bytes c rest));
+      ∙ ap (λ (xs : List ℕ). first_frames n xs (suc (suc k))) (sym (append_assoc part.bytes c rest));
 }
 
 -- the last one: the frames are read as the message, whatever comes after them
@@ -200,24 +200,24 @@ starts-other n b p q c xs ne = rw (ne_eqb q p (λ e. ne (sym e))) (and-false (eq
 -- a piece that has another frame in place of the message's next one
 breaks-by : (n : ℕ) (m : List ℕ) (k : ℕ) (f : List ℕ) (more : List (List ℕ)) → CanSend m → 7 ≤ length m → 5 + 6 * k < length m
     → ((o : List ℕ) → starts_with eqb f (needed_frame n o (suc k)) ≡ false)
-    → (o : List ℕ) → length o ≤ length m → begin_with (first n m (suc k) ++ f ∷ more) (map (needed_frame n o) (numbers (frame_count (length o)))) ≡ false
+    → (o : List ℕ) → length o ≤ length m → begin_with (first_frames n m (suc k) ++ f ∷ more) (map (needed_frame n o) (numbers (frame_count (length o)))) ≡ false
 breaks-by n m k f more s l high h o le = elim (eq-or-lt_of_le le) [
   | inr less ↦
       ap (λ (xs : List (List ℕ)). begin_with (xs ++ f ∷ more) (map (needed_frame n o) (numbers (frame_count (length o))))) (first-cons n m k)
       ∙ begin-not n m o (map (frame n m) (map suc (numbers k)) ++ f ∷ more) s (is-long m l) l less
   | inl same ↦
-      let place : length (first n m (suc k)) ≡ suc k = length-first n m (suc k)
+      let place : length (first_frames n m (suc k)) ≡ suc k = length-first n m (suc k)
       in let count : frame_count (length o) ≡ suc (length m / 6) = ap frame_count same ∙ count-suc m (is-long m l)
-      in let at : starts_with eqb f (needed_frame n o (length (first n m (suc k)))) ≡ false = ap (λ (j : ℕ). starts_with eqb f (needed_frame n o j)) place ∙ h o
-      in begin-at (needed_frame n o) (first n m (suc k)) more f (frame_count (length o)) (omega arith) at
+      in let at : starts_with eqb f (needed_frame n o (length (first_frames n m (suc k)))) ≡ false = ap (λ (j : ℕ). starts_with eqb f (needed_frame n o j)) place ∙ h o
+      in begin-at (needed_frame n o) (first_frames n m (suc k)) more f (frame_count (length o)) (omega arith) at
 ]
 
 breaks : (n : ℕ) (m : List ℕ) (k : ℕ) (f : List ℕ) (more : List (List ℕ)) → CanSend m → 7 ≤ length m → 5 + 6 * k < length m
-    → ((o : List ℕ) → starts_with eqb f (needed_frame n o (suc k)) ≡ false) → message_in n (first n m (suc k) ++ f ∷ more) ≡ None
+    → ((o : List ℕ) → starts_with eqb f (needed_frame n o (suc k)) ≡ false) → message_in n (first_frames n m (suc k) ++ f ∷ more) ≡ None
 breaks n m k f more s l high h =
     let later : List (List ℕ) = map (frame n m) (map suc (numbers k)) ++ f ∷ more
-    in let start : first n m (suc k) ++ f ∷ more ≡ frame n m 0 ∷ later = ap (λ (fs : List (List ℕ)). fs ++ f ∷ more) (first-cons n m k)
-    in let o : List ℕ = take (length m) (bytes_in (frame n m 0 ∷ later))
+    in let start : first_frames n m (suc k) ++ f ∷ more ≡ frame n m 0 ∷ later = ap (λ (fs : List (List ℕ)). fs ++ f ∷ more) (first-cons n m k)
+    in let o : List ℕ = take (length m) (message_bytes (frame n m 0 ∷ later))
     in let fails : begin_with (frame n m 0 ∷ later) (map (needed_frame n o) (numbers (frame_count (length o)))) ≡ false
     = ap (λ (xs : List (List ℕ)). begin_with xs (map (needed_frame n o) (numbers (frame_count (length o))))) (sym start)
     ∙ breaks-by n m k f more s l high h o (simp length-take (omega arith))

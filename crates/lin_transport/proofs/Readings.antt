@@ -4,7 +4,7 @@ use Rattle.std.specs.Prelude.{Some, None, All, filter_map}
 use Rattle.std.proofs.lemmas.List.{append-nil, take-map, drop-map}
 use Rattle.std.proofs.lemmas.List.Elements.{All-tail}
 use Rattle.lin_frame.specs.Words.{numbers}
-use Rattle.lin_transport.specs.Transport.{frame, first, frames, frame_count, CanSend, pieces, Ear, message_to, messages_to, Heard}
+use Rattle.lin_transport.specs.Transport.{frame, first_frames, frames, frame_count, CanSend, pieces, Ear, message_to, messages_to, Heard}
 use Rattle.lin_transport.specs.Transport.Heard.{Frame, Reset}
 use Rattle.lin_transport.specs.Law.{Addressed, IsFor, heard_after, frames_of_all, bytes_of_all, ReadsBack, ReadsAcross, LacksCut, AddsMessage, AddsNothing}
 use Rattle.lin_transport.proofs.Frames.{first-cons, length-frame, frame-begins, frame-continues, count-some}
@@ -30,7 +30,7 @@ pieces-later n m (k ∷ ks) heard ps p e =
     ∙ ap (λ (q : List (List ℕ)). ps ++ q ∷ []) (append_assoc p (f ∷ []) (later n m ks))
 
 -- the first frames of a message are a piece of their own
-pub pieces-first : (n : ℕ) (m : List ℕ) (k : ℕ) (heard : List Heard) → CanSend m → pieces (heard_after heard (first n m (suc k))) ≡ pieces heard ++ first n m (suc k) ∷ []
+pub pieces-first : (n : ℕ) (m : List ℕ) (k : ℕ) (heard : List Heard) → CanSend m → pieces (heard_after heard (first_frames n m (suc k))) ≡ pieces heard ++ first_frames n m (suc k) ∷ []
 pieces-first n m k heard s =
     let start : pieces (Frame (frame n m 0) ∷ heard) ≡ pieces heard ++ (frame n m 0 ∷ []) ∷ [] = rw (frame-begins n m s)
     in ap (λ (fs : List (List ℕ)). pieces (heard_after heard fs)) (first-cons n m k)
@@ -43,17 +43,17 @@ message-adds e m heard is =
     let n : ℕ = m.nad
     in let j : ℕ = frame_count (length m.bytes) - 1
     in let c : frame_count (length m.bytes) ≡ suc j = let some : 1 ≤ frame_count (length m.bytes) = count-some m.bytes in omega arith
-    in let whole : message_to e (first n m.bytes (suc j)) ≡ Some m.bytes = ap (λ (k : ℕ). message_to e (first n m.bytes k)) (sym c) ∙ to-all e m is
-    in ap (λ (k : ℕ). messages_to e (heard_after heard (first n m.bytes k))) c
+    in let whole : message_to e (first_frames n m.bytes (suc j)) ≡ Some m.bytes = ap (λ (k : ℕ). message_to e (first_frames n m.bytes k)) (sym c) ∙ to-all e m is
+    in ap (λ (k : ℕ). messages_to e (heard_after heard (first_frames n m.bytes k))) c
     ∙ ap (filter_map (message_to e)) (pieces-first n m.bytes j heard is.can)
-    ∙ reads-more e (pieces heard) (first n m.bytes (suc j)) (Some m.bytes) whole
+    ∙ reads-more e (pieces heard) (first_frames n m.bytes (suc j)) (Some m.bytes) whole
 
 -- fewer add nothing
 pub part-adds-nothing : (e : Ear) (m : Addressed) (k : ℕ) (heard : List Heard) → AddsNothing e m k heard
 part-adds-nothing e m zero heard is more = refl
 part-adds-nothing e m (suc k) heard is more =
     ap (filter_map (message_to e)) (pieces-first m.nad m.bytes k heard is.can)
-    ∙ reads-nothing e (pieces heard) (first m.nad m.bytes (suc k)) (to-none e m k is more)
+    ∙ reads-nothing e (pieces heard) (first_frames m.nad m.bytes (suc k)) (to-none e m k is more)
 
 later-fails : (e : Ear) (m : Addressed) (ks : List ℕ) → IsFor e m → message_to e (later m.nad m.bytes ks) ≡ None
 later-fails e m [] is = refl
@@ -84,7 +84,7 @@ later-frames n m k j =
     in let e : frame_count (length m) ≡ suc c = let some : 1 ≤ frame_count (length m) = count-some m in omega arith
     in (
       take j (drop k (numbers c)),
-      ap (λ (i : ℕ). take j (drop (suc k) (first n m i))) e
+      ap (λ (i : ℕ). take j (drop (suc k) (first_frames n m i))) e
           ∙ ap (λ (fs : List (List ℕ)). take j (drop (suc k) fs)) (first-cons n m c)
           ∙ ap (take j) (drop-map (frame n m) k (map suc (numbers c)) ∙ ap (map (frame n m)) (drop-map suc k (numbers c)))
           ∙ take-map (frame n m) j (map suc (drop k (numbers c)))
@@ -105,10 +105,10 @@ reads-across e before after given all rest is =
 lacks-by : (e : Ear) (before : List Addressed) (m : Addressed) (k j : ℕ) (after : List Addressed) (given : List Heard) → LacksCut e before m (suc k) j after given
 lacks-by e before m k j after given all can rest low high is =
     let heard : List Heard = heard_after [] (frames_of_all before)
-    in let part : List Heard = heard_after [] (frames_of_all before ++ first m.nad m.bytes (suc k))
+    in let part : List Heard = heard_after [] (frames_of_all before ++ first_frames m.nad m.bytes (suc k))
     in let l : (ks : List ℕ) × (take j (drop (suc k) (frames m.nad m.bytes)) ≡ later m.nad m.bytes ks) = later-frames m.nad m.bytes k j
     in let cut : messages_to e part ≡ bytes_of_all before
-    = ap (messages_to e) (followed-append [] (frames_of_all before) (first m.nad m.bytes (suc k)))
+    = ap (messages_to e) (followed-append [] (frames_of_all before) (first_frames m.nad m.bytes (suc k)))
     ∙ part-adds-nothing e m (suc k) heard can high ∙ messages-add e before [] all
     in ap (messages_to e) is
     ∙ ap (messages_to e) (followed-append (Reset ∷ part) (take j (drop (suc k) (frames m.nad m.bytes))) (frames_of_all after))

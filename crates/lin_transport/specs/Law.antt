@@ -1,7 +1,7 @@
 -- What is read of one piece, of messages that are sent whole, and of one that a reset cuts.
 use Rattle.std.specs.Prelude.{◌≡◌, ◌↔◌, ℕ, ◌≤◌, ◌<◌, IsTrue, true, List, [], ◌∷◌, ◌++◌, All}
 use Rattle.std.specs.Prelude.{length, take, drop, map, slice_index_or, Some}
-use Rattle.lin_transport.specs.Transport.{functional, needed_frame, first, frames, frame_count}
+use Rattle.lin_transport.specs.Transport.{functional, needed_frame, first_frames, frames, frame_count}
 use Rattle.lin_transport.specs.Transport.{CanSend}
 use Rattle.lin_transport.specs.Transport.{Ear, looks_at, Heard, message_in, messages_to}
 use Rattle.lin_transport.specs.Transport.{all_heard, messages_for}
@@ -72,7 +72,7 @@ LacksCut e earlier m k j later given =
     All (IsFor e) earlier → IsFor e m → All (IsFor e) later → 1 ≤ k
     → k < frame_count (length m.bytes)
     → all_heard e given ≡ heard_after
-    (Reset ∷ heard_after [] (frames_of_all earlier ++ first m.nad m.bytes k))
+    (Reset ∷ heard_after [] (frames_of_all earlier ++ first_frames m.nad m.bytes k))
     (take j (drop k (frames m.nad m.bytes)) ++ frames_of_all later)
     → messages_for e given ≡ bytes_of_all earlier ++ bytes_of_all later
 
@@ -86,7 +86,7 @@ AddsMessage e m heard =
 abbrev pub AddsNothing : Ear → Addressed → ℕ → List Heard → Type 0
 AddsNothing e m k heard =
     IsFor e m → k < frame_count (length m.bytes)
-    → messages_to e (heard_after heard (first m.nad m.bytes k)) ≡ messages_to e heard
+    → messages_to e (heard_after heard (first_frames m.nad m.bytes k)) ≡ messages_to e heard
 
 -- nor does a reset
 abbrev pub ResetAddsNothing : Ear → List Heard → Type 0

@@ -2,7 +2,7 @@
 use Rattle.std.specs.Prelude.{◌≡◌, ℕ, suc, ◌+◌, ◌*◌, ◌/◌, ◌%◌, ◌≤◌, ◌<◌, ⊤, ◌≢◌, Bool, true}
 use Rattle.std.specs.Prelude.{if◌then◌else◌, List, [], ◌∷◌, ◌++◌, length, slice_index}
 use Rattle.std.specs.Prelude.{Option, Some, None, option_to_list}
-use Rattle.lin_transport.specs.Transport.{Heard, Ear, functional, begins, first, message_in}
+use Rattle.lin_transport.specs.Transport.{Heard, Ear, functional, begins_message, first_frames, message_in}
 use Rattle.lin_transport.specs.Transport.{message_to, messages_to, heard_to}
 use Rattle.lin_transport.specs.Transport.Heard.{Frame, Reset}
 
@@ -30,7 +30,7 @@ IsOwn e = e.all ≡ true → e.nad ≢ functional
 -- the frames after the last cut, the oldest first
 abbrev pub current : List Heard → List (List ℕ)
 current [] = []
-current (Frame f ∷ earlier) = if begins f then f ∷ [] else current earlier ++ f ∷ []
+current (Frame f ∷ earlier) = if begins_message f then f ∷ [] else current earlier ++ f ∷ []
 current (Reset ∷ earlier) = []
 
 -- nothing is partial: these frames read as the same message, or as none, whatever comes after them
@@ -47,7 +47,7 @@ pub record AreFirst (nad : ℕ) (part : Part) (fs : List (List ℕ)) : Type 0 wh
   pub bytes : length part.bytes ≡ 5 + 6 * consecutive
   pub more : 5 + 6 * consecutive < part.size
   pub frames : (rest : List ℕ) → length part.bytes + length rest ≡ part.size
-      → fs ≡ first nad (part.bytes ++ rest) (suc consecutive)
+      → fs ≡ first_frames nad (part.bytes ++ rest) (suc consecutive)
 
 abbrev pub Holds : Ear → Option Part → List (List ℕ) → Type 0
 Holds e None fs = AreOver e fs
@@ -89,7 +89,7 @@ pub record IsContinued (e : Ear) (frame : List ℕ) (fs : List (List ℕ)) (give
 
 -- a partial message as it is kept: the buffer has room for all of it, and the counter is that of
 -- the next consecutive frame
-pub record IsKept (bytes : List ℕ) (size counter capacity : ℕ) : Type 0 where
+pub record IsPartialMessage (bytes : List ℕ) (size counter capacity : ℕ) : Type 0 where
   pub more : length bytes < size
   pub full : length bytes % 6 ≡ 5
   pub room : size ≤ capacity

@@ -26,12 +26,12 @@ abbrev pub frame : ℕ → List ℕ → ℕ → List ℕ
 frame nad m k = filled_to 8 (needed_frame nad m k)
 
 -- the first k frames of a message, in order
-abbrev pub first : ℕ → List ℕ → ℕ → List (List ℕ)
-first nad m k = map (frame nad m) (numbers k)
+abbrev pub first_frames : ℕ → List ℕ → ℕ → List (List ℕ)
+first_frames nad m k = map (frame nad m) (numbers k)
 
 -- all its frames
 abbrev pub frames : ℕ → List ℕ → List (List ℕ)
-frames nad m = first nad m (frame_count (length m))
+frames nad m = first_frames nad m (frame_count (length m))
 
 -- a message of a length that can be sent
 pub record CanSend (m : List ℕ) : Type 0 where
@@ -44,8 +44,8 @@ abbrev pub functional : ℕ
 functional = 126
 
 -- a frame that begins a message: a single or first frame, by the high four bits of its PCI (0 or 1)
-abbrev pub begins : List ℕ → Bool
-begins f = nat_lt (slice_index f 1) 32
+abbrev pub begins_message : List ℕ → Bool
+begins_message f = nat_lt (slice_index f 1) 32
 
 -- what a receiver is given: a frame of 8 data bytes, or a reset, as at a timeout or sleep
 pub data Heard : Type 0 where
@@ -57,7 +57,7 @@ pub data Heard : Type 0 where
 abbrev pub pieces : List Heard → List (List (List ℕ))
 pieces [] = [] ∷ []
 pieces (Frame f ∷ earlier) =
-    if begins f then pieces earlier
+    if begins_message f then pieces earlier
     ++ (f ∷ []) ∷ [] else with_last (λ p. p ++ f ∷ []) (pieces earlier)
 pieces (Reset ∷ earlier) = pieces earlier ++ [] ∷ []
 
@@ -69,9 +69,9 @@ length_in f =
 
 -- the message bytes that a piece has: what stands after the PCI in a single frame, after the low
 -- length byte in a first frame, and after the PCI in those that follow
-abbrev pub bytes_in : List (List ℕ) → List ℕ
-bytes_in [] = []
-bytes_in (f ∷ fs) =
+abbrev pub message_bytes : List (List ℕ) → List ℕ
+message_bytes [] = []
+message_bytes (f ∷ fs) =
     (if nat_lt (slice_index f 1) 16 then drop 2 f else drop 3 f) ++ concat (map (drop 2) fs)
 
 -- the message whose frames, to this address, a piece begins with, unused bytes apart. Only a
@@ -79,7 +79,7 @@ bytes_in (f ∷ fs) =
 abbrev pub message_in : ℕ → List (List ℕ) → Option (List ℕ)
 message_in nad [] = None
 message_in nad (f ∷ fs) =
-    let m : List ℕ = take (length_in f) (bytes_in (f ∷ fs))
+    let m : List ℕ = take (length_in f) (message_bytes (f ∷ fs))
     in if nat_lt 0 (length m)
     && begin_with (f ∷ fs) (map (needed_frame nad m) (numbers (frame_count (length m))))
     then Some m

@@ -3,7 +3,7 @@
 ghost use Rattle.std.specs.Prelude.{◌≡◌, ℕ, ◌<◌, ◌≤◌, ◌∷◌, ◌++◌, [], List, ◌&&◌, eqb, true};
 ghost use Rattle.std.specs.Prelude.{false, slice_index, option_map, option_to_list, vec_capacity};
 ghost use Rattle.std.specs.Prelude.{IfOk, IfSome, OnOk, OnErr, IsOk, length};
-ghost use Rattle.lin_transport.specs.Transport.{Ear, Heard, all_heard, begins, functional};
+ghost use Rattle.lin_transport.specs.Transport.{Ear, Heard, all_heard, begins_message, functional};
 ghost use Rattle.lin_transport.specs.Transport.{messages_for};
 ghost use Rattle.lin_transport.specs.Transport.Heard.{Frame, Reset};
 ghost use Rattle.lin_transport.specs.Receiver.{Holds, IsOwn, IsReadAs, IsBegun, IsContinued};
@@ -25,13 +25,13 @@ struct Partial {
 
 impl Model for Partial {
     ghost use Rattle.std.specs.Prelude.{vec_capacity};
-    ghost use Rattle.lin_transport.specs.Receiver.{Part, IsKept};
+    ghost use Rattle.lin_transport.specs.Receiver.{Part, IsPartialMessage};
 
     ghost Value = { Part };
 
     ghost view = { λ p. record { bytes = p.message.items; size = p.len } };
 
-    ghost invariant = { λ p. IsKept p.message.items p.len p.counter (vec_capacity p.message) };
+    ghost invariant = { λ p. IsPartialMessage p.message.items p.len p.counter (vec_capacity p.message) };
 }
 
 /// A receiver of the messages to one node address, and also of those to all responders where it is
@@ -194,7 +194,7 @@ impl Receiver {
             → IfOk result
             (λ m. Reads self.old frame.now heard (option_map (λ v. v.items) m) self.new) }
         ensures unchanged { OnErr result (self.new ≡ self.old) }
-        ensures memory { OnErr result (begins frame.now ≡ true) }
+        ensures memory { OnErr result (begins_message frame.now ≡ true) }
         ensures ready { 1 ≤ self.old.spare → slice_index frame.now 1 < 16 → IsOk result }
         ensures few { slice_index frame.now 1 < 16
             → IfOk result (λ m. IfSome m (λ v. length v.items ≤ 6)) }
@@ -244,7 +244,7 @@ impl Receiver {
             ≡ messages_for (ear_of self.old) given
             ++ option_to_list (option_map (λ v. v.items) m)) }
         ensures unchanged { OnErr result (self.new ≡ self.old) }
-        ensures memory { OnErr result (begins frame.now ≡ true) }
+        ensures memory { OnErr result (begins_message frame.now ≡ true) }
         ensures ready { 1 ≤ self.old.spare → slice_index frame.now 1 < 16 → IsOk result }
         ensures few { slice_index frame.now 1 < 16
             → IfOk result (λ m. IfSome m (λ v. length v.items ≤ 6)) }

@@ -22,11 +22,11 @@ pub struct Sender {
 }
 
 impl Model for Sender {
-    ghost use Rattle.lin_transport.specs.Sender.{Sending, frames_to, IsBetween};
+    ghost use Rattle.lin_transport.specs.Sender.{SenderData, frame_count_at, IsBetween};
 
-    ghost Value = { Sending };
+    ghost Value = { SenderData };
 
-    ghost view = { λ s. record { nad = s.nad; size = s.len; sent = frames_to s.position } };
+    ghost view = { λ s. record { nad = s.nad; size = s.len; sent = frame_count_at s.position } };
 
     ghost invariant = { λ s. IsBetween s.len s.position s.counter };
 }

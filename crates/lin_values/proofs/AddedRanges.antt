@@ -8,9 +8,9 @@ use Rattle.std.proofs.lemmas.Bool.{cases_lt, ltb-true, ltb-false, lt-ltb, le-ltb
 use Rattle.std.proofs.lemmas.List.Elements.{All-weaker}
 use Rattle.std.proofs.lemmas.List.Sorted.{IsPartitionedBy-ltb}
 use Rattle.lin_values.proofs.Layered.{IsBetween, layered-more, first-more, met-more}
-use Rattle.lin_values.specs.Joined.{gaps, joined}
+use Rattle.lin_values.specs.Joined.{gaps, joined_span}
 use Rattle.lin_values.specs.Layers.{in_span, item_in, numbers_of, IsBefore, IsLayered}
-use Rattle.lin_values.specs.declared.layers.Part.{Part}
+use Rattle.lin_values.specs.declared.layers.RangePart.{RangePart}
 use Rattle.lin_values.specs.declared.layers.Span.{Span}
 
 pub take-all : {X : Type 0} (P : X → Type 0) (xs : List X) (i : ℕ) → AllWithin P xs 0 i → All P (take i xs)
@@ -38,16 +38,16 @@ ends-rise ss some ordered i j d le lt =
 pub spans-parted : (ss : List Span) (n : ℕ) → All (λ z. z.from ≤ z.to) ss → AllPairs IsBefore ss → IsPartitionedBy (λ z. nat_lt z.to n) ss
 spans-parted ss n some ordered = IsPartitionedBy-ltb (λ (z : Span). z.to) ss n (ends-rise ss some ordered)
 
-pub record IsAdded (cov : List Span) (ps : List Part) (s : Span) (item at end : ℕ) (w : Span) (cov' : List Span) (ps' : List Part) : Type 0 where
+pub record IsAdded (cov : List Span) (ps : List RangePart) (s : Span) (item at end : ℕ) (w : Span) (cov' : List Span) (ps' : List RangePart) : Type 0 where
   pub between : IsBetween (take at cov) (drop at cov) ps s
   pub from : at ≤ end
   pub within : end ≤ length cov
   pub filled : ps' ≡ ps ++ gaps s.from s.to item (drop at cov)
-  pub whole : w ≡ (joined s s.to (drop at cov)).0
-  pub behind : drop end cov ≡ (joined s s.to (drop at cov)).1
+  pub whole : w ≡ (joined_span s s.to (drop at cov)).0
+  pub behind : drop end cov ≡ (joined_span s s.to (drop at cov)).1
   pub now : cov' ≡ take at cov ++ w ∷ drop end cov
 
-pub added : (cov moved first second cov' : List Span) (ps old ps' : List Part) (s w : Span) (item at end : ℕ) → IsLayered cov ps → s.from ≤ s.to → moved ≡ cov → old ≡ ps → first ≡ moved → second ≡ moved → (IsPartitionedBy (λ z. nat_lt z.to s.from) first → IsPartitionPoint (λ z. nat_lt z.to s.from ≡ true) (λ z. nat_lt z.to s.from ≡ false) first at) → ps' ≡ old ++ gaps s.from s.to item (drop at second) → (at ≤ end) × (end ≤ length second) → w ≡ (joined s s.to (drop at second)).0 → drop end second ≡ (joined s s.to (drop at second)).1 → cov' ≡ take at moved ++ w ∷ drop end moved → IsAdded cov ps s item at end w cov' ps'
+pub added : (cov moved first second cov' : List Span) (ps old ps' : List RangePart) (s w : Span) (item at end : ℕ) → IsLayered cov ps → s.from ≤ s.to → moved ≡ cov → old ≡ ps → first ≡ moved → second ≡ moved → (IsPartitionedBy (λ z. nat_lt z.to s.from) first → IsPartitionPoint (λ z. nat_lt z.to s.from ≡ true) (λ z. nat_lt z.to s.from ≡ false) first at) → ps' ≡ old ++ gaps s.from s.to item (drop at second) → (at ≤ end) × (end ≤ length second) → w ≡ (joined_span s s.to (drop at second)).0 → drop end second ≡ (joined_span s s.to (drop at second)).1 → cov' ≡ take at moved ++ w ∷ drop end moved → IsAdded cov ps s item at end w cov' ps'
 added cov moved first second cov' ps old ps' s w item at end layered full same were one two parted filled within whole behind now =
     let e : second ≡ cov = two ∙ same in
     let f : first ≡ cov = one ∙ same in
@@ -62,18 +62,18 @@ added cov moved first second cov' ps old ps' s w item at end layered full same w
       from = within.0;
       within = subst (λ c. end ≤ length c) e within.1;
       filled = filled ∙ (λ i. were i ++ gaps s.from s.to item (drop at (e i)));
-      whole = whole ∙ ap (λ c. (joined s s.to (drop at c)).0) e;
-      behind = ap (drop end) (sym e) ∙ behind ∙ ap (λ c. (joined s s.to (drop at c)).1) e;
+      whole = whole ∙ ap (λ c. (joined_span s s.to (drop at c)).0) e;
+      behind = ap (drop end) (sym e) ∙ behind ∙ ap (λ c. (joined_span s s.to (drop at c)).1) e;
       now = now ∙ (λ i. take at (same i) ++ w ∷ drop end (same i));
     }
 
-pub added-layered : (cov cov' : List Span) (ps ps' : List Part) (s w : Span) (item at end : ℕ) → IsAdded cov ps s item at end w cov' ps' → IsLayered cov' ps'
+pub added-layered : (cov cov' : List Span) (ps ps' : List RangePart) (s w : Span) (item at end : ℕ) → IsAdded cov ps s item at end w cov' ps' → IsLayered cov' ps'
 added-layered cov cov' ps ps' s w item at end is =
-    let spans : cov' ≡ take at cov ++ (joined s s.to (drop at cov)).0 ∷ (joined s s.to (drop at cov)).1 = is.now ∙ (λ i. take at cov ++ is.whole i ∷ is.behind i) in
+    let spans : cov' ≡ take at cov ++ (joined_span s s.to (drop at cov)).0 ∷ (joined_span s s.to (drop at cov)).1 = is.now ∙ (λ i. take at cov ++ is.whole i ∷ is.behind i) in
     let have = layered-more item (take at cov) (drop at cov) ps s is.between in
-    subst (λ c. IsLayered c ps') (sym spans) (subst (λ q. IsLayered (take at cov ++ (joined s s.to (drop at cov)).0 ∷ (joined s s.to (drop at cov)).1) q) (sym is.filled) have)
+    subst (λ c. IsLayered c ps') (sym spans) (subst (λ q. IsLayered (take at cov ++ (joined_span s s.to (drop at cov)).0 ∷ (joined_span s s.to (drop at cov)).1) q) (sym is.filled) have)
 
-pub added-first : (cov cov' : List Span) (ps ps' : List Part) (s w : Span) (item at end : ℕ) → IsAdded cov ps s item at end w cov' ps' → (n : ℕ) → item_in ps' n ≡ option_or (item_in ps n) (cond (in_span s n) (Some item) None)
+pub added-first : (cov cov' : List Span) (ps ps' : List RangePart) (s w : Span) (item at end : ℕ) → IsAdded cov ps s item at end w cov' ps' → (n : ℕ) → item_in ps' n ≡ option_or (item_in ps n) (cond (in_span s n) (Some item) None)
 added-first cov cov' ps ps' s w item at end is n = ap (λ q. item_in q n) is.filled ∙ first-more n item (take at cov) (drop at cov) ps s is.between
 
 short-drop : (at end l : ℕ) → at ≤ end → end ≤ l → nat_lt (l - end) (l - at) ≡ nat_lt at end
@@ -82,7 +82,7 @@ short-drop at end l up in' = elim (cases_lt at end) as (λ _. nat_lt (l - end) (
   | inr le ↦ le-ltb (l - end) (l - at) (omega arith) ∙ sym (le-ltb at end le)
 ]
 
-pub added-met : (cov cov' : List Span) (ps ps' : List Part) (s w : Span) (item at end : ℕ) → IsAdded cov ps s item at end w cov' ps' → nat_lt at end ≡ list_any (λ n. is_some (item_in ps n)) (numbers_of s)
+pub added-met : (cov cov' : List Span) (ps ps' : List RangePart) (s w : Span) (item at end : ℕ) → IsAdded cov ps s item at end w cov' ps' → nat_lt at end ≡ list_any (λ n. is_some (item_in ps n)) (numbers_of s)
 added-met cov cov' ps ps' s w item at end is =
     sym (short-drop at end (length cov) is.from is.within)
     ∙ (λ i. nat_lt (sym (length-drop end cov) i) (sym (length-drop at cov) i))

@@ -15,16 +15,16 @@ use Rattle.lin_frame.specs.declared.value.Value.TheVariants.{Scalar, Bytes}
 use Rattle.lin_values.specs.Coded.{all_codings, item_for, or_else, signal_at, CodedData, SignalCoding}
 use Rattle.lin_values.specs.Meaning.{as_digits, bcd_digits, by_item, bytes_of_scalar, digits_meaning, first_some, fours, letter, letters_of, meaning, meaning_by, meaning_in, named_or_number, numeric_meaning, value_bytes, without_front_zeros}
 use Rattle.lin_values.specs.Meant.{Meant, Named, Number, Physical, Digits, Letters}
-use Rattle.lin_values.specs.Raws.{coded_raws, has_text, is_coded, is_plain_from, is_value, is_visible, same_value}
-use Rattle.lin_values.specs.Spelled.{array_of, byte_of, in_quotes, number_after, pairs, scalar_of, scalar_within, IsHeld}
+use Rattle.lin_values.specs.Raws.{coded_raws, value_has_text, is_coded, is_plain_from, is_value, is_printable, same_value}
+use Rattle.lin_values.specs.Spelled.{character_array, byte_of, in_quotes, bcd_after, pairs, character_scalar, scalar_within, IsHeld}
 use Rattle.lin_values.specs.Shown.{shown}
-use Rattle.lin_values.specs.Warnings.{most_of}
+use Rattle.lin_values.specs.Warnings.{greatest_raw}
 use Rattle.lin_values.specs.declared.encoding.Coding.{Coding}
 use Rattle.lin_values.specs.declared.encoding.Coding.TheVariants as codings
-use Rattle.lin_values.specs.declared.items.CodingType.{CodingType}
-use Rattle.lin_values.specs.declared.items.Item.{Item}
-use Rattle.lin_values.specs.declared.items.Item.TheVariants as items
-use Rattle.lin_values.specs.declared.items.PlacedItem.{PlacedItem}
+use Rattle.lin_values.specs.declared.codings.CodingType.{CodingType}
+use Rattle.lin_values.specs.declared.codings.Item.{Item}
+use Rattle.lin_values.specs.declared.codings.Item.TheVariants as items
+use Rattle.lin_values.specs.declared.codings.PlacedItem.{PlacedItem}
 use Rattle.lin_values.proofs.Digits.{sixteens}
 use Rattle.lin_values.proofs.Letters.{fewer_at-end}
 use Rattle.lin_values.proofs.OnlyRaw.{same-value, value-same}
@@ -33,10 +33,10 @@ use Rattle.lin_values.proofs.SpelledValues.{all-small, as-text, both-true, digit
 
 -- ---- characters up to zeros at the end
 
-visible-some : (b : ℕ) → is_visible b ≡ true → (b == 0) ≡ false
+visible-some : (b : ℕ) → is_printable b ≡ true → (b == 0) ≡ false
 visible-some b e = grind (arith, nat_tests)
 
-letter-same : (b : ℕ) → is_visible b ≡ true → letter b ≡ b
+letter-same : (b : ℕ) → is_printable b ≡ true → letter b ≡ b
 letter-same b e = ap (λ t. cond t b 63) e
 
 some-behind : (xs : List ℕ) (b : ℕ) → (b == 0) ≡ false → without_front_zeros (xs ++ b ∷ []) ≡ without_front_zeros xs ++ b ∷ []
@@ -57,17 +57,17 @@ no-letters : (z : ℕ) → without_front_zeros (reverse (replicate z 0)) ≡ []
 no-letters zero = refl
 no-letters (suc z) = ap without_front_zeros (reverse-append (0 ∷ []) (replicate z 0)) ∙ zero-behind (reverse (replicate z 0)) (no-letters z)
 
-letters-more : (b : ℕ) (bs : List ℕ) → is_visible b ≡ true → letters_of (b ∷ bs) ≡ b ∷ letters_of bs
+letters-more : (b : ℕ) (bs : List ℕ) → is_printable b ≡ true → letters_of (b ∷ bs) ≡ b ∷ letters_of bs
 letters-more b bs e =
     let w : List ℕ = without_front_zeros (reverse bs) in
     let a : without_front_zeros (reverse (b ∷ bs)) ≡ w ++ b ∷ [] = ap without_front_zeros (reverse-append (b ∷ []) bs) ∙ some-behind (reverse bs) b (visible-some b e) in
     ap (λ xs. map letter (reverse xs)) a ∙ ap (map letter) (reverse-append w (b ∷ [])) ∙ ap (λ c. c ∷ map letter (reverse w)) (letter-same b e)
 
-pub letters-again : (vs : List ℕ) (z : ℕ) → list_all is_visible vs ≡ true → letters_of (vs ++ replicate z 0) ≡ vs
+pub letters-again : (vs : List ℕ) (z : ℕ) → list_all is_printable vs ≡ true → letters_of (vs ++ replicate z 0) ≡ vs
 letters-again [] z e = ap (λ xs. map letter (reverse xs)) (no-letters z)
 letters-again (v ∷ vs) z e =
-    letters-more v (vs ++ replicate z 0) (first-small (is_visible v) (list_all is_visible vs) e)
-    ∙ ap (λ xs. v ∷ xs) (letters-again vs z (rest-small (is_visible v) (list_all is_visible vs) e))
+    letters-more v (vs ++ replicate z 0) (first-small (is_printable v) (list_all is_printable vs) e)
+    ∙ ap (λ xs. v ∷ xs) (letters-again vs z (rest-small (is_printable v) (list_all is_printable vs) e))
 
 -- ---- what digits and characters come from
 
@@ -116,13 +116,13 @@ from-meaning k s v = from-encoding (signal_at k s) v (signal_at k s).encoding
 -- ---- the value that is spelled
 
 pub record IsSpelled (bits : ℕ) (array : Bool) (text : List ℕ) (o : Option Value) : Type 0 where
-  pub array_letters : array ≡ true → (ls : List ℕ) → text ≡ in_quotes ls → length ls ≤ bits / 8 → bits / 8 ≤ 8 → o ≡ Some (array_of bits ls)
-  pub array_digits : array ≡ true → (bs : List ℕ) → slice_index text 0 ≢ 34 → pairs text ≡ Some bs → length bs ≤ bits / 8 → bits / 8 ≤ 8 → o ≡ Some (array_of bits bs)
-  pub scalar_letters : array ≡ false → (ls : List ℕ) → text ≡ in_quotes ls → length ls ≤ 2 → o ≡ scalar_within bits (scalar_of ls)
-  pub scalar_digits : array ≡ false → (n : ℕ) → slice_index text 0 ≢ 34 → number_after 0 text ≡ Some n → length text ≤ 4 → o ≡ scalar_within bits n
+  pub array_letters : array ≡ true → (ls : List ℕ) → text ≡ in_quotes ls → length ls ≤ bits / 8 → bits / 8 ≤ 8 → o ≡ Some (character_array bits ls)
+  pub array_digits : array ≡ true → (bs : List ℕ) → slice_index text 0 ≢ 34 → pairs text ≡ Some bs → length bs ≤ bits / 8 → bits / 8 ≤ 8 → o ≡ Some (character_array bits bs)
+  pub scalar_letters : array ≡ false → (ls : List ℕ) → text ≡ in_quotes ls → length ls ≤ 2 → o ≡ scalar_within bits (character_scalar ls)
+  pub scalar_digits : array ≡ false → (n : ℕ) → slice_index text 0 ≢ 34 → bcd_after 0 text ≡ Some n → length text ≤ 4 → o ≡ scalar_within bits n
 
-within-most : (bits n : ℕ) → n ≤ most_of bits → scalar_within bits n ≡ Some (Scalar n)
-within-most bits n h = let e : nat_le n (most_of bits) ≡ true = grind (arith, nat_tests) in ap (λ t. cond t (Some (Scalar n)) None) e
+within-most : (bits n : ℕ) → n ≤ greatest_raw bits → scalar_within bits n ≡ Some (Scalar n)
+within-most bits n h = let e : nat_le n (greatest_raw bits) ≡ true = grind (arith, nat_tests) in ap (λ t. cond t (Some (Scalar n)) None) e
 
 no-quote : (ds : List ℕ) → slice_index (as-text ds) 0 ≢ 34
 no-quote [] = λ e. cc
@@ -131,7 +131,7 @@ no-quote (d ∷ ds) = λ e. let h : 48 + d ≡ 34 = e in omega arith
 few-digits : (bits : ℕ) → (min bits 16 + 3) / 4 ≤ 4
 few-digits bits = omega arith
 
-all-above : (bits n : ℕ) → n ≤ most_of bits → n / 16 ^ ((min bits 16 + 3) / 4) ≡ 0
+all-above : (bits n : ℕ) → n ≤ greatest_raw bits → n / 16 ^ ((min bits 16 + 3) / 4) ≡ 0
 all-above bits n h =
     let k : ℕ = (min bits 16 + 3) / 4 in
     let p : 2 ^ min bits 16 ≤ 2 ^ (4 * k) = pow_mono {j = 4 * k} (omega arith) in
@@ -148,15 +148,15 @@ fours-length : (k n : ℕ) → length (fours k n) ≡ k
 fours-length zero n = refl
 fours-length (suc k) n = ap suc (fours-length k n)
 
-scalar-digits : (bits : ℕ) (text : List ℕ) (o : Option Value) (n : ℕ) → IsSpelled bits false text o → n ≤ most_of bits → as_digits (fours ((min bits 16 + 3) / 4) n) ≡ Some text → o ≡ Some (Scalar n)
+scalar-digits : (bits : ℕ) (text : List ℕ) (o : Option Value) (n : ℕ) → IsSpelled bits false text o → n ≤ greatest_raw bits → as_digits (fours ((min bits 16 + 3) / 4) n) ≡ Some text → o ≡ Some (Scalar n)
 scalar-digits bits text o n h le e =
     let k : ℕ = (min bits 16 + 3) / 4 in
     let p : (all-small (fours k n) ≡ true) × (text ≡ as-text (fours k n)) = digits-are (fours k n) text e in
-    let number : number_after 0 text ≡ Some n = ap (number_after 0) p.1 ∙ ap (λ m. number_after m (as-text (fours k n))) (sym (all-above bits n le)) ∙ number-again k n p.0 in
+    let number : bcd_after 0 text ≡ Some n = ap (bcd_after 0) p.1 ∙ ap (λ m. bcd_after m (as-text (fours k n))) (sym (all-above bits n le)) ∙ number-again k n p.0 in
     let few : length text ≤ 4 = omega (arith, ap length p.1, text-length (fours k n), fours-length k n, few-digits bits) in
     h.scalar_digits refl n (λ q. no-quote (fours k n) (ap (λ t. slice_index t 0) (sym p.1) ∙ q)) number few ∙ within-most bits n le
 
-none-filled : (bits : ℕ) (bs : List ℕ) → length bs ≡ bits / 8 → array_of bits bs ≡ Bytes bs
+none-filled : (bits : ℕ) (bs : List ℕ) → length bs ≡ bits / 8 → character_array bits bs ≡ Bytes bs
 none-filled bits bs e =
     let z : bits / 8 - length bs ≡ 0 = omega arith in
     ap (λ m. Bytes (bs ++ replicate m 0)) z ∙ ap Bytes (append-nil bs)
@@ -185,7 +185,7 @@ array-letters bits text o bs h len le plain e =
     ∙ ap (λ m. Some (Bytes (vs ++ replicate m 0))) left
     ∙ ap (λ xs. Some (Bytes xs)) (sym split.2)
 
-scalar-zeros : (vs : List ℕ) (z : ℕ) → scalar_of (vs ++ replicate z 0) ≡ scalar_of vs
+scalar-zeros : (vs : List ℕ) (z : ℕ) → character_scalar (vs ++ replicate z 0) ≡ character_scalar vs
 scalar-zeros [] zero = refl
 scalar-zeros [] (suc zero) = refl
 scalar-zeros [] (suc (suc z)) = refl
@@ -193,15 +193,15 @@ scalar-zeros (a ∷ []) zero = refl
 scalar-zeros (a ∷ []) (suc z) = let e : a + 256 * 0 ≡ a = omega arith in e
 scalar-zeros (a ∷ b ∷ cs) z = refl
 
-byte-scalar : (bits n : ℕ) → n ≤ most_of bits → nat_lt 8 bits ≡ false → n % 256 ≡ n
+byte-scalar : (bits n : ℕ) → n ≤ greatest_raw bits → nat_lt 8 bits ≡ false → n % 256 ≡ n
 byte-scalar bits n le e =
     let few : bits ≤ 8 = grind (arith, nat_tests) in
     let p : 2 ^ min bits 16 ≤ 2 ^ 8 = pow_mono {j = 8} (omega arith) in
     omega arith
 
-bytes-scalar : (bits n : ℕ) → n ≤ most_of bits → scalar_of (bytes_of_scalar n bits) ≡ n
+bytes-scalar : (bits n : ℕ) → n ≤ greatest_raw bits → character_scalar (bytes_of_scalar n bits) ≡ n
 bytes-scalar bits n le =
-    elim (nat_lt 8 bits) as (λ b. nat_lt 8 bits ≡ b → scalar_of (cond b (n % 256 ∷ n / 256 ∷ []) (n % 256 ∷ [])) ≡ n) [
+    elim (nat_lt 8 bits) as (λ b. nat_lt 8 bits ≡ b → character_scalar (cond b (n % 256 ∷ n / 256 ∷ []) (n % 256 ∷ [])) ≡ n) [
       | true ↦ λ e. (let s : n % 256 + 256 * (n / 256) ≡ n = omega arith in s)
       | false ↦ λ e. byte-scalar bits n le e
     ] refl
@@ -209,7 +209,7 @@ bytes-scalar bits n le =
 two-bytes : (bits n : ℕ) → length (bytes_of_scalar n bits) ≤ 2
 two-bytes bits n = elim (nat_lt 8 bits) as (λ b. length (cond b (n % 256 ∷ n / 256 ∷ []) (n % 256 ∷ [])) ≤ 2) [ true ↦ omega arith | false ↦ omega arith ]
 
-scalar-letters : (bits : ℕ) (text : List ℕ) (o : Option Value) (n : ℕ) → IsSpelled bits false text o → n ≤ most_of bits → is_plain_from false (bytes_of_scalar n bits) ≡ true → text ≡ in_quotes (letters_of (bytes_of_scalar n bits)) → o ≡ Some (Scalar n)
+scalar-letters : (bits : ℕ) (text : List ℕ) (o : Option Value) (n : ℕ) → IsSpelled bits false text o → n ≤ greatest_raw bits → is_plain_from false (bytes_of_scalar n bits) ≡ true → text ≡ in_quotes (letters_of (bytes_of_scalar n bits)) → o ≡ Some (Scalar n)
 scalar-letters bits text o n h le plain e =
     let bs : List ℕ = bytes_of_scalar n bits in
     let split : IsSplit bs = plain-split bs plain in
@@ -217,7 +217,7 @@ scalar-letters bits text o n h le plain e =
     let z : ℕ = split.1 in
     let same : letters_of bs ≡ vs = ap letters_of split.2 ∙ letters-again vs z split.3 in
     let whole : length bs ≡ length vs + z = ap length split.2 ∙ zeros-length vs z in
-    let is : scalar_of vs ≡ n = sym (scalar-zeros vs z) ∙ ap scalar_of (sym split.2) ∙ bytes-scalar bits n le in
+    let is : character_scalar vs ≡ n = sym (scalar-zeros vs z) ∙ ap character_scalar (sym split.2) ∙ bytes-scalar bits n le in
     h.scalar_letters refl vs (e ∙ ap in_quotes same) (omega (arith, whole, two-bytes bits n))
     ∙ ap (scalar_within bits) is ∙ within-most bits n le
 
@@ -232,21 +232,21 @@ none-coded : {A : Type 0} → false ≡ true → A
 none-coded e = absurd (let no : false ≡ true = e in cc)
 
 scalar-by : (k : CodedData) (s : ℕ) (text : List ℕ) (o : Option Value) → IsSpelled (signal_at k s).bits (signal_at k s).is_array text o → (n : ℕ) → is_value k s (Scalar n) ≡ true
-    → (m : Meant) → IsFrom (signal_at k s) (Scalar n) m → is_coded m && has_text k s text (Scalar n) m ≡ true → o ≡ Some (Scalar n)
+    → (m : Meant) → IsFrom (signal_at k s) (Scalar n) m → is_coded m && value_has_text k s text (Scalar n) m ≡ true → o ≡ Some (Scalar n)
 scalar-by k s text o h n value (Named t) from e = none-coded e
 scalar-by k s text o h n value (Number i) from e = none-coded e
 scalar-by k s text o h n value (Physical z u) from e = none-coded e
 scalar-by k s text o h n value (Digits t) from e =
     let bits : ℕ = (signal_at k s).bits in
-    let array : (signal_at k s).is_array ≡ false = not-array (signal_at k s).is_array (first-small (not (signal_at k s).is_array) (nat_le n (most_of bits)) value) in
-    let le : n ≤ most_of bits = at-most n (most_of bits) (rest-small (not (signal_at k s).is_array) (nat_le n (most_of bits)) value) in
+    let array : (signal_at k s).is_array ≡ false = not-array (signal_at k s).is_array (first-small (not (signal_at k s).is_array) (nat_le n (greatest_raw bits)) value) in
+    let le : n ≤ greatest_raw bits = at-most n (greatest_raw bits) (rest-small (not (signal_at k s).is_array) (nat_le n (greatest_raw bits)) value) in
     let same : text ≡ t = (bytes_eq-Decides text t).0 (first-small (bytes_eq text t) true e) in
     scalar-digits bits text o n (subst (λ a. IsSpelled bits a text o) array h) le (from ∙ ap Some (sym same))
 scalar-by k s text o h n value (Letters t) from e =
     let bits : ℕ = (signal_at k s).bits in
     let plain : Bool = is_plain_from false (bytes_of_scalar n bits) in
-    let array : (signal_at k s).is_array ≡ false = not-array (signal_at k s).is_array (first-small (not (signal_at k s).is_array) (nat_le n (most_of bits)) value) in
-    let le : n ≤ most_of bits = at-most n (most_of bits) (rest-small (not (signal_at k s).is_array) (nat_le n (most_of bits)) value) in
+    let array : (signal_at k s).is_array ≡ false = not-array (signal_at k s).is_array (first-small (not (signal_at k s).is_array) (nat_le n (greatest_raw bits)) value) in
+    let le : n ≤ greatest_raw bits = at-most n (greatest_raw bits) (rest-small (not (signal_at k s).is_array) (nat_le n (greatest_raw bits)) value) in
     let same : text ≡ in_quotes t = (bytes_eq-Decides text (in_quotes t)).0 (first-small (bytes_eq text (in_quotes t)) plain e) in
     scalar-letters bits text o n (subst (λ a. IsSpelled bits a text o) array h) le (rest-small (bytes_eq text (in_quotes t)) plain e) (same ∙ ap in_quotes from)
 
@@ -271,7 +271,7 @@ is-array k s bs e =
     }
 
 array-by : (k : CodedData) (s : ℕ) (text : List ℕ) (o : Option Value) → IsSpelled (signal_at k s).bits (signal_at k s).is_array text o → (bs : List ℕ) → IsArray (signal_at k s) bs
-    → (m : Meant) → IsFrom (signal_at k s) (Bytes bs) m → is_coded m && has_text k s text (Bytes bs) m ≡ true → o ≡ Some (Bytes bs)
+    → (m : Meant) → IsFrom (signal_at k s) (Bytes bs) m → is_coded m && value_has_text k s text (Bytes bs) m ≡ true → o ≡ Some (Bytes bs)
 array-by k s text o h bs is (Named t) from e = none-coded e
 array-by k s text o h bs is (Number i) from e = none-coded e
 array-by k s text o h bs is (Physical z u) from e = none-coded e
@@ -286,19 +286,19 @@ array-by k s text o h bs is (Letters t) from e =
     array-letters bits text o bs (subst (λ a. IsSpelled bits a text o) is.array h) is.long is.few (rest-small (bytes_eq text (in_quotes t)) plain e) (same ∙ ap in_quotes from)
 
 value-by : (k : CodedData) (s : ℕ) (text : List ℕ) (o : Option Value) → IsSpelled (signal_at k s).bits (signal_at k s).is_array text o → (v : Value) → is_value k s v ≡ true
-    → (m : Meant) → IsFrom (signal_at k s) v m → is_coded m && has_text k s text v m ≡ true → o ≡ Some v
+    → (m : Meant) → IsFrom (signal_at k s) v m → is_coded m && value_has_text k s text v m ≡ true → o ≡ Some v
 value-by k s text o h (Scalar n) value = scalar-by k s text o h n value
 value-by k s text o h (Bytes bs) value = array-by k s text o h bs (is-array k s bs value)
 
 any-by : (k : CodedData) (s : ℕ) (text : List ℕ) (o : Option Value) → IsSpelled (signal_at k s).bits (signal_at k s).is_array text o → (v : Value) → is_value k s v ≡ true
-    → (m : Option Meant) → IsFromAny (signal_at k s) v m → option_map_or (λ m. is_coded m && has_text k s text v m) m false ≡ true → o ≡ Some v
+    → (m : Option Meant) → IsFromAny (signal_at k s) v m → option_map_or (λ m. is_coded m && value_has_text k s text v m) m false ≡ true → o ≡ Some v
 any-by k s text o h v value None from e = none-coded e
 any-by k s text o h v value (Some m) from e = value-by k s text o h v value m from e
 
 -- the value with the text is the one that it spells
 pub spelled : (k : CodedData) (s : ℕ) (text : List ℕ) (o : Option Value) → IsSpelled (signal_at k s).bits (signal_at k s).is_array text o → (v : Value) → coded_raws k s text v ≡ true → o ≡ Some v
 spelled k s text o h v e =
-    let test : Bool = option_map_or (λ m. is_coded m && has_text k s text v m) (meaning k s v) false in
+    let test : Bool = option_map_or (λ m. is_coded m && value_has_text k s text v m) (meaning k s v) false in
     any-by k s text o h v (first-small (is_value k s v) test e) (meaning k s v) (from-meaning k s v) (rest-small (is_value k s v) test e)
 
 -- ---- the value that is spelled has the text
@@ -307,24 +307,24 @@ zeros-plain : (z : ℕ) → is_plain_from true (replicate z 0) ≡ true
 zeros-plain zero = refl
 zeros-plain (suc z) = zeros-plain z
 
-plain-again : (vs : List ℕ) (z : ℕ) → list_all is_visible vs ≡ true → is_plain_from false (vs ++ replicate z 0) ≡ true
+plain-again : (vs : List ℕ) (z : ℕ) → list_all is_printable vs ≡ true → is_plain_from false (vs ++ replicate z 0) ≡ true
 plain-again [] zero e = refl
 plain-again [] (suc z) e = zeros-plain z
 plain-again (v ∷ vs) z e =
-    let here : is_visible v ≡ true = first-small (is_visible v) (list_all is_visible vs) e in
-    let rest : is_plain_from false (vs ++ replicate z 0) ≡ true = plain-again vs z (rest-small (is_visible v) (list_all is_visible vs) e) in
-    ap (λ t. cond t (is_plain_from true (vs ++ replicate z 0)) (cond false false (is_visible v && is_plain_from false (vs ++ replicate z 0)))) (visible-some v here)
-    ∙ both-true (is_visible v) (is_plain_from false (vs ++ replicate z 0)) here rest
+    let here : is_printable v ≡ true = first-small (is_printable v) (list_all is_printable vs) e in
+    let rest : is_plain_from false (vs ++ replicate z 0) ≡ true = plain-again vs z (rest-small (is_printable v) (list_all is_printable vs) e) in
+    ap (λ t. cond t (is_plain_from true (vs ++ replicate z 0)) (cond false false (is_printable v && is_plain_from false (vs ++ replicate z 0)))) (visible-some v here)
+    ∙ both-true (is_printable v) (is_plain_from false (vs ++ replicate z 0)) here rest
 
-letter-visible : (b : ℕ) → is_visible (letter b) ≡ true
-letter-visible b = elim (is_visible b) as (λ t. is_visible b ≡ t → is_visible (cond t b 63) ≡ true) [
+letter-visible : (b : ℕ) → is_printable (letter b) ≡ true
+letter-visible b = elim (is_printable b) as (λ t. is_printable b ≡ t → is_printable (cond t b 63) ≡ true) [
   | true ↦ λ e. e
   | false ↦ λ e. refl
 ] refl
 
-letters-visible : (xs : List ℕ) → list_all is_visible (map letter xs) ≡ true
+letters-visible : (xs : List ℕ) → list_all is_printable (map letter xs) ≡ true
 letters-visible [] = refl
-letters-visible (x ∷ xs) = both-true (is_visible (letter x)) (list_all is_visible (map letter xs)) (letter-visible x) (letters-visible xs)
+letters-visible (x ∷ xs) = both-true (is_printable (letter x)) (list_all is_printable (map letter xs)) (letter-visible x) (letters-visible xs)
 
 map-length : (f : ℕ → ℕ) (xs : List ℕ) → length (map f xs) ≡ length xs
 map-length f [] = refl
@@ -333,46 +333,46 @@ map-length f (x ∷ xs) = omega (arith, map-length f xs)
 letters-few : (bs : List ℕ) → length (letters_of bs) ≤ length bs
 letters-few bs = omega (arith, map-length letter (reverse (without_front_zeros (reverse bs))), fewer_at-end bs)
 
-visible-byte : (b : ℕ) → is_visible b ≡ true → b < 256
+visible-byte : (b : ℕ) → is_printable b ≡ true → b < 256
 visible-byte b e = grind (arith, nat_tests)
 
 abbrev IsFilled : List ℕ → List ℕ → Type 0
 IsFilled t bs = (z : ℕ) × (bs ≡ t ++ replicate z 0)
 
-one-byte : (t : List ℕ) → list_all is_visible t ≡ true → length t ≤ 1 → IsFilled t (scalar_of t % 256 ∷ [])
+one-byte : (t : List ℕ) → list_all is_printable t ≡ true → length t ≤ 1 → IsFilled t (character_scalar t % 256 ∷ [])
 one-byte [] e le = (1, refl)
 one-byte (a ∷ []) e le =
-    let lt : a < 256 = visible-byte a (first-small (is_visible a) true e) in
+    let lt : a < 256 = visible-byte a (first-small (is_printable a) true e) in
     let same : a % 256 ≡ a = omega arith in
     (0, ap (λ x. x ∷ []) same)
 one-byte (a ∷ b ∷ cs) e le = absurd (omega arith)
 
-both-bytes : (t : List ℕ) → list_all is_visible t ≡ true → length t ≤ 2 → IsFilled t (scalar_of t % 256 ∷ scalar_of t / 256 ∷ [])
+both-bytes : (t : List ℕ) → list_all is_printable t ≡ true → length t ≤ 2 → IsFilled t (character_scalar t % 256 ∷ character_scalar t / 256 ∷ [])
 both-bytes [] e le = (2, refl)
 both-bytes (a ∷ []) e le =
-    let lt : a < 256 = visible-byte a (first-small (is_visible a) true e) in
+    let lt : a < 256 = visible-byte a (first-small (is_printable a) true e) in
     let low : a % 256 ≡ a = omega arith in
     let high : a / 256 ≡ 0 = omega arith in
     (1, ap (λ x. x ∷ a / 256 ∷ []) low ∙ ap (λ x. a ∷ x ∷ []) high)
 both-bytes (a ∷ b ∷ []) e le =
-    let lt : a < 256 = visible-byte a (first-small (is_visible a) (is_visible b && true) e) in
+    let lt : a < 256 = visible-byte a (first-small (is_printable a) (is_printable b && true) e) in
     let low : (a + 256 * b) % 256 ≡ a = omega arith in
     let high : (a + 256 * b) / 256 ≡ b = omega arith in
     (0, ap (λ x. x ∷ (a + 256 * b) / 256 ∷ []) low ∙ ap (λ x. a ∷ x ∷ []) high)
 both-bytes (a ∷ b ∷ c ∷ cs) e le = absurd (omega arith)
 
-scalar-filled : (bits : ℕ) (t : List ℕ) (n : ℕ) → list_all is_visible t ≡ true → n ≡ scalar_of t → length t ≤ length (bytes_of_scalar n bits) → IsFilled t (bytes_of_scalar n bits)
+scalar-filled : (bits : ℕ) (t : List ℕ) (n : ℕ) → list_all is_printable t ≡ true → n ≡ character_scalar t → length t ≤ length (bytes_of_scalar n bits) → IsFilled t (bytes_of_scalar n bits)
 scalar-filled bits t n e same le =
     elim (nat_lt 8 bits) as (λ b. length t ≤ length (cond b (n % 256 ∷ n / 256 ∷ []) (n % 256 ∷ [])) → IsFilled t (cond b (n % 256 ∷ n / 256 ∷ []) (n % 256 ∷ []))) [
       | true ↦ λ l. subst (λ m. IsFilled t (m % 256 ∷ m / 256 ∷ [])) (sym same) (both-bytes t e l)
       | false ↦ λ l. subst (λ m. IsFilled t (m % 256 ∷ [])) (sym same) (one-byte t e l)
     ] le
 
-filled-plain : (t bs : List ℕ) → list_all is_visible t ≡ true → IsFilled t bs → is_plain_from false bs ≡ true
+filled-plain : (t bs : List ℕ) → list_all is_printable t ≡ true → IsFilled t bs → is_plain_from false bs ≡ true
 filled-plain t bs e f = ap (is_plain_from false) f.1 ∙ plain-again t f.0 e
 
 within-scalar : (bits m n : ℕ) → scalar_within bits m ≡ Some (Scalar n) → n ≡ m
-within-scalar bits m n e = elim (nat_le m (most_of bits)) as (λ b. cond b (Some (Scalar m)) None ≡ Some (Scalar n) → n ≡ m) [
+within-scalar bits m n e = elim (nat_le m (greatest_raw bits)) as (λ b. cond b (Some (Scalar m)) None ≡ Some (Scalar n) → n ≡ m) [
   | true ↦ λ f. cc
   | false ↦ λ f. cc
 ] e
@@ -382,21 +382,21 @@ letters-plain : (g : SignalCoding) (text : List ℕ) (o : Option Value) → IsSp
 letters-plain g text o h (Scalar n) is held few e =
     let bs : List ℕ = bytes_of_scalar n g.bits in
     let t : List ℕ = letters_of bs in
-    let seen : list_all is_visible t ≡ true = letters-visible (reverse (without_front_zeros (reverse bs))) in
+    let seen : list_all is_printable t ≡ true = letters-visible (reverse (without_front_zeros (reverse bs))) in
     let le : length t ≤ 2 = omega (arith, letters-few bs, two-bytes g.bits n) in
-    let same : n ≡ scalar_of t = within-scalar g.bits (scalar_of t) n (sym (h.scalar_letters held.0 t e le) ∙ is) in
+    let same : n ≡ character_scalar t = within-scalar g.bits (character_scalar t) n (sym (h.scalar_letters held.0 t e le) ∙ is) in
     filled-plain t bs seen (scalar-filled g.bits t n seen same (letters-few bs))
 letters-plain g text o h (Bytes bs) is held few e =
     let t : List ℕ = letters_of bs in
     let z : ℕ = g.bits / 8 - length t in
-    let seen : list_all is_visible t ≡ true = letters-visible (reverse (without_front_zeros (reverse bs))) in
+    let seen : list_all is_printable t ≡ true = letters-visible (reverse (without_front_zeros (reverse bs))) in
     let p : length bs ≡ g.bits / 8 = held.1 in
-    let found : o ≡ Some (array_of g.bits t) = h.array_letters held.0 t e (omega (arith, letters-few bs, p)) (omega (arith, p, few)) in
+    let found : o ≡ Some (character_array g.bits t) = h.array_letters held.0 t e (omega (arith, letters-few bs, p)) (omega (arith, p, few)) in
     let same : bs ≡ t ++ replicate z 0 = cc in
     filled-plain t bs seen (z, same)
 
 text-here : (k : CodedData) (s : ℕ) (text : List ℕ) (o : Option Value) → IsSpelled (signal_at k s).bits (signal_at k s).is_array text o → (v : Value) → o ≡ Some v → IsHeld (signal_at k s).bits (signal_at k s).is_array v → length (value_bytes (signal_at k s) v) ≤ 8
-    → (m : Meant) → IsFrom (signal_at k s) v m → is_coded m ≡ true → text ≡ shown m → is_coded m && has_text k s text v m ≡ true
+    → (m : Meant) → IsFrom (signal_at k s) v m → is_coded m ≡ true → text ≡ shown m → is_coded m && value_has_text k s text v m ≡ true
 text-here k s text o h v is held few (Named t) from c e = none-coded c
 text-here k s text o h v is held few (Number n) from c e = none-coded c
 text-here k s text o h v is held few (Physical z u) from c e = none-coded c
@@ -433,13 +433,13 @@ rests-small : (bs : List ℕ) → all-bytes (map (λ b. b % 256) bs) ≡ true
 rests-small [] = refl
 rests-small (b ∷ bs) = both-true (nat_lt (b % 256) 256) (all-bytes (map (λ c. c % 256) bs)) (byte-rest b) (rests-small bs)
 
-filled-small : (vs : List ℕ) (z : ℕ) → list_all is_visible vs ≡ true → all-bytes (vs ++ replicate z 0) ≡ true
+filled-small : (vs : List ℕ) (z : ℕ) → list_all is_printable vs ≡ true → all-bytes (vs ++ replicate z 0) ≡ true
 filled-small [] zero e = refl
 filled-small [] (suc z) e = filled-small [] z e
 filled-small (v ∷ vs) z e =
-    let lt : v < 256 = visible-byte v (first-small (is_visible v) (list_all is_visible vs) e) in
+    let lt : v < 256 = visible-byte v (first-small (is_printable v) (list_all is_printable vs) e) in
     let small : nat_lt v 256 ≡ true = grind (arith, nat_tests) in
-    both-true (nat_lt v 256) (all-bytes (vs ++ replicate z 0)) small (filled-small vs z (rest-small (is_visible v) (list_all is_visible vs) e))
+    both-true (nat_lt v 256) (all-bytes (vs ++ replicate z 0)) small (filled-small vs z (rest-small (is_printable v) (list_all is_printable vs) e))
 
 bytes-small : (g : SignalCoding) (text : List ℕ) (o : Option Value) → IsSpelled g.bits g.is_array text o → (bs : List ℕ) → o ≡ Some (Bytes bs) → IsHeld g.bits g.is_array (Bytes bs)
     → (m : Meant) → IsFrom g (Bytes bs) m → is_coded m ≡ true → text ≡ shown m → all-bytes bs ≡ true
@@ -452,7 +452,7 @@ bytes-small g text o h bs is held (Digits t) from c e =
     let p : (all-small ds ≡ true) × (text ≡ as-text ds) = digits-are ds text (from ∙ ap Some (sym e)) in
     let long : length cs ≡ g.bits / 8 = map-length (λ b. b % 256) bs ∙ held.1 in
     let few : g.bits / 8 ≤ 8 = omega (arith, held.1, held.2) in
-    let found : o ≡ Some (array_of g.bits cs) = h.array_digits held.0 cs (λ q. no-quote ds (ap (λ t. slice_index t 0) (sym p.1) ∙ q)) (ap pairs p.1 ∙ pairs-of bs p.0) (omega (arith, long)) few in
+    let found : o ≡ Some (character_array g.bits cs) = h.array_digits held.0 cs (λ q. no-quote ds (ap (λ t. slice_index t 0) (sym p.1) ∙ q)) (ap pairs p.1 ∙ pairs-of bs p.0) (omega (arith, long)) few in
     let both : Some (Bytes bs) ≡ Some (Bytes cs) = sym is ∙ found ∙ ap Some (none-filled g.bits cs long) in
     let same : bs ≡ cs = cc in
     ap all-bytes same ∙ rests-small bs
@@ -463,8 +463,8 @@ bytes-small g text o h bs is held (Letters t) from c e =
 held-value : (k : CodedData) (s : ℕ) (text : List ℕ) (o : Option Value) → IsSpelled (signal_at k s).bits (signal_at k s).is_array text o → (v : Value) → o ≡ Some v → IsHeld (signal_at k s).bits (signal_at k s).is_array v
     → (m : Meant) → IsFrom (signal_at k s) v m → is_coded m ≡ true → text ≡ shown m → is_value k s v ≡ true
 held-value k s text o h (Scalar n) is held m from c e =
-    let le : n ≤ most_of (signal_at k s).bits = held.1 in
-    both-true (not (signal_at k s).is_array) (nat_le n (most_of (signal_at k s).bits)) (ap not held.0) (grind (arith, nat_tests))
+    let le : n ≤ greatest_raw (signal_at k s).bits = held.1 in
+    both-true (not (signal_at k s).is_array) (nat_le n (greatest_raw (signal_at k s).bits)) (ap not held.0) (grind (arith, nat_tests))
 held-value k s text o h (Bytes bs) is held m from c e =
     let long : Bool = length bs == (signal_at k s).bits / 8 in
     let le : length bs ≤ 8 = held.2 in
@@ -475,8 +475,8 @@ pub spelled-has : (k : CodedData) (s : ℕ) (text : List ℕ) (o : Option Value)
     → (m : Meant) → meaning k s v ≡ Some m → is_coded m ≡ true → text ≡ shown m → coded_raws k s text v ≡ true
 spelled-has k s text o h v is held m e c same =
     let from : IsFrom (signal_at k s) v m = subst (IsFromAny (signal_at k s) v) e (from-meaning k s v) in
-    both-true (is_value k s v) (option_map_or (λ m. is_coded m && has_text k s text v m) (meaning k s v) false) (held-value k s text o h v is held m from c same)
-    (ap (λ o. option_map_or (λ m. is_coded m && has_text k s text v m) o false) e ∙ text-here k s text o h v is held (few-bytes (signal_at k s) v held) m from c same)
+    both-true (is_value k s v) (option_map_or (λ m. is_coded m && value_has_text k s text v m) (meaning k s v) false) (held-value k s text o h v is held m from c same)
+    (ap (λ o. option_map_or (λ m. is_coded m && value_has_text k s text v m) o false) e ∙ text-here k s text o h v is held (few-bytes (signal_at k s) v held) m from c same)
 
 -- ---- what is found
 
@@ -512,14 +512,14 @@ fails-both : (a : Bool) → a && false ≡ false
 fails-both true = refl
 fails-both false = refl
 
-not-by : (k : CodedData) (s : ℕ) (text : List ℕ) (v : Value) (o : Option Meant) → option_map_or is_coded o false ≡ false → option_map_or (λ m. is_coded m && has_text k s text v m) o false ≡ false
+not-by : (k : CodedData) (s : ℕ) (text : List ℕ) (v : Value) (o : Option Meant) → option_map_or is_coded o false ≡ false → option_map_or (λ m. is_coded m && value_has_text k s text v m) o false ≡ false
 not-by k s text v None e = refl
-not-by k s text v (Some m) e = ap (λ b. b && has_text k s text v m) e
+not-by k s text v (Some m) e = ap (λ b. b && value_has_text k s text v m) e
 
 pub not-coded : (k : CodedData) (s : ℕ) (text : List ℕ) (v : Value) → option_map_or is_coded (meaning k s v) false ≡ false → coded_raws k s text v ≡ false
 not-coded k s text v e = ap (λ b. is_value k s v && b) (not-by k s text v (meaning k s v) e) ∙ fails-both (is_value k s v)
 
-other-by : (k : CodedData) (s : ℕ) (text : List ℕ) (v : Value) (m : Meant) → is_coded m ≡ true → bytes_eq text (shown m) ≡ false → is_coded m && has_text k s text v m ≡ false
+other-by : (k : CodedData) (s : ℕ) (text : List ℕ) (v : Value) (m : Meant) → is_coded m ≡ true → bytes_eq text (shown m) ≡ false → is_coded m && value_has_text k s text v m ≡ false
 other-by k s text v (Named t) c e = refl
 other-by k s text v (Number n) c e = refl
 other-by k s text v (Physical z u) c e = refl
@@ -528,7 +528,7 @@ other-by k s text v (Letters t) c e = ap (λ b. b && is_plain_from false (value_
 
 pub other-text : (k : CodedData) (s : ℕ) (text : List ℕ) (v : Value) (m : Meant) → meaning k s v ≡ Some m → is_coded m ≡ true → bytes_eq text (shown m) ≡ false → coded_raws k s text v ≡ false
 other-text k s text v m is c e =
-    ap (λ o. is_value k s v && option_map_or (λ m. is_coded m && has_text k s text v m) o false) is
+    ap (λ o. is_value k s v && option_map_or (λ m. is_coded m && value_has_text k s text v m) o false) is
     ∙ ap (λ b. is_value k s v && b) (other-by k s text v m c e) ∙ fails-both (is_value k s v)
 
 pub turned : (xs ys : List ℕ) → bytes_eq xs ys ≡ bytes_eq ys xs

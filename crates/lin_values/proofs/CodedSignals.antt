@@ -11,15 +11,15 @@ use Rattle.lin_cluster.specs.declared.finding.FindingKind.TheVariants as finding
 use Rattle.lin_parts.specs.declared.parts.Parts.{Parts}
 use Rattle.lin_parts.specs.declared.parts.Signal.{Signal}
 use Rattle.lin_parts.specs.declared.description.Name.{Name}
-use Rattle.lin_parts.specs.declared.place.Place.{Place}
+use Rattle.lin_parts.specs.declared.place.Location.{Location}
 use Rattle.lin_values.proofs.NamedLines.{known-same, named-found}
 use Rattle.lin_values.specs.Coded.{encoding_by, is_named, named_in, signal_coding, type_named}
 use Rattle.lin_values.specs.Gathered.{encoding_in, gathered_warnings, lines_of, lines_told, names_of, signal_in, type_at, type_number, AreNamed}
 use Rattle.lin_values.specs.Kept.{kept_signal}
-use Rattle.lin_values.specs.Warnings.{item_warnings, line_warnings, name_warnings, signal_named, told_by, type_warning, warnings}
-use Rattle.lin_values.specs.declared.items.CodedLine.{CodedLine}
-use Rattle.lin_values.specs.declared.items.CodingType.{CodingType}
-use Rattle.lin_values.specs.declared.items.Codings.{Codings}
+use Rattle.lin_values.specs.Warnings.{item_warnings, representation_warnings, name_warnings, signal_by_name, told_by, type_warning, encoding_warnings}
+use Rattle.lin_values.specs.declared.codings.CodedLine.{CodedLine}
+use Rattle.lin_values.specs.declared.codings.CodingType.{CodingType}
+use Rattle.lin_values.specs.declared.codings.Codings.{Codings}
 use denote.Ref.{Bor}
 
 -- ---- the encoding of each signal
@@ -57,12 +57,12 @@ middle-moved a b c d =
     let moved = IsPermutation-append_right a ((b ++ c) ++ d) ((c ++ b) ++ d) (IsPermutation-append_left d (b ++ c) (c ++ b) (IsPermutation-append_comm b c)) in
     subst (λ z. IsPermutation z ((a ++ c) ++ (b ++ d))) (sym from) (subst (λ z. IsPermutation (a ++ ((b ++ c) ++ d)) z) (sym to) moved)
 
-lines-moved : (c : Parts) (ts : List CodingType) (before : List (Name × Name)) (ls : List CodedLine) → IsPermutation (flat_map (line_warnings (lines_of ts [])) ls ++ told_by (name_warnings c (lines_of ts [])) before (named_in ls)) (lines_told c ts before ls)
+lines-moved : (c : Parts) (ts : List CodingType) (before : List (Name × Name)) (ls : List CodedLine) → IsPermutation (flat_map (representation_warnings (lines_of ts [])) ls ++ told_by (name_warnings c (lines_of ts [])) before (named_in ls)) (lines_told c ts before ls)
 lines-moved c ts before [] = IsPermutation-refl []
 lines-moved c ts before (l ∷ ls) =
     let tell : List (Name × Name) → Name × Name → List Finding = name_warnings c (lines_of ts []) in
-    let first : List Finding = line_warnings (lines_of ts []) l in
-    let firsts : List Finding = flat_map (line_warnings (lines_of ts [])) ls in
+    let first : List Finding = representation_warnings (lines_of ts []) l in
+    let firsts : List Finding = flat_map (representation_warnings (lines_of ts [])) ls in
     let here : List Finding = told_by tell before (names_of l) in
     let rest : List Finding = told_by tell (before ++ names_of l) (named_in ls) in
     let moved : IsPermutation ((first ++ firsts) ++ (here ++ rest)) ((first ++ here) ++ (firsts ++ rest)) = middle-moved first firsts here rest in
@@ -72,15 +72,15 @@ lines-moved c ts before (l ∷ ls) =
 
 name-alike : (c : Parts) (k : Codings) (before : List (Name × Name)) (p : Name × Name) → name_warnings c k before p ≡ name_warnings c (lines_of k.types []) before p
 name-alike c k before p =
-    ap (λ (f : Signal → List Finding). option_map_or f (signal_named c p.0) (at_name finding.UnknownSignal p.0 ∷ []))
+    ap (λ (f : Signal → List Finding). option_map_or f (signal_by_name c p.0) (at_name finding.UnknownSignal p.0 ∷ []))
     (λ i s. cond (list_any (is_named p.0.text) before) (at_name finding.RepresentedTwice p.0 ∷ []) ((sym (known-same k p.0 (type_named k.types p.1) s) ∙ known-same (lines_of k.types []) p.0 (type_named k.types p.1) s) i))
 
-pub warnings-moved : (c : Parts) (k : Codings) → IsPermutation (warnings c k) ((map (at_place finding.BadEncoding) k.bad ++ flat_map (λ t. item_warnings t.items) k.types) ++ gathered_warnings c k.types k.lines)
+pub warnings-moved : (c : Parts) (k : Codings) → IsPermutation (encoding_warnings c k) ((map (at_place finding.BadEncoding) k.bad ++ flat_map (λ t. item_warnings t.items) k.types) ++ gathered_warnings c k.types k.lines)
 warnings-moved c k =
     let bad : List Finding = map (at_place finding.BadEncoding) k.bad in
     let twice : List Finding = told_by type_warning [] k.types in
     let items : List Finding = flat_map (λ (t : CodingType). item_warnings t.items) k.types in
-    let lines : List Finding = flat_map (line_warnings (lines_of k.types [])) k.lines in
+    let lines : List Finding = flat_map (representation_warnings (lines_of k.types [])) k.lines in
     let told : List Finding = lines_told c k.types [] k.lines in
     let names : told_by (name_warnings c k) [] (named_in k.lines) ≡ told_by (name_warnings c (lines_of k.types [])) [] (named_in k.lines) = told-same (name_warnings c k) (name_warnings c (lines_of k.types [])) [] (named_in k.lines) (name-alike c k) in
     let moved : IsPermutation (lines ++ told_by (name_warnings c k) [] (named_in k.lines)) told = subst (λ z. IsPermutation (lines ++ z) told) (sym names) (lines-moved c k.types [] k.lines) in
@@ -93,10 +93,10 @@ gathered c lent ts types ls first between now same parts so here =
     ∙ append_assoc first (told_by type_warning [] types) (lines_told lent types [] ls)
     ∙ (λ i. first ++ (told_by type_warning [] (same i) ++ lines_told (parts i) (same i) [] ls))
 
-pub all-moved : (c : Parts) (k : Codings) (bad : List Place) (types : List CodingType) (lines : List CodedLine) (none one two three sorted made : List Finding) → none ≡ [] → bad ≡ k.bad → one ≡ none ++ map (at_place finding.BadEncoding) bad → two ≡ one ++ flat_map (λ t. item_warnings t.items) k.types → types ≡ k.types → lines ≡ k.lines → three ≡ two ++ gathered_warnings c types lines → IsPermutation three sorted → made ≡ sorted → IsPermutation (warnings c k) made
+pub all-moved : (c : Parts) (k : Codings) (bad : List Location) (types : List CodingType) (lines : List CodedLine) (none one two three sorted made : List Finding) → none ≡ [] → bad ≡ k.bad → one ≡ none ++ map (at_place finding.BadEncoding) bad → two ≡ one ++ flat_map (λ t. item_warnings t.items) k.types → types ≡ k.types → lines ≡ k.lines → three ≡ two ++ gathered_warnings c types lines → IsPermutation three sorted → made ≡ sorted → IsPermutation (encoding_warnings c k) made
 all-moved c k bad types lines none one two three sorted made empty bads first items same lent last moved is =
     let whole : three ≡ (map (at_place finding.BadEncoding) k.bad ++ flat_map (λ (t : CodingType). item_warnings t.items) k.types) ++ gathered_warnings c k.types k.lines =
     last ∙ (λ i. items i ++ gathered_warnings c (same i) (lent i))
     ∙ ap (λ fs. (fs ++ flat_map (λ (t : CodingType). item_warnings t.items) k.types) ++ gathered_warnings c k.types k.lines) (first ∙ (λ i. empty i ++ map (at_place finding.BadEncoding) (bads i))) in
-    subst (IsPermutation (warnings c k)) (sym is)
-    (IsPermutation-trans (warnings c k) three sorted (subst (IsPermutation (warnings c k)) (sym whole) (warnings-moved c k)) moved)
+    subst (IsPermutation (encoding_warnings c k)) (sym is)
+    (IsPermutation-trans (encoding_warnings c k) three sorted (subst (IsPermutation (encoding_warnings c k)) (sym whole) (warnings-moved c k)) moved)

@@ -9,18 +9,18 @@ use Rattle.lin_ldf.specs.Loops.{is_next}
 use Rattle.lin_ldf.specs.Symbols.{Symbol}
 use Rattle.lin_ldf.specs.Words.{is_word_next, name_of}
 use Rattle.lin_ldf.specs.declared.token.TokenKind.TheVariants.{Word, OpenBrace}
-use Rattle.lin_values.specs.Configured.{with_name, with_names, with_attribute, listed_names, with_listed, with_block, with_blocks, with_section, with_statement}
+use Rattle.lin_values.specs.Configured.{with_listed_name, with_names, with_attribute, listed_names, with_listed, with_node_block, with_blocks, with_section, with_statement}
 use Rattle.lin_values.specs.Passed.{has_line, behind_line, behind_group, steps_while}
 use Rattle.lin_values.proofs.PassedSteps.{shorter, no-more, group-keeps, tail-keeps}
 use Rattle.lin_values.proofs.ReadingSteps.{TakesOne, repeated-keeps}
 use Rattle.lin_values.proofs.Repeating.{one-step, no-step}
 
-pub name-takes : TakesOne with_name
+pub name-takes : TakesOne with_listed_name
 name-takes x h = shorter x.0 h
 
 names-keep : (ts : List Symbol) (names : List Name) → length (with_names ts names).0 ≤ length ts
 names-keep ts names =
-    let p : length (with_names ts names).0 ≤ length (tail ts) = repeated-keeps with_name name-takes (tail ts, names) in
+    let p : length (with_names ts names).0 ≤ length (tail ts) = repeated-keeps with_listed_name name-takes (tail ts, names) in
     let q : length (tail ts) ≤ length ts = tail-keeps ts in
     omega arith
 
@@ -47,7 +47,7 @@ listed-keep ts =
     let q : length (tail ts) ≤ length ts = tail-keeps ts in
     omega arith
 
-block-shrinks : (ts : List Symbol) (cs : List Configurable) → has_line ts ≡ true → length (with_block (ts, cs)).0 < length ts
+block-shrinks : (ts : List Symbol) (cs : List Configurable) → has_line ts ≡ true → length (with_node_block (ts, cs)).0 < length ts
 block-shrinks [] cs h = absurd cc
 block-shrinks (t ∷ ts) cs h =
     let p : length (listed_names ts).0 ≤ length ts = listed-keep ts in
@@ -57,12 +57,12 @@ block-shrinks (t ∷ ts) cs h =
       | false ↦ omega arith
     ]
 
-pub block-takes : TakesOne with_block
+pub block-takes : TakesOne with_node_block
 block-takes x h = block-shrinks x.0 x.1 h
 
 section-keeps : (w : List ℕ) (ts : List Symbol) (cs : List Configurable) → length (with_section w ts cs).0 ≤ length ts
 section-keeps w ts cs =
-    let p : length (with_blocks ts cs).0 ≤ length (tail ts) = repeated-keeps with_block block-takes (tail ts, cs) in
+    let p : length (with_blocks ts cs).0 ≤ length (tail ts) = repeated-keeps with_node_block block-takes (tail ts, cs) in
     let q : length (tail ts) ≤ length ts = tail-keeps ts in
     let g : length (behind_group ts) ≤ length ts = group-keeps ts in
     elim (bytes_eq w (codes "Node_attributes")) as (λ b. length (cond {A = List Symbol × List Configurable} b (with_blocks ts cs) (behind_group ts, cs)).0 ≤ length ts) [

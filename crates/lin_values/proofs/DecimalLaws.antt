@@ -9,10 +9,10 @@ use Rattle.std.proofs.lemmas.Fmt.{decimal_by_steps_wide}
 use Rattle.std.proofs.Math.Nat.{one-le-pow}
 use Rattle.std.proofs.lemmas.Nat.{div_below}
 use Rattle.lin_values.specs.declared.decimals.Decimal.{Decimal}
-use Rattle.lin_values.specs.Value.{signed, value, IsReadable}
+use Rattle.lin_values.specs.Value.{with_sign, scaled_value, IsReadable}
 use Rattle.lin_values.proofs.Places.{unsigned-is}
 use Rattle.lin_values.specs.Shown.{last_digits, fraction, sign, decimal_shown}
-use Rattle.lin_values.specs.Read.{places_after, whole_after, unsigned, spelled}
+use Rattle.lin_values.specs.Read.{places_after, whole_after, unsigned_number, signed_number}
 use Rattle.lin_values.proofs.Powers.{first-digit, rest-below}
 
 digit-of : (k : ℕ) → k < 10 → is_ascii_digit (48 + k) ≡ true
@@ -86,18 +86,18 @@ places-follow w (suc k) r h l s =
 digit-sign : (c : ℕ) → is_ascii_digit c ≡ true → ((c == 45) ≡ false) × ((c == 43) ≡ false)
 digit-sign c h = (grind (arith, common_steps), grind (arith, common_steps))
 
-spelled-plain : (cs : List ℕ) (u : ℕ) → 0 < length cs → is_ascii_digit (get_or cs 0 0) ≡ true → unsigned cs ≡ Some u → spelled cs ≡ Some (signed false u)
+spelled-plain : (cs : List ℕ) (u : ℕ) → 0 < length cs → is_ascii_digit (get_or cs 0 0) ≡ true → unsigned_number cs ≡ Some u → signed_number cs ≡ Some (with_sign false u)
 spelled-plain [] u h d e = absurd (omega arith)
 spelled-plain (c ∷ cs) u h d e =
     let s = digit-sign c d in
-    rw (s.0, s.1) (ap (λ x. option_map (signed false) x) e)
+    rw (s.0, s.1) (ap (λ x. option_map (with_sign false) x) e)
 
-spelled-signed : (b : Bool) (cs : List ℕ) (u : ℕ) → 0 < length cs → is_ascii_digit (get_or cs 0 0) ≡ true → unsigned cs ≡ Some u → spelled (sign b ++ cs) ≡ Some (signed b u)
-spelled-signed true cs u h d e = ap (λ x. option_map (signed true) x) e
+spelled-signed : (b : Bool) (cs : List ℕ) (u : ℕ) → 0 < length cs → is_ascii_digit (get_or cs 0 0) ≡ true → unsigned_number cs ≡ Some u → signed_number (sign b ++ cs) ≡ Some (with_sign b u)
+spelled-signed true cs u h d e = ap (λ x. option_map (with_sign true) x) e
 spelled-signed false cs u h d e = spelled-plain cs u h d e
 
 -- the text of a decimal is read as its value
-pub shown-is-read : (d : Decimal) → IsReadable d → spelled (decimal_shown d) ≡ Some (value d)
+pub shown-is-read : (d : Decimal) → IsReadable d → signed_number (decimal_shown d) ≡ Some (scaled_value d)
 shown-is-read d h =
     let p = d.places in
     let n = d.digits in

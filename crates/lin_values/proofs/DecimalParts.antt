@@ -8,11 +8,11 @@ use Rattle.lin_values.specs.Coded.{item_by, item_for, range_in, range_of, RangeD
 use Rattle.lin_values.specs.Layers.{common_span, in_span, item_in, AreInOrder}
 use Rattle.lin_values.specs.Nearest.{item_decimal, numbered_decimal, parts_decimal, range_decimal, range_value, raw_decimal, IsAmong, IsExtended, IsLeast, IsNearer}
 use Rattle.lin_values.specs.Raws.{has_unit}
-use Rattle.lin_values.specs.Warnings.{most_of}
+use Rattle.lin_values.specs.Warnings.{greatest_raw}
 use Rattle.lin_values.specs.declared.encoding.Range.{Range}
-use Rattle.lin_values.specs.declared.items.Item.{Item}
-use Rattle.lin_values.specs.declared.items.PlacedItem.{PlacedItem}
-use Rattle.lin_values.specs.declared.layers.Part.{Part}
+use Rattle.lin_values.specs.declared.codings.Item.{Item}
+use Rattle.lin_values.specs.declared.codings.PlacedItem.{PlacedItem}
+use Rattle.lin_values.specs.declared.layers.RangePart.{RangePart}
 use Rattle.lin_values.specs.declared.layers.Span.{Span}
 use Rattle.std.proofs.Math.Nat.{pow-le-pow_right}
 use Rattle.lin_values.proofs.Layered.{item-append}
@@ -80,25 +80,25 @@ smaller s t h k f g le sub same none x = record {
 passed : (s : Span) (n m : ℕ) → s.to < m → m ≤ n → in_span s n ≡ false
 passed s n m h i = grind (arith, common_steps)
 
-none-before : (ps : List Part) (i n : ℕ) (e : Part) → AreInOrder ps → i < length ps → (get_or ps i e).span.from ≤ n → item_in (take i ps) n ≡ None
+none-before : (ps : List RangePart) (i n : ℕ) (e : RangePart) → AreInOrder ps → i < length ps → (get_or ps i e).span.from ≤ n → item_in (take i ps) n ≡ None
 none-before ps i n e o l h = no-item n (take i ps) (λ k d lt.
     let j : k < i = (let m = length-take-le i ps (omega arith) in omega arith) in
     let f : (get_or ps k d).span.to < (get_or ps i d).span.from = o.1 k i d j l in
-    let g : (get_or ps i d).span.from ≤ n = subst (λ (p : Part). p.span.from ≤ n) (get_or_default ps i e d l) h in
-    subst (λ (p : Part). in_span p.span n ≡ false) (sym (get_or-take i ps k d j)) (passed (get_or ps k d).span n (get_or ps i d).span.from f g))
+    let g : (get_or ps i d).span.from ≤ n = subst (λ (p : RangePart). p.span.from ≤ n) (get_or_default ps i e d l) h in
+    subst (λ (p : RangePart). in_span p.span n ≡ false) (sym (get_or-take i ps k d j)) (passed (get_or ps k d).span n (get_or ps i d).span.from f g))
 
-one-inside : (p : Part) (n : ℕ) → in_span p.span n ≡ true → item_in (p ∷ []) n ≡ Some p.item
-one-inside p n e = ap (λ b. option_map (λ (q : Part). q.item) (cond b (Some p) None)) e
+one-inside : (p : RangePart) (n : ℕ) → in_span p.span n ≡ true → item_in (p ∷ []) n ≡ Some p.item
+one-inside p n e = ap (λ b. option_map (λ (q : RangePart). q.item) (cond b (Some p) None)) e
 
-one-outside : (p : Part) (n : ℕ) → in_span p.span n ≡ false → item_in (p ∷ []) n ≡ None
-one-outside p n e = ap (λ b. option_map (λ (q : Part). q.item) (cond b (Some p) None)) e
+one-outside : (p : RangePart) (n : ℕ) → in_span p.span n ≡ false → item_in (p ∷ []) n ≡ None
+one-outside p n e = ap (λ b. option_map (λ (q : RangePart). q.item) (cond b (Some p) None)) e
 
 or-none : (o : Option ℕ) → option_or o None ≡ o
 or-none None = refl
 or-none (Some x) = refl
 
-more : (ps : List Part) (i n : ℕ) (e : Part) → i < length ps → item_in (take (i + 1) ps) n ≡ option_or (item_in (take i ps) n) (item_in (get_or ps i e ∷ []) n)
-more ps i n e l = ap (λ (qs : List Part). item_in qs n) (take_more ps i e l) ∙ item-append n (take i ps) (get_or ps i e ∷ [])
+more : (ps : List RangePart) (i n : ℕ) (e : RangePart) → i < length ps → item_in (take (i + 1) ps) n ≡ option_or (item_in (take i ps) n) (item_in (get_or ps i e ∷ []) n)
+more ps i n e l = ap (λ (qs : List RangePart). item_in qs n) (take_more ps i e l) ∙ item-append n (take i ps) (get_or ps i e ∷ [])
 
 by-test-none : (t : Bool) (F : ℤ → Option ℕ) (o : Option ℤ) → o ≡ None → option_and_then F (if t then o else None) ≡ None
 by-test-none true F o e = ap (option_and_then F) e
@@ -111,7 +111,7 @@ before-by n m false e h = absurd (h (grind (arith, common_steps)))
 abbrev pub side_decimal : (ℤ → Option ℕ) → List PlacedItem → ℕ → List ℕ → Option ℕ → ℕ → Option ℕ
 side_decimal F items bits unit k n = option_and_then F (numbered_decimal items bits unit k n)
 
-pub one-more : (F : ℤ → Option ℕ) (items : List PlacedItem) (bits : ℕ) (unit : List ℕ) (ps : List Part) (i : ℕ) (e : Part) → AreInOrder ps → i < length ps
+pub one-more : (F : ℤ → Option ℕ) (items : List PlacedItem) (bits : ℕ) (unit : List ℕ) (ps : List RangePart) (i : ℕ) (e : RangePart) → AreInOrder ps → i < length ps
     → IsExtended (get_or ps i e).span (λ n. side_decimal F items bits unit (Some (get_or ps i e).item) n)
     (λ n. side_decimal F items bits unit (item_in (take i ps) n) n)
     (λ n. side_decimal F items bits unit (item_in (take (i + 1) ps) n) n)
@@ -123,18 +123,18 @@ one-more F items bits unit ps i e o l = record {
       (more ps i n e l ∙ ap (option_or (item_in (take i ps) n)) (one-outside (get_or ps i e) n h) ∙ or-none (item_in (take i ps) n));
   before = λ n d h. before-by n (get_or ps i e).span.from (nat_lt n (get_or ps i e).span.from) refl
       (λ j. none-some (side_decimal F items bits unit (item_in (take i ps) n) n) d
-      (ap (λ k. side_decimal F items bits unit k n) (none-before ps i n e o l j) ∙ by-test-none (nat_le n (most_of bits)) F None refl) h);
+      (ap (λ k. side_decimal F items bits unit k n) (none-before ps i n e o l j) ∙ by-test-none (nat_le n (greatest_raw bits)) F None refl) h);
 }
 
 -- ---- what a part adds
 
 pub none-of-item : (F : ℤ → Option ℕ) (items : List PlacedItem) (bits : ℕ) (unit : List ℕ) (k n : ℕ) → item_by items k ≡ None → side_decimal F items bits unit (Some k) n ≡ None
-none-of-item F items bits unit k n e = by-test-none (nat_le n (most_of bits)) F (option_and_then (item_decimal unit n) (item_by items k)) (ap (option_and_then (item_decimal unit n)) e)
+none-of-item F items bits unit k n e = by-test-none (nat_le n (greatest_raw bits)) F (option_and_then (item_decimal unit n) (item_by items k)) (ap (option_and_then (item_decimal unit n)) e)
 
 pub none-of-range : (F : ℤ → Option ℕ) (items : List PlacedItem) (bits : ℕ) (unit : List ℕ) (k n : ℕ) (i : Item) → item_by items k ≡ Some i → range_in i ≡ None
     → side_decimal F items bits unit (Some k) n ≡ None
 none-of-range F items bits unit k n i e f =
-    by-test-none (nat_le n (most_of bits)) F (option_and_then (item_decimal unit n) (item_by items k))
+    by-test-none (nat_le n (greatest_raw bits)) F (option_and_then (item_decimal unit n) (item_by items k))
     (ap (option_and_then (item_decimal unit n)) e ∙ ap (option_and_then (range_decimal unit n)) f)
 
 range-is : (items : List PlacedItem) (unit : List ℕ) (k n : ℕ) (i : Item) (r : RangeData) → item_by items k ≡ Some i → range_in i ≡ Some r
@@ -144,15 +144,15 @@ range-is items unit k n i r e f = ap (option_and_then (item_decimal unit n)) e �
 pub none-of-unit : (F : ℤ → Option ℕ) (items : List PlacedItem) (bits : ℕ) (unit : List ℕ) (k n : ℕ) (i : Item) (r : Range) → item_by items k ≡ Some i → range_in i ≡ Some (range_of r)
     → has_unit unit r.unit.now ≡ false → side_decimal F items bits unit (Some k) n ≡ None
 none-of-unit F items bits unit k n i r e f u =
-    by-test-none (nat_le n (most_of bits)) F (option_and_then (item_decimal unit n) (item_by items k))
+    by-test-none (nat_le n (greatest_raw bits)) F (option_and_then (item_decimal unit n) (item_by items k))
     (range-is items unit k n i (range_of r) e f ∙ ap (λ t. if t then Some (range_value r n) else None) u)
 
-pub none-above : (F : ℤ → Option ℕ) (items : List PlacedItem) (bits : ℕ) (unit : List ℕ) (k : Option ℕ) (n : ℕ) → nat_le n (most_of bits) ≡ false
+pub none-above : (F : ℤ → Option ℕ) (items : List PlacedItem) (bits : ℕ) (unit : List ℕ) (k : Option ℕ) (n : ℕ) → nat_le n (greatest_raw bits) ≡ false
     → side_decimal F items bits unit k n ≡ None
 none-above F items bits unit k n e = ap (λ t. option_and_then F (if t then option_and_then (item_decimal unit n) (option_and_then (item_by items) k) else None)) e
 
 pub some-of-range : (F : ℤ → Option ℕ) (items : List PlacedItem) (bits : ℕ) (unit : List ℕ) (k n : ℕ) (i : Item) (r : Range) → item_by items k ≡ Some i → range_in i ≡ Some (range_of r)
-    → has_unit unit r.unit.now ≡ true → nat_le n (most_of bits) ≡ true → side_decimal F items bits unit (Some k) n ≡ F (range_value r n)
+    → has_unit unit r.unit.now ≡ true → nat_le n (greatest_raw bits) ≡ true → side_decimal F items bits unit (Some k) n ≡ F (range_value r n)
 some-of-range F items bits unit k n i r e f u m =
     ap (λ t. option_and_then F (if t then option_and_then (item_decimal unit n) (item_by items k) else None)) m
     ∙ ap (option_and_then F) (range-is items unit k n i (range_of r) e f ∙ ap (λ t. if t then Some (range_value r n) else None) u)
@@ -193,32 +193,32 @@ sub-by s t m n e f i =
 above-by : (s t : Span) (m n : ℕ) → t.from ≡ max s.from 0 → t.to ≡ min s.to m → in_span s n ≡ true → in_span t n ≡ false → nat_le n m ≡ false
 above-by s t m n e f i j = grind (arith, common_steps)
 
-pub extended-range : (F : ℤ → Option ℕ) (items : List PlacedItem) (bits : ℕ) (unit : List ℕ) (p : Part) (i : Item) (r : Range) (t : Span) (f g : ℕ → Option ℕ)
+pub extended-range : (F : ℤ → Option ℕ) (items : List PlacedItem) (bits : ℕ) (unit : List ℕ) (p : RangePart) (i : Item) (r : Range) (t : Span) (f g : ℕ → Option ℕ)
     → item_by items p.item ≡ Some i → range_in i ≡ Some (range_of r) → has_unit unit r.unit.now ≡ true
-    → common_span p.span (up_to (most_of bits)) ≡ Some t
+    → common_span p.span (up_to (greatest_raw bits)) ≡ Some t
     → IsExtended p.span (λ n. side_decimal F items bits unit (Some p.item) n) f g → IsExtended t (λ n. F (range_value r n)) f g
 extended-range F items bits unit p i r t f g ei er u ec x =
-    let a = common-some p.span (most_of bits) t ec in
+    let a = common-some p.span (greatest_raw bits) t ec in
     let le : p.span.from ≤ t.from = (let b = a.0 in omega arith) in
     smaller p.span t (λ n. side_decimal F items bits unit (Some p.item) n) (λ n. F (range_value r n)) f g le
-    (λ n h. (sub-by p.span t (most_of bits) n a.0 a.1 h).0)
-    (λ n h. some-of-range F items bits unit p.item n i r ei er u ((sub-by p.span t (most_of bits) n a.0 a.1 h).1))
-    (λ n h j. none-above F items bits unit (Some p.item) n (above-by p.span t (most_of bits) n a.0 a.1 h j))
+    (λ n h. (sub-by p.span t (greatest_raw bits) n a.0 a.1 h).0)
+    (λ n h. some-of-range F items bits unit p.item n i r ei er u ((sub-by p.span t (greatest_raw bits) n a.0 a.1 h).1))
+    (λ n h j. none-above F items bits unit (Some p.item) n (above-by p.span t (greatest_raw bits) n a.0 a.1 h j))
     x
 
 abbrev pub Adds : Span → (ℕ → Option ℕ) → Option (ℕ × ℕ) → Option (ℕ × ℕ) → Type 0
 Adds s h old new = (f g : ℕ → Option ℕ) → IsExtended s h f g → IsLeast f old → IsLeast g new
 
-pub range-step : (side : ℤ → ℤ → Option ℕ) (x x' : ℤ) (items : List PlacedItem) (bits : ℕ) (unit : List ℕ) (p : Part) (i : Item) (r : Range) (t : Span) (old new : Option (ℕ × ℕ))
+pub range-step : (side : ℤ → ℤ → Option ℕ) (x x' : ℤ) (items : List PlacedItem) (bits : ℕ) (unit : List ℕ) (p : RangePart) (i : Item) (r : Range) (t : Span) (old new : Option (ℕ × ℕ))
     → x' ≡ x → item_by items p.item ≡ Some i → range_in i ≡ Some (range_of r) → has_unit unit r.unit.now ≡ true
-    → common_span p.span (up_to (most_of bits)) ≡ Some t
+    → common_span p.span (up_to (greatest_raw bits)) ≡ Some t
     → Adds t (λ n. side x' (range_value r n)) old new
     → Adds p.span (λ n. option_and_then (side x) (numbered_decimal items bits unit (Some p.item) n)) old new
 range-step side x x' items bits unit p i r t old new ex ei er u ec adds = λ f g e l.
     subst (λ (z : ℤ). Adds t (λ n. side z (range_value r n)) old new) ex adds f g
     (extended-range (side x) items bits unit p i r t f g ei er u ec e) l
 
-pub part-step : (side : ℤ → ℤ → Option ℕ) (x x' : ℤ) (items : List PlacedItem) (bits : ℕ) (unit : List ℕ) (ps : List Part) (i : ℕ) (e : Part) (old new : Option (ℕ × ℕ))
+pub part-step : (side : ℤ → ℤ → Option ℕ) (x x' : ℤ) (items : List PlacedItem) (bits : ℕ) (unit : List ℕ) (ps : List RangePart) (i : ℕ) (e : RangePart) (old new : Option (ℕ × ℕ))
     → x' ≡ x → AreInOrder ps → i < length ps
     → Adds (get_or ps i e).span (λ n. option_and_then (side x') (numbered_decimal items bits unit (Some (get_or ps i e).item) n)) old new
     → IsLeast (λ n. option_and_then (side x) (parts_decimal items bits unit (take i ps) n)) old
@@ -232,7 +232,7 @@ part-step side x x' items bits unit ps i e old new ex o lt adds l =
 le-of : (n m : ℕ) → nat_le n m ≡ true → n ≤ m
 le-of n m h = grind (arith, common_steps)
 
-most-below : (bits : ℕ) → most_of bits < 65536
+most-below : (bits : ℕ) → greatest_raw bits < 65536
 most-below bits = let i : min bits 16 ≤ 16 = omega arith in let h : 2 ^ (min bits 16) ≤ 2 ^ 16 = pow-le-pow_right (let j : 1 ≤ 2 = omega arith in j) i in omega (arith, h)
 
 by-found : (items : List PlacedItem) (unit : List ℕ) (n : ℕ) (o : Option ℕ) (t : Bool) → (t ≡ true → option_and_then (item_by items) o ≡ item_for items n)
@@ -240,11 +240,11 @@ by-found : (items : List PlacedItem) (unit : List ℕ) (n : ℕ) (o : Option ℕ
 by-found items unit n o true h = ap (option_and_then (item_decimal unit n)) (h refl)
 by-found items unit n o false h = refl
 
-pub all-parts : (F : ℤ → Option ℕ) (items : List PlacedItem) (bits : ℕ) (unit : List ℕ) (ps : List Part) (i : ℕ) (b : Option (ℕ × ℕ))
+pub all-parts : (F : ℤ → Option ℕ) (items : List PlacedItem) (bits : ℕ) (unit : List ℕ) (ps : List RangePart) (i : ℕ) (b : Option (ℕ × ℕ))
     → length ps ≤ i → ((raw : ℕ) → raw < 65536 → option_and_then (item_by items) (item_in ps raw) ≡ item_for items raw)
     → IsLeast (λ n. option_and_then F (parts_decimal items bits unit (take i ps) n)) b → IsLeast (λ n. option_and_then F (raw_decimal items bits unit n)) b
 all-parts F items bits unit ps i b le found l =
     least-same (λ n. option_and_then F (parts_decimal items bits unit (take i ps) n)) (λ n. option_and_then F (raw_decimal items bits unit n)) b
     (λ n. ap (λ qs. option_and_then F (parts_decimal items bits unit qs n)) (take_all i ps le)
-    ∙ ap (option_and_then F) (by-found items unit n (item_in ps n) (nat_le n (most_of bits))
-    (λ t. found n (let k : n ≤ most_of bits = le-of n (most_of bits) t in omega (arith, k, most-below bits))))) l
+    ∙ ap (option_and_then F) (by-found items unit n (item_in ps n) (nat_le n (greatest_raw bits))
+    (λ t. found n (let k : n ≤ greatest_raw bits = le-of n (greatest_raw bits) t in omega (arith, k, most-below bits))))) l

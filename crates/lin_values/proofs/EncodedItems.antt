@@ -6,13 +6,13 @@ use Rattle.std.specs.Option.{option_or}
 use Rattle.lin_values.proofs.ItemSteps.{any-of, some-from}
 use Rattle.lin_values.proofs.ItemTraits.{AreTraits}
 use Rattle.lin_values.specs.Coded.{all_items, has_value, in_range, item_by, item_for, or_else, IsIndexed}
-use Rattle.lin_values.specs.ItemNumbers.{range_at, value_at}
+use Rattle.lin_values.specs.ItemNumbers.{range_at, item_with_value}
 use Rattle.lin_values.specs.Layers.{item_in, AreInOrder}
 use Rattle.lin_values.specs.declared.encoding.Traits.{Traits}
-use Rattle.lin_values.specs.declared.items.CodingType.{CodingType}
-use Rattle.lin_values.specs.declared.items.Item.{Item}
-use Rattle.lin_values.specs.declared.items.PlacedItem.{PlacedItem}
-use Rattle.lin_values.specs.declared.layers.Part.{Part}
+use Rattle.lin_values.specs.declared.codings.CodingType.{CodingType}
+use Rattle.lin_values.specs.declared.codings.Item.{Item}
+use Rattle.lin_values.specs.declared.codings.PlacedItem.{PlacedItem}
+use Rattle.lin_values.specs.declared.layers.RangePart.{RangePart}
 
 pub item-of : (ps : List PlacedItem) (i : ℕ) (p : PlacedItem) → i < length ps → p ≡ get_or ps i p → item_by ps i ≡ Some p.item
 item-of [] i p lt is = absurd (omega arith)
@@ -54,18 +54,18 @@ either f None b (Some u) y one other same = absurd (cc)
 either f (Some k) b None y one other same = absurd (cc)
 either f (Some k) b (Some u) y one other same = one
 
-item-counts : (ps : List PlacedItem) (raw : ℕ) (found : Option ℕ) → found ≡ option_or (value_at ps raw) (range_at ps raw) → option_and_then (item_by ps) found ≡ item_for ps raw
+item-counts : (ps : List PlacedItem) (raw : ℕ) (found : Option ℕ) → found ≡ option_or (item_with_value ps raw) (range_at ps raw) → option_and_then (item_by ps) found ≡ item_for ps raw
 item-counts ps raw found is =
     ap (option_and_then (item_by ps)) is
-    ∙ either (item_by ps) (value_at ps raw) (range_at ps raw) (find (has_value raw) (all_items ps)) (find (in_range raw) (all_items ps))
+    ∙ either (item_by ps) (item_with_value ps raw) (range_at ps raw) (find (has_value raw) (all_items ps)) (find (in_range raw) (all_items ps))
     (item-with (has_value raw) ps) (item-with (in_range raw) ps)
     (some-from (λ (q : PlacedItem). has_value raw q.item) 0 ps ∙ any-of (has_value raw) ps ∙ sym (some-found (has_value raw) (all_items ps)))
 
-pub indexed : (t : CodingType) (traits : Traits) (lent : List PlacedItem) (values all parts sorted : List Part) → lent ≡ t.items → AreTraits traits lent → ((raw : ℕ) → item_in values raw ≡ value_at lent raw) → ((raw : ℕ) → item_in all raw ≡ option_or (item_in values raw) (range_at lent raw)) → ((n : ℕ) → item_in sorted n ≡ item_in all n) → AreInOrder sorted → parts ≡ sorted → IsIndexed t traits parts
+pub indexed : (t : CodingType) (traits : Traits) (lent : List PlacedItem) (values all parts sorted : List RangePart) → lent ≡ t.items → AreTraits traits lent → ((raw : ℕ) → item_in values raw ≡ item_with_value lent raw) → ((raw : ℕ) → item_in all raw ≡ option_or (item_in values raw) (range_at lent raw)) → ((n : ℕ) → item_in sorted n ≡ item_in all n) → AreInOrder sorted → parts ≡ sorted → IsIndexed t traits parts
 indexed t traits lent values all parts sorted same are first both moved ordered is =
-    let found : (raw : ℕ) → item_in parts raw ≡ option_or (value_at t.items raw) (range_at t.items raw) = λ raw.
+    let found : (raw : ℕ) → item_in parts raw ≡ option_or (item_with_value t.items raw) (range_at t.items raw) = λ raw.
     ap (λ ps. item_in ps raw) is ∙ moved raw ∙ both raw ∙ ap (λ o. option_or o (range_at lent raw)) (first raw)
-    ∙ ap (λ ps. option_or (value_at ps raw) (range_at ps raw)) same in
+    ∙ ap (λ ps. option_or (item_with_value ps raw) (range_at ps raw)) same in
     let of-all : AreTraits traits t.items = subst (AreTraits traits) same are in
     record {
       numeric = of-all.numeric;

@@ -11,7 +11,7 @@ use Rattle.lin_ldf.specs.declared.token.TokenKind.TheVariants as kinds
 use Rattle.lin_values.specs.Real.{real_units}
 use Rattle.lin_values.specs.Texts.{shown_text}
 use Rattle.lin_values.specs.Value.{shortest}
-use Rattle.lin_values.specs.Coding.{between_quotes, small, next_small, is_mark, sign, is_part, run_from, run, real, text_of_item, logical, physical, bcd, ascii, item, type_head, coded_line}
+use Rattle.lin_values.specs.Coding.{between_quotes, small, next_small, is_mark_next, sign, is_part, run_from, run, real, text_of_item, logical, physical, bcd, ascii, item, type_head, coded_line}
 use Rattle.lin_values.proofs.PassedSteps.{tail-keeps}
 
 -- fewer than n tokens are left behind what is read, if it is read
@@ -52,9 +52,9 @@ next_small-leaves n ts h = after n ((mark kinds.Comma).read ts) _ (keeping n (ma
 sign-keeps : (ts : List Symbol) → length (sign ts).1 ≤ length ts
 sign-keeps ts =
     let less = tail-keeps ts in
-    elim (is_mark (codes "-") ts) as (λ b. length (cond {A = Bool × List Symbol} b (true, tail ts) (cond (is_mark (codes "+") ts) (false, tail ts) (false, ts))).1 ≤ length ts) [
+    elim (is_mark_next (codes "-") ts) as (λ b. length (cond {A = Bool × List Symbol} b (true, tail ts) (cond (is_mark_next (codes "+") ts) (false, tail ts) (false, ts))).1 ≤ length ts) [
       | true ↦ less
-      | false ↦ elim (is_mark (codes "+") ts) as (λ b. length (cond {A = Bool × List Symbol} b (false, tail ts) (false, ts)).1 ≤ length ts) [
+      | false ↦ elim (is_mark_next (codes "+") ts) as (λ b. length (cond {A = Bool × List Symbol} b (false, tail ts) (false, ts)).1 ≤ length ts) [
         | true ↦ less
         | false ↦ omega arith
       ]

@@ -12,13 +12,13 @@ use Rattle.lin_cluster.specs.declared.finding.Finding.{Finding}
 use Rattle.lin_cluster.specs.declared.finding.FindingKind.TheVariants as finding
 use Rattle.lin_values.proofs.Layered.{range-any, range-none}
 use Rattle.lin_values.specs.Coded.{all_items, has_value, in_range}
-use Rattle.lin_values.specs.ItemNumbers.{range_at, range_told, value_at, value_told}
+use Rattle.lin_values.specs.ItemNumbers.{range_at, range_told, item_with_value, value_told}
 use Rattle.lin_values.specs.Layers.{item_in, numbers_of}
-use Rattle.lin_values.specs.Warnings.{meets, range_warning, range_warnings, told_by, value_warning, value_warnings}
-use Rattle.lin_values.specs.declared.items.Item.{Item}
-use Rattle.lin_values.specs.declared.items.Item.TheVariants.{Logical, Physical, Bcd, Ascii}
-use Rattle.lin_values.specs.declared.items.PlacedItem.{PlacedItem}
-use Rattle.lin_values.specs.declared.layers.Part.{Part}
+use Rattle.lin_values.specs.Warnings.{meets_range, range_warning, range_warnings, told_by, value_warning, value_warnings}
+use Rattle.lin_values.specs.declared.codings.Item.{Item}
+use Rattle.lin_values.specs.declared.codings.Item.TheVariants.{Logical, Physical, Bcd, Ascii}
+use Rattle.lin_values.specs.declared.codings.PlacedItem.{PlacedItem}
+use Rattle.lin_values.specs.declared.layers.RangePart.{RangePart}
 
 pub told-more : {X : Type 0} (tell : List X → X → List Finding) (before xs : List X) (x : X) → told_by tell before (xs ++ x ∷ []) ≡ told_by tell before xs ++ tell (before ++ xs) x
 told-more tell before [] x = append-nil (tell before x) ∙ ap (λ b. tell b x) (sym (append-nil before))
@@ -46,7 +46,7 @@ any-of p (x ∷ xs) = ap (λ b. p x.item || b) (any-of p xs)
 
 -- ---- values
 
-value-same : (ls : List Part) (before : List PlacedItem) (p : PlacedItem) (i : Item) → ((raw : ℕ) → item_in ls raw ≡ value_at before raw) → value_told ls p i ≡ value_warning before p i
+value-same : (ls : List RangePart) (before : List PlacedItem) (p : PlacedItem) (i : Item) → ((raw : ℕ) → item_in ls raw ≡ item_with_value before raw) → value_told ls p i ≡ value_warning before p i
 value-same ls before p (Logical v text) same =
     ap (λ b. when b (at_place finding.LogicalTwice p.place))
     (ap is_some (same v) ∙ some-from (λ (q : PlacedItem). has_value v q.item) 0 before ∙ any-of (has_value v) before)
@@ -54,11 +54,11 @@ value-same ls before p (Physical from to scale offset unit) same = refl
 value-same ls before p Bcd same = refl
 value-same ls before p Ascii same = refl
 
-pub value-step : (ps : List PlacedItem) (i : ℕ) (p : PlacedItem) (ls : List Part) (first old now : List Finding) → i < length ps → p ≡ get_or ps i p → ((raw : ℕ) → item_in ls raw ≡ value_at (take i ps) raw) → old ≡ first ++ value_warnings (take i ps) → now ≡ old ++ value_told ls p p.item → now ≡ first ++ value_warnings (take (i + 1) ps)
+pub value-step : (ps : List PlacedItem) (i : ℕ) (p : PlacedItem) (ls : List RangePart) (first old now : List Finding) → i < length ps → p ≡ get_or ps i p → ((raw : ℕ) → item_in ls raw ≡ item_with_value (take i ps) raw) → old ≡ first ++ value_warnings (take i ps) → now ≡ old ++ value_told ls p p.item → now ≡ first ++ value_warnings (take (i + 1) ps)
 value-step ps i p ls first old now lt is same so here =
     told-step (λ before q. value_warning before q q.item) ps i p first old now (value_told ls p p.item) lt is so here (value-same ls (take i ps) p p.item same)
 
-pub value-number : (ps : List PlacedItem) (i : ℕ) (p : PlacedItem) (ls ls' : List Part) → i < length ps → p ≡ get_or ps i p → ((raw : ℕ) → item_in ls raw ≡ value_at (take i ps) raw) → ((raw : ℕ) → item_in ls' raw ≡ option_or (item_in ls raw) (cond (has_value raw p.item) (Some i) None)) → (raw : ℕ) → item_in ls' raw ≡ value_at (take (i + 1) ps) raw
+pub value-number : (ps : List PlacedItem) (i : ℕ) (p : PlacedItem) (ls ls' : List RangePart) → i < length ps → p ≡ get_or ps i p → ((raw : ℕ) → item_in ls raw ≡ item_with_value (take i ps) raw) → ((raw : ℕ) → item_in ls' raw ≡ option_or (item_in ls raw) (cond (has_value raw p.item) (Some i) None)) → (raw : ℕ) → item_in ls' raw ≡ item_with_value (take (i + 1) ps) raw
 value-number ps i p ls ls' lt is so here raw =
     numbered_more (λ (q : PlacedItem). has_value raw q.item) ps i p (has_value raw p.item) (item_in ls raw) (item_in ls' raw) lt is refl (so raw) (here raw)
 
@@ -95,13 +95,13 @@ ranges-meet from to min' max' full =
       | inr unmet ↦ range-none (λ m. nat_le min' m && nat_le m max') from (to + 1 - from) (λ n low up. let high : n ≤ to = omega arith in grind (arith, nat_tests)) ∙ sym unmet
     ]
 
-meets-one : (from to : ℕ) (i : Item) → from ≤ to → list_any (λ n. in_range n i) (numbers_of (record { from = from; to = to })) ≡ meets from to i
+meets-one : (from to : ℕ) (i : Item) → from ≤ to → list_any (λ n. in_range n i) (numbers_of (record { from = from; to = to })) ≡ meets_range from to i
 meets-one from to (Logical v text) full = none-any (numbers_of (record { from = from; to = to }))
 meets-one from to (Physical min' max' scale offset unit) full = ranges-meet from to min' max' full
 meets-one from to Bcd full = none-any (numbers_of (record { from = from; to = to }))
 meets-one from to Ascii full = none-any (numbers_of (record { from = from; to = to }))
 
-meets-any : (from to : ℕ) (is : List Item) → from ≤ to → list_any (λ n. list_any (in_range n) is) (numbers_of (record { from = from; to = to })) ≡ list_any (meets from to) is
+meets-any : (from to : ℕ) (is : List Item) → from ≤ to → list_any (λ n. list_any (in_range n) is) (numbers_of (record { from = from; to = to })) ≡ list_any (meets_range from to) is
 meets-any from to [] full = none-any (numbers_of (record { from = from; to = to }))
 meets-any from to (i ∷ is) full =
     any-either (λ n. in_range n i) (λ n. list_any (in_range n) is) (numbers_of (record { from = from; to = to }))
@@ -115,24 +115,24 @@ and-same : (a b d : Bool) → (a ≡ true → b ≡ d) → (a && b) ≡ (a && d)
 and-same true b d same = same refl
 and-same false b d same = refl
 
-range-same : (ls : List Part) (before : List PlacedItem) (p : PlacedItem) (i : Item) → ((raw : ℕ) → item_in ls raw ≡ range_at before raw) → range_told ls p i ≡ range_warning before p i
+range-same : (ls : List RangePart) (before : List PlacedItem) (p : PlacedItem) (i : Item) → ((raw : ℕ) → item_in ls raw ≡ range_at before raw) → range_told ls p i ≡ range_warning before p i
 range-same ls before p (Logical v text) same = refl
 range-same ls before p (Physical from to scale offset unit) same =
     let ends = when (nat_lt to from) (at_place finding.MinAboveMax p.place) in
     let over = λ (b : Bool). when (nat_le from to && b) (at_place finding.RangesOverlap p.place) in
     let flat = when (scale.digits == 0) (at_place finding.ZeroScale p.place) in
     append_assoc ends (over (list_any (λ n. is_some (item_in ls n)) (numbers_of (record { from = from; to = to })))) flat
-    ∙ ap (λ b. ends ++ (when b (at_place finding.RangesOverlap p.place) ++ flat)) (and-same (nat_le from to) (list_any (λ n. is_some (item_in ls n)) (numbers_of (record { from = from; to = to }))) (list_any (meets from to) (all_items before)) (λ le.
+    ∙ ap (λ b. ends ++ (when b (at_place finding.RangesOverlap p.place) ++ flat)) (and-same (nat_le from to) (list_any (λ n. is_some (item_in ls n)) (numbers_of (record { from = from; to = to }))) (list_any (meets_range from to) (all_items before)) (λ le.
     any-same (λ n. is_some (item_in ls n)) (λ n. list_any (in_range n) (all_items before)) (numbers_of (record { from = from; to = to })) (λ n. ap is_some (same n) ∙ some-from (λ (q : PlacedItem). in_range n q.item) 0 before ∙ any-of (in_range n) before)
     ∙ meets-any from to (all_items before) (leb-true from to le)))
 range-same ls before p Bcd same = refl
 range-same ls before p Ascii same = refl
 
-pub range-step : (ps : List PlacedItem) (i : ℕ) (p : PlacedItem) (ls : List Part) (first old now : List Finding) → i < length ps → p ≡ get_or ps i p → ((raw : ℕ) → item_in ls raw ≡ range_at (take i ps) raw) → old ≡ first ++ range_warnings (take i ps) → now ≡ old ++ range_told ls p p.item → now ≡ first ++ range_warnings (take (i + 1) ps)
+pub range-step : (ps : List PlacedItem) (i : ℕ) (p : PlacedItem) (ls : List RangePart) (first old now : List Finding) → i < length ps → p ≡ get_or ps i p → ((raw : ℕ) → item_in ls raw ≡ range_at (take i ps) raw) → old ≡ first ++ range_warnings (take i ps) → now ≡ old ++ range_told ls p p.item → now ≡ first ++ range_warnings (take (i + 1) ps)
 range-step ps i p ls first old now lt is same so here =
     told-step (λ before q. range_warning before q q.item) ps i p first old now (range_told ls p p.item) lt is so here (range-same ls (take i ps) p p.item same)
 
-pub range-number : (ps : List PlacedItem) (i : ℕ) (p : PlacedItem) (ls ls' : List Part) → i < length ps → p ≡ get_or ps i p → ((raw : ℕ) → item_in ls raw ≡ range_at (take i ps) raw) → ((raw : ℕ) → item_in ls' raw ≡ option_or (item_in ls raw) (cond (in_range raw p.item) (Some i) None)) → (raw : ℕ) → item_in ls' raw ≡ range_at (take (i + 1) ps) raw
+pub range-number : (ps : List PlacedItem) (i : ℕ) (p : PlacedItem) (ls ls' : List RangePart) → i < length ps → p ≡ get_or ps i p → ((raw : ℕ) → item_in ls raw ≡ range_at (take i ps) raw) → ((raw : ℕ) → item_in ls' raw ≡ option_or (item_in ls raw) (cond (in_range raw p.item) (Some i) None)) → (raw : ℕ) → item_in ls' raw ≡ range_at (take (i + 1) ps) raw
 range-number ps i p ls ls' lt is so here raw =
     numbered_more (λ (q : PlacedItem). in_range raw q.item) ps i p (in_range raw p.item) (item_in ls raw) (item_in ls' raw) lt is refl (so raw) (here raw)
 
@@ -141,7 +141,7 @@ or-assoc None b c = refl
 or-assoc (Some x) b c = refl
 
 -- behind the values
-pub range-behind : (ps : List PlacedItem) (i : ℕ) (p : PlacedItem) (values ls ls' : List Part) → i < length ps → p ≡ get_or ps i p → ((raw : ℕ) → item_in ls raw ≡ option_or (item_in values raw) (range_at (take i ps) raw)) → ((raw : ℕ) → item_in ls' raw ≡ option_or (item_in ls raw) (cond (in_range raw p.item) (Some i) None)) → (raw : ℕ) → item_in ls' raw ≡ option_or (item_in values raw) (range_at (take (i + 1) ps) raw)
+pub range-behind : (ps : List PlacedItem) (i : ℕ) (p : PlacedItem) (values ls ls' : List RangePart) → i < length ps → p ≡ get_or ps i p → ((raw : ℕ) → item_in ls raw ≡ option_or (item_in values raw) (range_at (take i ps) raw)) → ((raw : ℕ) → item_in ls' raw ≡ option_or (item_in ls raw) (cond (in_range raw p.item) (Some i) None)) → (raw : ℕ) → item_in ls' raw ≡ option_or (item_in values raw) (range_at (take (i + 1) ps) raw)
 range-behind ps i p values ls ls' lt is so here raw =
     here raw ∙ ap (λ o. option_or o (cond (in_range raw p.item) (Some i) None)) (so raw)
     ∙ or-assoc (item_in values raw) (range_at (take i ps) raw) (cond (in_range raw p.item) (Some i) None)

@@ -8,19 +8,19 @@ use Rattle.std.proofs.lemmas.List.Concat.{flat_map-append}
 use Rattle.std.proofs.lemmas.List.Elements.{filter-append, filter_passes, All-head}
 use Rattle.std.proofs.lemmas.List.Folds.{list_any-append}
 use Rattle.std.proofs.lemmas.Grind.{fold-append}
-use Rattle.lin_values.specs.Coded.{all_codings, all_ends, all_items, codings_of, ends_of, first_coding, first_of, greatest, is_numeric, is_range, same_coding, second_coding}
+use Rattle.lin_values.specs.Coded.{all_codings, all_ends, all_items, codings_of, ends_of, first_coding, first_of, greatest_end, is_numeric, is_range, same_coding, second_coding}
 use Rattle.lin_values.specs.Traits.{coded_behind, with_coding, with_traits}
 use Rattle.lin_values.specs.declared.encoding.Coding.{Coding}
 use Rattle.lin_values.specs.declared.encoding.Coding.TheVariants as codings
 use Rattle.lin_values.specs.declared.encoding.Traits.{Traits}
-use Rattle.lin_values.specs.declared.items.Item.{Item}
-use Rattle.lin_values.specs.declared.items.Item.TheVariants.{Logical, Physical, Bcd, Ascii}
-use Rattle.lin_values.specs.declared.items.PlacedItem.{PlacedItem}
+use Rattle.lin_values.specs.declared.codings.Item.{Item}
+use Rattle.lin_values.specs.declared.codings.Item.TheVariants.{Logical, Physical, Bcd, Ascii}
+use Rattle.lin_values.specs.declared.codings.PlacedItem.{PlacedItem}
 
 pub record AreTraits (t : Traits) (ps : List PlacedItem) : Type 0 where
   pub numeric : t.is_numeric ≡ is_numeric ps
   pub range : t.has_range ≡ list_any is_range (all_items ps)
-  pub greatest : t.greatest ≡ greatest ps
+  pub greatest : t.greatest ≡ greatest_end ps
   pub first : t.first ≡ first_coding ps
   pub second : t.second ≡ second_coding ps
 

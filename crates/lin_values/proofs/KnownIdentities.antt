@@ -20,7 +20,7 @@ use Rattle.lin_values.specs.AttributeValues.{product_id}
 use Rattle.lin_values.specs.Configuring.{identities_in, identity_at, identity_in}
 use Rattle.lin_values.specs.Identities.{identities_of, identity_of, identity_unless, initial_nad}
 use Rattle.lin_values.specs.Requests.{identity_named}
-use Rattle.lin_values.specs.declared.attributes.NodeAttributes.{NodeAttributes}
+use Rattle.lin_values.specs.declared.attribute_blocks.NodeAttributes.{NodeAttributes}
 use Rattle.lin_values.specs.declared.identities.NodeIdentity.{NodeIdentity}
 use Rattle.lin_values.specs.Stops.{value_read, Reading}
 use Rattle.lin_values.proofs.StopSteps.{initial-limits, product-limits, IfRead}

@@ -14,17 +14,17 @@ use Rattle.lin_values.specs.Meaning.{bcd_digits, by_item, digits_meaning, first_
 use Rattle.lin_values.specs.Meant.{Meant}
 use Rattle.lin_values.specs.Nearest.{distance_above, distance_below, item_decimal, nearer, raw_decimal, signal_decimal, IsAmong, IsLeast, IsNearer}
 use Rattle.lin_values.specs.Raws.{above, below, decimal_at, decimals, distance, nearest, nearest_of, units_of}
-use Rattle.lin_values.specs.Value.{value, IsReadable}
-use Rattle.lin_values.specs.Warnings.{most_of}
+use Rattle.lin_values.specs.Value.{scaled_value, IsReadable}
+use Rattle.lin_values.specs.Warnings.{greatest_raw}
 use Rattle.lin_values.specs.declared.decimals.Decimal.{Decimal}
 use Rattle.lin_values.proofs.Powers.{readable-units}
 use Rattle.lin_values.proofs.ShortestAgain.{size-of}
 use Rattle.lin_values.specs.declared.encoding.Coding.{Coding}
 use Rattle.lin_values.specs.declared.encoding.Coding.TheVariants as codings
-use Rattle.lin_values.specs.declared.items.CodingType.{CodingType}
-use Rattle.lin_values.specs.declared.items.Item.{Item}
-use Rattle.lin_values.specs.declared.items.Item.TheVariants as items
-use Rattle.lin_values.specs.declared.items.PlacedItem.{PlacedItem}
+use Rattle.lin_values.specs.declared.codings.CodingType.{CodingType}
+use Rattle.lin_values.specs.declared.codings.Item.{Item}
+use Rattle.lin_values.specs.declared.codings.Item.TheVariants as items
+use Rattle.lin_values.specs.declared.codings.PlacedItem.{PlacedItem}
 use Rattle.lin_values.proofs.LeastOf.{nearest-from, IsNearerTo}
 use Rattle.lin_values.proofs.LeastRaw.{raw_of, unique}
 
@@ -58,7 +58,7 @@ pub scalar-decimal : (k : CodedData) (s bits : ℕ) (unit : List ℕ) (n : ℕ) 
     → raw_decimal t.items bits unit n ≡ signal_decimal k s unit n
 scalar-decimal k s bits unit n t b e f =
     ap (λ m. raw_decimal t.items m unit n) b
-    ∙ ap (λ o. if nat_le n (most_of (signal_at k s).bits) then o else None) (sym (decimal-is k s unit n t e f))
+    ∙ ap (λ o. if nat_le n (greatest_raw (signal_at k s).bits) then o else None) (sym (decimal-is k s unit n t e f))
 
 if-none : (b : Bool) (o : Option ℤ) → o ≡ None → (if b then o else None) ≡ None
 if-none true o e = e
@@ -66,7 +66,7 @@ if-none false o e = refl
 
 pub array-none : (F : ℤ → Option ℕ) (k : CodedData) (s : ℕ) (unit : List ℕ) (n : ℕ) → (signal_at k s).is_array ≡ true → option_and_then F (signal_decimal k s unit n) ≡ None
 array-none F k s unit n e =
-    ap (option_and_then F) (if-none (nat_le n (most_of (signal_at k s).bits)) (decimal_at k s unit n)
+    ap (option_and_then F) (if-none (nat_le n (greatest_raw (signal_at k s).bits)) (decimal_at k s unit n)
     (ap (λ b. if b then None else option_and_then (units_of unit) (meaning k s (Scalar n))) e))
 
 both-none : (b : Bool) (o : Option ℤ) → o ≡ None → (if b then None else o) ≡ None
@@ -75,7 +75,7 @@ both-none false o e = e
 
 pub encoding-none : (F : ℤ → Option ℕ) (k : CodedData) (s : ℕ) (unit : List ℕ) (n : ℕ) → encoding_of k s ≡ None → option_and_then F (signal_decimal k s unit n) ≡ None
 encoding-none F k s unit n e =
-    ap (option_and_then F) (if-none (nat_le n (most_of (signal_at k s).bits)) (decimal_at k s unit n)
+    ap (option_and_then F) (if-none (nat_le n (greatest_raw (signal_at k s).bits)) (decimal_at k s unit n)
     (both-none (signal_at k s).is_array (option_and_then (units_of unit) (meaning k s (Scalar n)))
     (ap (λ o. option_and_then (units_of unit) (option_and_then (λ (c : CodingType). meaning_in (signal_at k s) c.items (Scalar n)) o)) e)))
 
@@ -155,7 +155,7 @@ pub best-is : (k : CodedData) (s : ℕ) (x : ℤ) (unit : List ℕ) (bad : ℤ �
     → IsLeast (λ n. option_and_then (side bad x) (signal_decimal k s unit n)) b
     → option_map (λ p. p.0) b ≡ option_map (λ p. p.0) (nearest_of x (filter (λ p. not (bad p.1)) (decimals k s unit)))
 best-is k s x unit bad b l =
-    let most = most_of (signal_at k s).bits in
+    let most = greatest_raw (signal_at k s).bits in
     let r = nearest_of x (filter (λ p. not (bad p.1)) (decimals k s unit)) in
     let i : IsNearerTo (decimal_at k s unit) (λ z. not (bad z)) x (0 + (most + 1)) r
     = nearest-from (decimal_at k s unit) (λ z. not (bad z)) x (most + 1) 0 None (nothing-yet (decimal_at k s unit) (λ z. not (bad z)) x) in
@@ -239,9 +239,9 @@ above-is k s x unit b l = best-is k s x unit (λ z. int_lt z x) b l
 
 -- ---- sizes
 
-pub readable-small : (d : Decimal) → IsReadable d → unsigned_abs (value d) ≤ 10 ^ 38
+pub readable-small : (d : Decimal) → IsReadable d → unsigned_abs (scaled_value d) ≤ 10 ^ 38
 readable-small d h =
-    let e : unsigned_abs (value d) ≡ d.digits * 10 ^ (24 - d.places) = size-of d.negative (d.digits * 10 ^ (24 - d.places)) in
+    let e : unsigned_abs (scaled_value d) ≡ d.digits * 10 ^ (24 - d.places) = size-of d.negative (d.digits * 10 ^ (24 - d.places)) in
     omega (arith, e, readable-units d.digits d.places h.0 h.1)
 
 wide-fits : (z : ℤ) → unsigned_abs z ≤ 10 ^ 38 → SFits w128 z

@@ -6,10 +6,10 @@ use Rattle.std.proofs.lemmas.Grind.{common_steps}
 use Rattle.lin_values.specs.Coded.{item_by}
 use Rattle.lin_values.specs.Layers.{common_span, in_span}
 use Rattle.lin_values.specs.Raws.{in_option_span, sought_item, sought_part}
-use Rattle.lin_values.specs.Warnings.{most_of}
-use Rattle.lin_values.specs.declared.items.Item.{Item}
-use Rattle.lin_values.specs.declared.items.PlacedItem.{PlacedItem}
-use Rattle.lin_values.specs.declared.layers.Part.{Part}
+use Rattle.lin_values.specs.Warnings.{greatest_raw}
+use Rattle.lin_values.specs.declared.codings.Item.{Item}
+use Rattle.lin_values.specs.declared.codings.PlacedItem.{PlacedItem}
+use Rattle.lin_values.specs.declared.layers.RangePart.{RangePart}
 use Rattle.lin_values.specs.declared.layers.Span.{Span}
 
 inside-both : (p q r s n : ℕ) → nat_le (max p q) n && nat_le n (min r s) ≡ (nat_le p n && nat_le n r) && (nat_le q n && nat_le n s)
@@ -56,9 +56,9 @@ part-found s p t n most e =
 pub part-empty : (s p : Span) (n most : ℕ) → common_span s p ≡ None → nat_le n most && (in_span p n && in_span s n) ≡ false
 part-empty s p n most e = turned-false (nat_le n most) (in_span s n) (in_span p n) (sym (common-is s p n) ∙ ap (λ o. in_option_span o n) e)
 
-pub part-sought : (ps : List PlacedItem) (bits : ℕ) (text : Option (List ℕ)) (decimals : Option (ℤ × ℤ)) (unit : List ℕ) (part : Part) (n : ℕ) (item : Item) (b : Bool)
+pub part-sought : (ps : List PlacedItem) (bits : ℕ) (text : Option (List ℕ)) (decimals : Option (ℤ × ℤ)) (unit : List ℕ) (part : RangePart) (n : ℕ) (item : Item) (b : Bool)
     → item_by ps part.item ≡ Some item → sought_item text decimals unit item n ≡ b
-    → sought_part ps bits text decimals unit part n ≡ nat_le n (most_of bits) && (in_span part.span n && b)
+    → sought_part ps bits text decimals unit part n ≡ nat_le n (greatest_raw bits) && (in_span part.span n && b)
 part-sought ps bits text decimals unit part n item b e f =
-    ap (λ o. nat_le n (most_of bits) && (in_span part.span n && option_map_or (λ i. sought_item text decimals unit i n) o false)) e
-    ∙ ap (λ x. nat_le n (most_of bits) && (in_span part.span n && x)) f
+    ap (λ o. nat_le n (greatest_raw bits) && (in_span part.span n && option_map_or (λ i. sought_item text decimals unit i n) o false)) e
+    ∙ ap (λ x. nat_le n (greatest_raw bits) && (in_span part.span n && x)) f

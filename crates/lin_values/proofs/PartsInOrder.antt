@@ -16,26 +16,26 @@ use Rattle.lin_values.proofs.AddedRanges.{take-all, drop-all}
 use Rattle.lin_values.proofs.JoinedSpans.{times}
 use Rattle.lin_values.proofs.Layered.{item-append}
 use Rattle.lin_values.specs.Layers.{in_span, item_in, AreInOrder, IsBefore}
-use Rattle.lin_values.specs.declared.layers.Part.{Part}
+use Rattle.lin_values.specs.declared.layers.RangePart.{RangePart}
 
-abbrev Before : Part → Part → Type 0
+abbrev Before : RangePart → RangePart → Type 0
 Before p q = IsBefore p.span q.span
 
-pub no-item : (n : ℕ) (ps : List Part) → All (λ p. in_span p.span n ≡ false) ps → item_in ps n ≡ None
+pub no-item : (n : ℕ) (ps : List RangePart) → All (λ p. in_span p.span n ≡ false) ps → item_in ps n ≡ None
 no-item n [] none = refl
 no-item n (p ∷ ps) none =
-    ap (λ b. option_map (λ (q : Part). q.item) (cond b (Some p) (find (λ (q : Part). in_span q.span n) ps))) (All-head (λ (q : Part). in_span q.span n ≡ false) p ps none)
-    ∙ no-item n ps (All-tail (λ (q : Part). in_span q.span n ≡ false) p ps none)
+    ap (λ b. option_map (λ (q : RangePart). q.item) (cond b (Some p) (find (λ (q : RangePart). in_span q.span n) ps))) (All-head (λ (q : RangePart). in_span q.span n ≡ false) p ps none)
+    ∙ no-item n ps (All-tail (λ (q : RangePart). in_span q.span n ≡ false) p ps none)
 
-first-item : (n : ℕ) (p : Part) (ps : List Part) → All (Before p) ps → n ≤ p.span.to → item_in (p ∷ ps) n ≡ cond (in_span p.span n) (Some p.item) None
+first-item : (n : ℕ) (p : RangePart) (ps : List RangePart) → All (Before p) ps → n ≤ p.span.to → item_in (p ∷ ps) n ≡ cond (in_span p.span n) (Some p.item) None
 first-item n p ps before le =
     let rest : item_in ps n ≡ None = no-item n ps (All-weaker (Before p) (λ q. in_span q.span n ≡ false) (λ q h. grind (arith, nat_tests)) ps before) in
-    elim (in_span p.span n) as (λ b. option_map (λ (q : Part). q.item) (cond b (Some p) (find (λ (q : Part). in_span q.span n) ps)) ≡ cond b (Some p.item) None) [
+    elim (in_span p.span n) as (λ b. option_map (λ (q : RangePart). q.item) (cond b (Some p) (find (λ (q : RangePart). in_span q.span n) ps)) ≡ cond b (Some p.item) None) [
       | true ↦ refl
       | false ↦ rest
     ]
 
-ends-rise : (ps : List Part) → AreInOrder ps → IsNonDecreasingBy (λ p. p.span.to) ps
+ends-rise : (ps : List RangePart) → AreInOrder ps → IsNonDecreasingBy (λ p. p.span.to) ps
 ends-rise ps ordered i j d le lt =
     elim (cases_lt i j) as (λ _. (get_or ps i d).span.to ≤ (get_or ps j d).span.to) [
       | inl up ↦
@@ -47,25 +47,25 @@ ends-rise ps ordered i j d le lt =
           subst (λ n. (get_or ps i d).span.to ≤ (get_or ps n d).span.to) e (omega arith)
     ]
 
-pub parts-parted : (ps : List Part) (n : ℕ) → AreInOrder ps → IsPartitionedBy (λ p. nat_lt p.span.to n) ps
-parts-parted ps n ordered = IsPartitionedBy-ltb (λ (p : Part). p.span.to) ps n (ends-rise ps ordered)
+pub parts-parted : (ps : List RangePart) (n : ℕ) → AreInOrder ps → IsPartitionedBy (λ p. nat_lt p.span.to n) ps
+parts-parted ps n ordered = IsPartitionedBy-ltb (λ (p : RangePart). p.span.to) ps n (ends-rise ps ordered)
 
-abbrev PointsTo : List Part → ℕ → ℕ → Type 0
+abbrev PointsTo : List RangePart → ℕ → ℕ → Type 0
 PointsTo ps n at = IsPartitionPoint (λ p. nat_lt p.span.to n ≡ true) (λ p. nat_lt p.span.to n ≡ false) ps at
 
-item-behind : (ps : List Part) (n at : ℕ) → PointsTo ps n at → item_in ps n ≡ item_in (drop at ps) n
+item-behind : (ps : List RangePart) (n at : ℕ) → PointsTo ps n at → item_in ps n ≡ item_in (drop at ps) n
 item-behind ps n at point =
-    let none : item_in (take at ps) n ≡ None = no-item n (take at ps) (All-weaker (λ (p : Part). nat_lt p.span.to n ≡ true) (λ p. in_span p.span n ≡ false) (λ p h. grind (arith, nat_tests)) (take at ps) (take-all (λ (p : Part). nat_lt p.span.to n ≡ true) ps at point.0)) in
+    let none : item_in (take at ps) n ≡ None = no-item n (take at ps) (All-weaker (λ (p : RangePart). nat_lt p.span.to n ≡ true) (λ p. in_span p.span n ≡ false) (λ p h. grind (arith, nat_tests)) (take at ps) (take-all (λ (p : RangePart). nat_lt p.span.to n ≡ true) ps at point.0)) in
     ap (λ qs. item_in qs n) (sym (take-append-drop at ps)) ∙ item-append n (take at ps) (drop at ps) ∙ ap (λ o. option_or o (item_in (drop at ps) n)) none
 
-pub item-at : (ps : List Part) (n at : ℕ) (p : Part) → AreInOrder ps → PointsTo ps n at → at < length ps → p ≡ get_or ps at p → item_in ps n ≡ cond (in_span p.span n) (Some p.item) None
+pub item-at : (ps : List RangePart) (n at : ℕ) (p : RangePart) → AreInOrder ps → PointsTo ps n at → at < length ps → p ≡ get_or ps at p → item_in ps n ≡ cond (in_span p.span n) (Some p.item) None
 item-at ps n at p ordered point lt is =
     let rest : drop at ps ≡ p ∷ drop (at + 1) ps = drop_more ps at p lt ∙ ap (λ q. q ∷ drop (at + 1) ps) (sym is) in
     let pairs : AllPairs Before (p ∷ drop (at + 1) ps) = subst (AllPairs Before) rest (pairs-back Before (take at ps) (drop at ps) (subst (AllPairs Before) (sym (take-append-drop at ps)) ordered.1)) in
-    let high : n ≤ p.span.to = ltb-false p.span.to n (All-head (λ (q : Part). nat_lt q.span.to n ≡ false) p (drop (at + 1) ps) (subst (All (λ (q : Part). nat_lt q.span.to n ≡ false)) rest (drop-all (λ (q : Part). nat_lt q.span.to n ≡ false) ps at point.1))) in
+    let high : n ≤ p.span.to = ltb-false p.span.to n (All-head (λ (q : RangePart). nat_lt q.span.to n ≡ false) p (drop (at + 1) ps) (subst (All (λ (q : RangePart). nat_lt q.span.to n ≡ false)) rest (drop-all (λ (q : RangePart). nat_lt q.span.to n ≡ false) ps at point.1))) in
     item-behind ps n at point ∙ ap (λ qs. item_in qs n) rest ∙ first-item n p (drop (at + 1) ps) (pairs-first Before p (drop (at + 1) ps) pairs) high
 
-pub item-past : (ps : List Part) (n at : ℕ) → PointsTo ps n at → length ps ≤ at → item_in ps n ≡ None
+pub item-past : (ps : List RangePart) (n at : ℕ) → PointsTo ps n at → length ps ≤ at → item_in ps n ≡ None
 item-past ps n at point le = item-behind ps n at point ∙ ap (λ qs. item_in qs n) (drop_all at ps le)
 
 -- ---- parts that are sorted
@@ -80,11 +80,11 @@ no-weight : (b : Bool) (w : ℕ) → ◌≡◌ {A = ℕ} (cond b 1 0) 0 → ◌�
 no-weight true w e = absurd (omega arith)
 no-weight false w e = refl
 
-pub sorted-in-order : (xs ys : List Part) → IsPermutation xs ys → All (λ p. p.span.from ≤ p.span.to) xs → ((n : ℕ) → times n xs ≤ 1) → ((k : ℕ) (d : Part) → 0 ≤ k → k + 1 < length ys → is_lt (ordering_then (ordering_then (nat_cmp (get_or ys (k + 1) d).span.from (get_or ys k d).span.from) (nat_cmp (get_or ys (k + 1) d).span.to (get_or ys k d).span.to)) (nat_cmp (get_or ys (k + 1) d).item (get_or ys k d).item)) ≡ false) → AreInOrder ys
+pub sorted-in-order : (xs ys : List RangePart) → IsPermutation xs ys → All (λ p. p.span.from ≤ p.span.to) xs → ((n : ℕ) → times n xs ≤ 1) → ((k : ℕ) (d : RangePart) → 0 ≤ k → k + 1 < length ys → is_lt (ordering_then (ordering_then (nat_cmp (get_or ys (k + 1) d).span.from (get_or ys k d).span.from) (nat_cmp (get_or ys (k + 1) d).span.to (get_or ys k d).span.to)) (nat_cmp (get_or ys (k + 1) d).item (get_or ys k d).item)) ≡ false) → AreInOrder ys
 sorted-in-order xs ys moved full once sorted =
-    let Full : Part → Type 0 = λ p. p.span.from ≤ p.span.to in
+    let Full : RangePart → Type 0 = λ p. p.span.from ≤ p.span.to in
     let all : All Full ys = All-permutation Full xs ys moved full in
-    let rise : IsNonDecreasingBy (λ (p : Part). p.span.from) ys = IsNonDecreasingBy-from_all_adjacent (λ (p : Part). p.span.from) ys (λ k d lt. first-key (get_or ys k d).span.from (get_or ys (k + 1) d).span.from (get_or ys k d).span.to (get_or ys (k + 1) d).span.to (get_or ys k d).item (get_or ys (k + 1) d).item (sorted k d (omega arith) lt)) in (
+    let rise : IsNonDecreasingBy (λ (p : RangePart). p.span.from) ys = IsNonDecreasingBy-from_all_adjacent (λ (p : RangePart). p.span.from) ys (λ k d lt. first-key (get_or ys k d).span.from (get_or ys (k + 1) d).span.from (get_or ys k d).span.to (get_or ys (k + 1) d).span.to (get_or ys k d).item (get_or ys (k + 1) d).item (sorted k d (omega arith) lt)) in (
       all,
       λ i j d up lt. elim (cases_lt (get_or ys i d).span.to (get_or ys j d).span.from) as (λ _. (get_or ys i d).span.to < (get_or ys j d).span.from) [
         | inl before ↦ before
@@ -92,35 +92,35 @@ sorted-in-order xs ys moved full once sorted =
             let n : ℕ = (get_or ys j d).span.from in
             let low : (get_or ys i d).span.from ≤ (get_or ys j d).span.from = rise i j d (omega arith) lt in
             let here : (get_or ys j d).span.from ≤ (get_or ys j d).span.to = all j d lt in
-            let two : 1 < times (get_or ys j d).span.from ys = two-counted (λ (p : Part). in_span p.span (get_or ys j d).span.from) ys i j d up lt (both-tests (get_or ys j d).span.from (get_or ys i d).span.from (get_or ys i d).span.to low meets) (both-tests (get_or ys j d).span.from (get_or ys j d).span.from (get_or ys j d).span.to (omega arith) here) in
-            let same : times (get_or ys j d).span.from ys ≡ times (get_or ys j d).span.from xs = sum_by-IsPermutation (λ (p : Part). cond (in_span p.span (get_or ys j d).span.from) 1 0) xs ys moved in
+            let two : 1 < times (get_or ys j d).span.from ys = two-counted (λ (p : RangePart). in_span p.span (get_or ys j d).span.from) ys i j d up lt (both-tests (get_or ys j d).span.from (get_or ys i d).span.from (get_or ys i d).span.to low meets) (both-tests (get_or ys j d).span.from (get_or ys j d).span.from (get_or ys j d).span.to (omega arith) here) in
+            let same : times (get_or ys j d).span.from ys ≡ times (get_or ys j d).span.from xs = sum_by-IsPermutation (λ (p : RangePart). cond (in_span p.span (get_or ys j d).span.from) 1 0) xs ys moved in
             let one : times (get_or ys j d).span.from xs ≤ 1 = once (get_or ys j d).span.from in
             absurd (omega arith)
       ],
     )
 
-abbrev weight : ℕ → Part → ℕ
+abbrev weight : ℕ → RangePart → ℕ
 weight n p = cond (in_span p.span n) (suc p.item) 0
 
 abbrev weighed : Option ℕ → ℕ
 weighed None = 0
 weighed (Some k) = suc k
 
-weightless : (n : ℕ) (ps : List Part) → times n ps ≡ 0 → sum_by (weight n) ps ≡ 0
+weightless : (n : ℕ) (ps : List RangePart) → times n ps ≡ 0 → sum_by (weight n) ps ≡ 0
 weightless n [] none = refl
 weightless n (p ∷ ps) none =
-    let count : times n (p ∷ ps) ≡ cond (in_span p.span n) 1 0 + times n ps = sum_by-cons (λ (q : Part). cond (in_span q.span n) 1 0) p ps in
+    let count : times n (p ∷ ps) ≡ cond (in_span p.span n) 1 0 + times n ps = sum_by-cons (λ (q : RangePart). cond (in_span q.span n) 1 0) p ps in
     let whole : sum_by (weight n) (p ∷ ps) ≡ weight n p + sum_by (weight n) ps = sum_by-cons (weight n) p ps in
     let rest : sum_by (weight n) ps ≡ 0 = weightless n ps (omega arith) in
     let first : weight n p ≡ 0 = no-weight (in_span p.span n) (suc p.item) (omega arith) in
     omega arith
 
-weight-is : (n : ℕ) (ps : List Part) → times n ps ≤ 1 → sum_by (weight n) ps ≡ weighed (item_in ps n)
+weight-is : (n : ℕ) (ps : List RangePart) → times n ps ≤ 1 → sum_by (weight n) ps ≡ weighed (item_in ps n)
 weight-is n [] one = refl
 weight-is n (p ∷ ps) one =
-    let count : times n (p ∷ ps) ≡ cond (in_span p.span n) 1 0 + times n ps = sum_by-cons (λ (q : Part). cond (in_span q.span n) 1 0) p ps in
+    let count : times n (p ∷ ps) ≡ cond (in_span p.span n) 1 0 + times n ps = sum_by-cons (λ (q : RangePart). cond (in_span q.span n) 1 0) p ps in
     sum_by-cons (weight n) p ps ∙
-    elim (in_span p.span n) as (λ b. cond b 1 0 + times n ps ≤ 1 → cond b (suc p.item) 0 + sum_by (weight n) ps ≡ weighed (option_map (λ (q : Part). q.item) (cond b (Some p) (find (λ (q : Part). in_span q.span n) ps)))) [
+    elim (in_span p.span n) as (λ b. cond b 1 0 + times n ps ≤ 1 → cond b (suc p.item) 0 + sum_by (weight n) ps ≡ weighed (option_map (λ (q : RangePart). q.item) (cond b (Some p) (find (λ (q : RangePart). in_span q.span n) ps)))) [
       | true ↦ λ h. let rest : sum_by (weight n) ps ≡ 0 = weightless n ps (omega arith) in omega arith
       | false ↦ λ h. let rest = weight-is n ps (omega arith) in omega arith
     ] (omega arith)
@@ -131,7 +131,7 @@ weighed-once None (Some k) e = absurd (omega arith)
 weighed-once (Some k) None e = absurd (omega arith)
 weighed-once (Some k) (Some l) e = let same : k ≡ l = omega arith in ap Some same
 
-pub item-moved : (xs ys : List Part) (n : ℕ) → IsPermutation xs ys → times n xs ≤ 1 → item_in ys n ≡ item_in xs n
+pub item-moved : (xs ys : List RangePart) (n : ℕ) → IsPermutation xs ys → times n xs ≤ 1 → item_in ys n ≡ item_in xs n
 item-moved xs ys n moved one =
-    let same : times n ys ≡ times n xs = sum_by-IsPermutation (λ (p : Part). cond (in_span p.span n) 1 0) xs ys moved in
+    let same : times n ys ≡ times n xs = sum_by-IsPermutation (λ (p : RangePart). cond (in_span p.span n) 1 0) xs ys moved in
     weighed-once (item_in ys n) (item_in xs n) (sym (weight-is n ys (omega arith)) ∙ sum_by-IsPermutation (weight n) xs ys moved ∙ weight-is n xs one)

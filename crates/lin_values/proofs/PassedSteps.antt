@@ -6,7 +6,7 @@ use Rattle.lin_ldf.specs.Symbols.{Symbol, is_kind}
 use Rattle.lin_ldf.specs.Forms.{tail}
 use Rattle.lin_ldf.specs.Loops.{is_next}
 use Rattle.lin_ldf.specs.UpTo.{front_kind}
-use Rattle.lin_values.specs.Passed.{behind_block, behind_closing, behind_group, behind_line, behind_lines, depth_behind, has_line}
+use Rattle.lin_values.specs.Passed.{behind_block, behind_closing, behind_group, behind_line, behind_lines, brace_depth, has_line}
 use Rattle.lin_values.proofs.Repeating.{one-step, no-step, steps-keep}
 
 pub kind-is : (t : Symbol) (ts : List Symbol) (k : TokenKind) → front_kind (t ∷ ts) ≡ Some k → k ≡ t.kind
@@ -25,12 +25,12 @@ ended n (t ∷ ts) k e h i =
     let is : (n == 0 && is_kind Semicolon t.kind) ≡ true = ap (λ x. n == 0 && is_kind Semicolon x) (sym (kind-is t ts k e)) ∙ i in
     rw (open_still, is) refl
 
-pub goes-on : (n : ℕ) (ts : List Symbol) (k : TokenKind) → front_kind ts ≡ Some k → (n == 0 && is_kind CloseBrace k) ≡ false → (n == 0 && is_kind Semicolon k) ≡ false → behind_line n ts ≡ behind_line (depth_behind n k) (tail ts)
+pub goes-on : (n : ℕ) (ts : List Symbol) (k : TokenKind) → front_kind ts ≡ Some k → (n == 0 && is_kind CloseBrace k) ≡ false → (n == 0 && is_kind Semicolon k) ≡ false → behind_line n ts ≡ behind_line (brace_depth n k) (tail ts)
 goes-on n [] k e h i = absurd cc
 goes-on n (t ∷ ts) k e h i =
     let open_still : (n == 0 && is_kind CloseBrace t.kind) ≡ false = ap (λ x. n == 0 && is_kind CloseBrace x) (sym (kind-is t ts k e)) ∙ h in
     let is : (n == 0 && is_kind Semicolon t.kind) ≡ false = ap (λ x. n == 0 && is_kind Semicolon x) (sym (kind-is t ts k e)) ∙ i in
-    rw (open_still, is) (ap (λ x. behind_line (depth_behind n x) ts) (sym (kind-is t ts k e)))
+    rw (open_still, is) (ap (λ x. behind_line (brace_depth n x) ts) (sym (kind-is t ts k e)))
 
 pub none-left : (n : ℕ) (ts : List Symbol) → front_kind ts ≡ None → behind_line n ts ≡ ts
 none-left n [] e = refl
@@ -43,10 +43,10 @@ taken (t ∷ ts) k e = refl
 pub no-more : (n : ℕ) (ts : List Symbol) → length (behind_line n ts) ≤ length ts
 no-more n [] = omega arith
 no-more n (t ∷ ts) =
-    let less : length (behind_line (depth_behind n t.kind) ts) ≤ length ts = no-more (depth_behind n t.kind) ts in
-    elim (n == 0 && is_kind CloseBrace t.kind) as (λ b. length (cond b (t ∷ ts) (cond (n == 0 && is_kind Semicolon t.kind) ts (behind_line (depth_behind n t.kind) ts))) ≤ length (t ∷ ts)) [
+    let less : length (behind_line (brace_depth n t.kind) ts) ≤ length ts = no-more (brace_depth n t.kind) ts in
+    elim (n == 0 && is_kind CloseBrace t.kind) as (λ b. length (cond b (t ∷ ts) (cond (n == 0 && is_kind Semicolon t.kind) ts (behind_line (brace_depth n t.kind) ts))) ≤ length (t ∷ ts)) [
       | true ↦ omega arith
-      | false ↦ elim (n == 0 && is_kind Semicolon t.kind) as (λ b. length (cond b ts (behind_line (depth_behind n t.kind) ts)) ≤ length (t ∷ ts)) [
+      | false ↦ elim (n == 0 && is_kind Semicolon t.kind) as (λ b. length (cond b ts (behind_line (brace_depth n t.kind) ts)) ≤ length (t ∷ ts)) [
         | true ↦ omega arith
         | false ↦ omega arith
       ]
@@ -65,7 +65,7 @@ stays-open false e = refl
 pub shorter : (ts : List Symbol) → has_line ts ≡ true → length (behind_line 0 ts) < length ts
 shorter [] h = absurd cc
 shorter (t ∷ ts) h =
-    shorter-at (0 == 0 && is_kind CloseBrace t.kind) (0 == 0 && is_kind Semicolon t.kind) t ts (behind_line (depth_behind 0 t.kind) ts) (stays-open (is_kind CloseBrace t.kind) h) (no-more (depth_behind 0 t.kind) ts)
+    shorter-at (0 == 0 && is_kind CloseBrace t.kind) (0 == 0 && is_kind Semicolon t.kind) t ts (behind_line (brace_depth 0 t.kind) ts) (stays-open (is_kind CloseBrace t.kind) h) (no-more (brace_depth 0 t.kind) ts)
 
 -- one line more of a group, or none
 pub one-line : (ts us total : List Symbol) → has_line ts ≡ true → us ≡ behind_line 0 ts → behind_lines ts ≡ total → behind_lines us ≡ total

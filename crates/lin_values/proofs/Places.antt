@@ -3,7 +3,7 @@ use Rattle.std.proofs.Common.{◌≡◌, ℕ, zero, suc, ◌+◌, ◌-◌, ◌*�
 use Rattle.std.specs.Char.{is_ascii_digit}
 use Rattle.std.proofs.Math.Nat.{mul-le-mul_right}
 use Rattle.std.proofs.lemmas.Grind.{common_steps}
-use Rattle.lin_values.specs.Read.{places_after, whole_after, unsigned}
+use Rattle.lin_values.specs.Read.{places_after, whole_after, unsigned_number}
 use Rattle.lin_values.proofs.Powers.{ten-more}
 
 pub place-fits : (n d left : ℕ) → 0 < left → d < 10 → n + 10 ^ left ≤ 10 ^ 38 → n + d * 10 ^ (left - 1) + 10 ^ (left - 1) ≤ 10 ^ 38
@@ -26,6 +26,6 @@ too-big (c ∷ cs) n h =
 pub after-big : (cs : List ℕ) (i n : ℕ) → i < length cs → is_ascii_digit (get_or cs i 0) ≡ true → 10 ^ 14 ≤ n * 10 + (get_or cs i 0 - 48) → whole_after n (drop i cs) ≡ None
 after-big cs i n h e big = rw (drop-cons cs i 0 h, e) (too-big (drop (suc i) cs) (n * 10 + (get_or cs i 0 - 48)) big)
 
-pub unsigned-is : (cs : List ℕ) (u : ℕ) → 0 < length cs → is_ascii_digit (get_or cs 0 0) ≡ true → whole_after 0 cs ≡ Some u → unsigned cs ≡ Some u
+pub unsigned-is : (cs : List ℕ) (u : ℕ) → 0 < length cs → is_ascii_digit (get_or cs 0 0) ≡ true → whole_after 0 cs ≡ Some u → unsigned_number cs ≡ Some u
 unsigned-is [] u h d e = absurd (omega arith)
 unsigned-is (c ∷ cs) u h d e = subst (λ b. (if b then whole_after 0 (c ∷ cs) else None) ≡ Some u) (sym d) e

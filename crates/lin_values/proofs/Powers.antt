@@ -5,7 +5,7 @@ use Rattle.std.proofs.lemmas.Bool.{cases_Bool, lt-ltb, ltb-true, ltb-false}
 use Rattle.lin_values.specs.Shown.{last_digits, fraction}
 use Rattle.std.proofs.Math.IntN.{pos-*ℤ-negsuc}
 use Rattle.std.proofs.lemmas.Int.{ints}
-use Rattle.lin_values.specs.Value.{signed}
+use Rattle.lin_values.specs.Value.{with_sign}
 use Rattle.std.proofs.Common.{◌≡◌, ℕ, suc, ◌+◌, ◌-◌, ◌*◌, ◌/◌, ◌%◌, ◌^◌, ◌<◌, ◌≤◌, ap, sym, ◌∙◌, arith}
 use Rattle.std.proofs.Math.Nat.{pow-le-pow_right, mul-le-mul_right, mul-le-mul_left, mul_assoc, one-le-pow}
 use Rattle.std.proofs.lemmas.Nat.{pow-add, div_below, mod_below}
@@ -28,7 +28,7 @@ dropped-zero n u p e h l z =
 mul-lt-mul_right-of : {c a b : ℕ} → 0 < c → a < b → a * c < b * c
 mul-lt-mul_right-of {c} {a} {b} g h = omega (arith, mul-le-mul_right c h)
 
-pub signed-times : (b : Bool) (r n : ℕ) → pos r *ℤ signed b n ≡ signed b (r * n)
+pub signed-times : (b : Bool) (r n : ℕ) → pos r *ℤ with_sign b n ≡ with_sign b (r * n)
 signed-times false r n = grind (arith, ints)
 signed-times true r zero = let z : r * 0 ≡ 0 = omega arith in rw z refl
 signed-times true r (suc n) = pos-*ℤ-negsuc r n

@@ -9,7 +9,7 @@ use Rattle.std.proofs.Math.Nat.{mul-le-mul_right}
 use Rattle.std.proofs.lemmas.Int.{ints}
 use Rattle.std.proofs.lemmas.Grind.{common_steps}
 use Rattle.lin_values.specs.Layers.{in_span}
-use Rattle.lin_values.specs.Nearest.{IsReached}
+use Rattle.lin_values.specs.Nearest.{IsAtLeastAsNear}
 use Rattle.lin_values.specs.declared.layers.Span.{Span}
 
 size-up : (a b : ℤ) → pos 0 ≤ℤ a → a ≤ℤ b → unsigned_abs a ≤ unsigned_abs b
@@ -58,7 +58,7 @@ fallen x c n v u h i j = (
   λ k. let l : v <ℤ u = j k in size-down-more (x -ℤ v) (x -ℤ u) (omega (arith, ints)) (omega (arith, ints)),
 )
 
-by-multiples : (scale x : ℤ) (c n : ℕ) (v u : ℤ) → pos c *ℤ scale ≡ v → pos n *ℤ scale ≡ u → IsBetween x c n v u → IsReached scale x c n
+by-multiples : (scale x : ℤ) (c n : ℕ) (v u : ℤ) → pos c *ℤ scale ≡ v → pos n *ℤ scale ≡ u → IsBetween x c n v u → IsAtLeastAsNear scale x c n
 by-multiples scale x c n v u e f h =
     subst (λ (w : ℤ). IsBetween x c n w (pos n *ℤ scale)) (sym e) (subst (λ (w : ℤ). IsBetween x c n v w) (sym f) h)
 
@@ -68,28 +68,28 @@ step-up : (n c s : ℕ) → n < c → 0 < s → n * s < c * s
 step-up n c s h i =
     let e : (n + 1) * s ≤ c * s = mul-le-mul_right s (let j : n + 1 ≤ c = omega arith in j) in omega arith
 
-pos-risen : (s d c n : ℕ) → 0 < s → n ≤ c → c * s ≤ d → IsReached (pos s) (pos d) c n
+pos-risen : (s d c n : ℕ) → 0 < s → n ≤ c → c * s ≤ d → IsAtLeastAsNear (pos s) (pos d) c n
 pos-risen s d c n h i j =
     by-multiples (pos s) (pos d) c n (pos (c * s)) (pos (n * s)) (pos-*ℤ-pos c s) (pos-*ℤ-pos n s)
     (risen (pos d) c n (pos (c * s)) (pos (n * s))
     (let k : n * s ≤ c * s = mul-le-mul_right s i in omega (arith, ints)) (omega (arith, ints))
     (λ w. let k : n * s < c * s = step-up n c s w h in omega (arith, ints)))
 
-pos-fallen : (s : ℕ) (x : ℤ) (c n : ℕ) → c ≤ n → x ≤ℤ pos (c * s) → IsReached (pos s) x c n
+pos-fallen : (s : ℕ) (x : ℤ) (c n : ℕ) → c ≤ n → x ≤ℤ pos (c * s) → IsAtLeastAsNear (pos s) x c n
 pos-fallen s x c n i j =
     by-multiples (pos s) x c n (pos (c * s)) (pos (n * s)) (pos-*ℤ-pos c s) (pos-*ℤ-pos n s)
     (fallen x c n (pos (c * s)) (pos (n * s)) j
     (let k : c * s ≤ n * s = mul-le-mul_right s i in omega (arith, ints))
     (λ w. absurd (omega arith)))
 
-neg-fallen : (s d c n : ℕ) → n ≤ c → c * suc s ≤ suc d → IsReached (negsuc s) (negsuc d) c n
+neg-fallen : (s d c n : ℕ) → n ≤ c → c * suc s ≤ suc d → IsAtLeastAsNear (negsuc s) (negsuc d) c n
 neg-fallen s d c n i j =
     let k : n * suc s ≤ c * suc s = mul-le-mul_right (suc s) i in
     by-multiples (negsuc s) (negsuc d) c n (neg_ℤ (pos (c * suc s))) (neg_ℤ (pos (n * suc s))) (pos-*ℤ-negsuc c s) (pos-*ℤ-negsuc n s)
     (fallen (negsuc d) c n (neg_ℤ (pos (c * suc s))) (neg_ℤ (pos (n * suc s))) (omega (arith, ints)) (omega (arith, ints))
     (λ w. let l : n * suc s < c * suc s = step-up n c (suc s) w (omega arith) in omega (arith, ints)))
 
-neg-risen : (s : ℕ) (x : ℤ) (c n : ℕ) → c ≤ n → neg_ℤ (pos (c * suc s)) ≤ℤ x → IsReached (negsuc s) x c n
+neg-risen : (s : ℕ) (x : ℤ) (c n : ℕ) → c ≤ n → neg_ℤ (pos (c * suc s)) ≤ℤ x → IsAtLeastAsNear (negsuc s) x c n
 neg-risen s x c n i j =
     let k : c * suc s ≤ n * suc s = mul-le-mul_right (suc s) i in
     by-multiples (negsuc s) x c n (neg_ℤ (pos (c * suc s))) (neg_ℤ (pos (n * suc s))) (pos-*ℤ-negsuc c s) (pos-*ℤ-negsuc n s)
@@ -107,7 +107,7 @@ from-on : (c q s d : ℕ) → q + 1 ≤ c → d < (q + 1) * s → d < c * s
 from-on c q s d h i = let k : (q + 1) * s ≤ c * s = mul-le-mul_right s h in omega arith
 
 abbrev pub IsNextTo : ℤ → ℤ → ℕ → ℕ → ℕ → Type 0
-IsNextTo scale x a c n = IsReached scale x a n ⊎ IsReached scale x c n
+IsNextTo scale x a c n = IsAtLeastAsNear scale x a n ⊎ IsAtLeastAsNear scale x c n
 
 -- what the ends of a span leave of two numbers that follow each other
 low-end : (from to q n : ℕ) → from ≤ n → n ≤ to → n ≤ q → (n ≤ max from (min q to)) × (max from (min q to) ≤ q)

@@ -16,8 +16,8 @@ use Rattle.lin_ldf.proofs.Unique.{same_tokens}
 use Rattle.lin_ldf.specs.declared.token.TokenKind.TheVariants.{Word, OpenBrace}
 use Rattle.lin_values.specs.Coding.{item, type_head, coded_line}
 use Rattle.lin_values.specs.Passed.{has_line, behind_block, behind_line, behind_closing, behind_group, steps_while}
-use Rattle.lin_values.specs.Reading.{or_bad_item, or_bad_type, or_bad_line, repeated, with_item, with_items, with_type, with_types, with_line, with_lines, with_section, with_statement}
-use Rattle.lin_values.specs.declared.items.Codings.{Codings}
+use Rattle.lin_values.specs.Reading.{or_bad_item, or_bad_type, or_bad_line, through_lines, with_item, with_items, with_type, with_types, with_coded_line, with_lines, with_section, with_statement}
+use Rattle.lin_values.specs.declared.codings.Codings.{Codings}
 use Rattle.lin_values.proofs.FormsTaking.{Leaves, item-leaves, head-leaves, line-leaves}
 use Rattle.lin_values.proofs.PassedSteps.{shorter, no-more, block-shorter, closing-keeps, tail-keeps, group-keeps}
 use Rattle.lin_values.proofs.Repeating.{one-step, no-step, steps-keep}
@@ -40,7 +40,7 @@ module _ {S : Type 0} (line : List Symbol × S → List Symbol × S) (takes : Ta
   pub lines-done : (x total : List Symbol × S) → has_line x.0 ≡ false → lines_from line x ≡ total → total ≡ x
   lines-done x total e so_far = no-step (λ (z : List Symbol × S). length z.0) (λ z. has_line z.0) line takes x total e so_far
 
-  pub repeated-keeps : (x : List Symbol × S) → length (repeated line x).0 ≤ length x.0
+  pub repeated-keeps : (x : List Symbol × S) → length (through_lines line x).0 ≤ length x.0
   repeated-keeps x =
       let y = lines_from line x in
       let p : length y.0 ≤ length x.0 = steps-keep (λ (z : List Symbol × S). length z.0) (λ z. has_line z.0) line takes (length x.0) x in
@@ -73,7 +73,7 @@ type-takes x h =
     ] leaves
 
 abbrev pub one_line : List Symbol × Codings → List Symbol × Codings
-one_line x = with_line x.0 x.1
+one_line x = with_coded_line x.0 x.1
 
 pub line-takes : TakesOne one_line
 line-takes x h =

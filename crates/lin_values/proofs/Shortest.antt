@@ -5,7 +5,7 @@ use Rattle.std.specs.Int.{is_negative}
 use Rattle.std.specs.Prelude.{unsigned_abs}
 use Rattle.std.proofs.Math.Nat.{mul-pos, one-le-pow}
 use Rattle.lin_values.proofs.Powers.{ten-next}
-use Rattle.lin_values.specs.Value.{without_zeros, shortest_at, signed, value, IsShortest, decimal_of}
+use Rattle.lin_values.specs.Value.{without_zeros, shortest_at, with_sign, scaled_value, IsShortest, decimal_of}
 use Rattle.lin_values.specs.declared.decimals.Decimal.{Decimal}
 
 -- a zero dropped
@@ -52,12 +52,12 @@ short-already : (n p : ℕ) → (0 < p → 0 < n % 10) → without_zeros n p ≡
 short-already n zero h = refl
 short-already n (suc k) h = last-kept n (suc k) (h (omega arith))
 
-pub size-of : (b : Bool) (n : ℕ) → unsigned_abs (signed b n) ≡ n
+pub size-of : (b : Bool) (n : ℕ) → unsigned_abs (with_sign b n) ≡ n
 size-of false n = refl
 size-of true zero = refl
 size-of true (suc n) = refl
 
-sign-of : (b : Bool) (n : ℕ) → (b ≡ true → 0 < n) → is_negative (signed b n) ≡ b
+sign-of : (b : Bool) (n : ℕ) → (b ≡ true → 0 < n) → is_negative (with_sign b n) ≡ b
 sign-of false n h = grind (arith, common_steps)
 sign-of true zero h = absurd (omega (arith, h refl))
 sign-of true (suc n) h = grind (arith, common_steps)
@@ -67,7 +67,7 @@ sign-kept false n h = refl
 sign-kept true n h = let p : 0 < n = h refl in grind (arith, common_steps)
 
 -- a decimal in its shortest form is the one of its value
-pub decimal-of-value : (d : Decimal) → d.places ≤ 24 → IsShortest d → decimal_of (value d) ≡ d
+pub decimal-of-value : (d : Decimal) → d.places ≤ 24 → IsShortest d → decimal_of (scaled_value d) ≡ d
 decimal-of-value d l h =
     let units = d.digits * 10 ^ (24 - d.places) in
     let whole : d.places + (24 - d.places) ≡ 24 = omega arith in

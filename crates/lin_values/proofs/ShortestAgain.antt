@@ -4,7 +4,7 @@ use Rattle.std.specs.Int.{is_negative}
 use Rattle.std.proofs.Math.Nat.{one-le-pow}
 use Rattle.std.proofs.lemmas.Grind.{common_steps}
 use Rattle.std.proofs.lemmas.Int.{ints}
-use Rattle.lin_values.specs.Value.{decimal_of, shortest_at, signed, value, without_zeros, IsReadable, IsShortest}
+use Rattle.lin_values.specs.Value.{decimal_of, shortest_at, with_sign, scaled_value, without_zeros, IsReadable, IsShortest}
 use Rattle.lin_values.specs.declared.decimals.Decimal.{Decimal}
 use Rattle.lin_values.proofs.Powers.{ten-more}
 use Rattle.lin_values.proofs.Shortest.{last-kept, none-left}
@@ -24,11 +24,11 @@ zeros-behind (suc k) p d h =
     let q : (d * 10 ^ k) * 10 / 10 ≡ d * 10 ^ k = omega arith in
     rw (z, more d k, tens-end (d * 10 ^ k), q) (zeros-behind k p d h)
 
-pub size-of : (b : Bool) (n : ℕ) → unsigned_abs (signed b n) ≡ n
+pub size-of : (b : Bool) (n : ℕ) → unsigned_abs (with_sign b n) ≡ n
 size-of false n = omega (arith, ints)
 size-of true n = omega (arith, ints)
 
-minus-of : (b : Bool) (n : ℕ) → is_negative (signed b n) ≡ b && nat_lt 0 n
+minus-of : (b : Bool) (n : ℕ) → is_negative (with_sign b n) ≡ b && nat_lt 0 n
 minus-of false n = grind (arith, ints, common_steps)
 minus-of true n = grind (arith, ints, common_steps)
 
@@ -39,7 +39,7 @@ minus-kept true n h = let s : 0 < n = h refl in grind (arith, common_steps)
 some-left : (d k : ℕ) → 0 < d → 0 < d * 10 ^ k
 some-left d k h = grind (arith, one-le-pow k 10 (omega arith))
 
-pub decimal-again : (d : Decimal) → IsReadable d → IsShortest d → decimal_of (value d) ≡ d
+pub decimal-again : (d : Decimal) → IsReadable d → IsShortest d → decimal_of (scaled_value d) ≡ d
 decimal-again d r s =
     let n = d.digits * 10 ^ (24 - d.places) in
     let whole : (24 - d.places) + d.places ≡ 24 = omega (arith, r.0) in

@@ -6,7 +6,7 @@ use lib.Signed.{◌<ℤ◌, ◌≤ℤ◌}
 use mir.Syntax.{w128}
 use mir.Val.{SFits, of_z, to_z}
 use Rattle.std.proofs.lemmas.Int.{ints, by_lt_z, to_z-of_z}
-use Rattle.lin_values.specs.Nearest.{distance_above, distance_below, left_by, IsReached}
+use Rattle.lin_values.specs.Nearest.{distance_above, distance_below, left_by, IsAtLeastAsNear}
 use Rattle.lin_values.specs.Raws.{distance}
 use Rattle.lin_values.proofs.LeastRaw.{IsAsNear}
 use Rattle.lin_values.proofs.Solving.{difference-fits}
@@ -61,19 +61,19 @@ abbrev pub IsReachedAt : ℕ → ℕ → ℤ → ℤ → Type 0
 IsReachedAt c n a b =
     (pos 0 ≤ℤ b → pos 0 ≤ℤ a) × (b ≤ℤ pos 0 → a ≤ℤ pos 0) × (unsigned_abs a ≤ unsigned_abs b) × (n < c → unsigned_abs a < unsigned_abs b)
 
-reached-at : (scale x o : ℤ) (c n : ℕ) → IsReached scale (x -ℤ o) c n → IsReachedAt c n (x -ℤ (pos c *ℤ scale +ℤ o)) (x -ℤ (pos n *ℤ scale +ℤ o))
+reached-at : (scale x o : ℤ) (c n : ℕ) → IsAtLeastAsNear scale (x -ℤ o) c n → IsReachedAt c n (x -ℤ (pos c *ℤ scale +ℤ o)) (x -ℤ (pos n *ℤ scale +ℤ o))
 reached-at scale x o c n h =
     subst (λ (w : ℤ). IsReachedAt c n w (x -ℤ (pos n *ℤ scale +ℤ o))) (left-is x o (pos c *ℤ scale))
     (subst (λ (w : ℤ). IsReachedAt c n (left_by scale (x -ℤ o) c) w) (left-is x o (pos n *ℤ scale)) h)
 
-pub reached-below : (scale x o : ℤ) (c n d : ℕ) → IsReached scale (x -ℤ o) c n → distance_below x (pos n *ℤ scale +ℤ o) ≡ Some d
+pub reached-below : (scale x o : ℤ) (c n d : ℕ) → IsAtLeastAsNear scale (x -ℤ o) c n → distance_below x (pos n *ℤ scale +ℤ o) ≡ Some d
     → IsAsNear (λ k. distance_below x (pos k *ℤ scale +ℤ o)) c n d
 reached-below scale x o c n d h e =
     let r = reached-at scale x o c n h in
     let a = below-as x (pos n *ℤ scale +ℤ o) (pos c *ℤ scale +ℤ o) c n d r.0 r.2 r.3 e in
     record { distance = distance x (pos c *ℤ scale +ℤ o); there = a.0; near = a.1; nearer = a.2 }
 
-pub reached-above : (scale x o : ℤ) (c n d : ℕ) → IsReached scale (x -ℤ o) c n → distance_above x (pos n *ℤ scale +ℤ o) ≡ Some d
+pub reached-above : (scale x o : ℤ) (c n d : ℕ) → IsAtLeastAsNear scale (x -ℤ o) c n → distance_above x (pos n *ℤ scale +ℤ o) ≡ Some d
     → IsAsNear (λ k. distance_above x (pos k *ℤ scale +ℤ o)) c n d
 reached-above scale x o c n d h e =
     let r = reached-at scale x o c n h in

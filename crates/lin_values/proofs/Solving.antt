@@ -8,7 +8,7 @@ use Rattle.std.proofs.Math.IntN.{pos-*ℤ-pos, pos-*ℤ-negsuc}
 use lib.Signed.{◌<ℤ◌, ◌≤ℤ◌}
 use Rattle.std.proofs.lemmas.Int.{ints, by_lt_z, to_z-of_z}
 use Rattle.lin_values.specs.Raws.{lies_within}
-use Rattle.lin_values.specs.Value.{value, IsInLimits}
+use Rattle.lin_values.specs.Value.{scaled_value, IsInLimits}
 use Rattle.lin_values.specs.declared.decimals.Decimal.{Decimal}
 use Rattle.lin_values.proofs.Powers.{units-below}
 use Rattle.lin_values.proofs.ShortestAgain.{size-of}
@@ -139,7 +139,7 @@ small-kept z v e h =
     let k : to_z w128 (of_z w128 z) ≡ z = to_z-of_z w128 z (small-fits z b) in
     omega (arith, b, ap unsigned_abs k)
 
-pub coefficient-small : (d : Decimal) → IsInLimits d → unsigned_abs (value d) < 10 ^ 33
+pub coefficient-small : (d : Decimal) → IsInLimits d → unsigned_abs (scaled_value d) < 10 ^ 33
 coefficient-small d h =
-    let e : unsigned_abs (value d) ≡ d.digits * 10 ^ (24 - d.places) = size-of d.negative (d.digits * 10 ^ (24 - d.places)) in
+    let e : unsigned_abs (scaled_value d) ≡ d.digits * 10 ^ (24 - d.places) = size-of d.negative (d.digits * 10 ^ (24 - d.places)) in
     omega (arith, e, units-below d.digits d.places h.0 h.1)

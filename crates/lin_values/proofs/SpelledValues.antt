@@ -8,8 +8,8 @@ use Rattle.std.proofs.lemmas.Bool.{eqb-true}
 use Rattle.std.proofs.lemmas.Bool.Decides.{nat_tests}
 use Rattle.std.proofs.Math.Nat.{div-div-eq-div-mul, pow-suc}
 use Rattle.lin_values.specs.Meaning.{as_digits, fours}
-use Rattle.lin_values.specs.Raws.{is_plain_from, is_visible}
-use Rattle.lin_values.specs.Spelled.{byte_of, number_after, pairs}
+use Rattle.lin_values.specs.Raws.{is_plain_from, is_printable}
+use Rattle.lin_values.specs.Spelled.{byte_of, bcd_after, pairs}
 use Rattle.lin_values.proofs.SpelledSteps.{paired}
 
 abbrev pub all-small : List ℕ → Bool
@@ -36,10 +36,10 @@ rest-small false b e = cc
 pub is-digit : (d : ℕ) → nat_lt d 10 ≡ true → is_ascii_digit (48 + d) ≡ true
 is-digit d e = grind (arith, nat_tests)
 
-number-step : (a d : ℕ) (cs : List ℕ) → nat_lt d 10 ≡ true → number_after a ((48 + d) ∷ cs) ≡ number_after (a * 16 + d) cs
+number-step : (a d : ℕ) (cs : List ℕ) → nat_lt d 10 ≡ true → bcd_after a ((48 + d) ∷ cs) ≡ bcd_after (a * 16 + d) cs
 number-step a d cs e =
     let same : a * 16 + ((48 + d) - 48) ≡ a * 16 + d = omega arith in
-    ap (λ t. cond t (number_after (a * 16 + ((48 + d) - 48)) cs) None) (is-digit d e) ∙ ap (λ n. number_after n cs) same
+    ap (λ t. cond t (bcd_after (a * 16 + ((48 + d) - 48)) cs) None) (is-digit d e) ∙ ap (λ n. bcd_after n cs) same
 
 below-byte : (b : ℕ) → nat_lt b 256 ≡ true → b < 256
 below-byte b e = grind (arith, nat_tests)
@@ -66,12 +66,12 @@ digit-more n k =
     ap (λ m. m * 16 + (n / 16 ^ k) % 16) e ∙ s
 
 -- behind the digits that are above, the last ones make the number
-pub number-again : (k n : ℕ) → all-small (fours k n) ≡ true → number_after (n / 16 ^ k) (as-text (fours k n)) ≡ Some n
+pub number-again : (k n : ℕ) → all-small (fours k n) ≡ true → bcd_after (n / 16 ^ k) (as-text (fours k n)) ≡ Some n
 number-again zero n small = let e : n / 16 ^ 0 ≡ n = omega arith in ap Some e
 number-again (suc k) n small =
     let d : ℕ = (n / 16 ^ k) % 16 in
     number-step (n / 16 ^ suc k) d (as-text (fours k n)) (first-small (nat_lt d 10) (all-small (fours k n)) small)
-    ∙ ap (λ m. number_after m (as-text (fours k n))) (digit-more n k)
+    ∙ ap (λ m. bcd_after m (as-text (fours k n))) (digit-more n k)
     ∙ number-again k n (rest-small (nat_lt d 10) (all-small (fours k n)) small)
 
 -- ---- characters up to zeros at the end
@@ -79,7 +79,7 @@ number-again (suc k) n small =
 only-zeros : (bs : List ℕ) → is_plain_from true bs ≡ true → bs ≡ replicate (length bs) 0
 only-zeros [] e = refl
 only-zeros (b ∷ bs) e =
-    elim (b == 0) as (λ t. (b == 0) ≡ t → cond t (is_plain_from true bs) (cond true false (is_visible b && is_plain_from false bs)) ≡ true → b ∷ bs ≡ replicate (suc (length bs)) 0) [
+    elim (b == 0) as (λ t. (b == 0) ≡ t → cond t (is_plain_from true bs) (cond true false (is_printable b && is_plain_from false bs)) ≡ true → b ∷ bs ≡ replicate (suc (length bs)) 0) [
       | true ↦ λ z f. let zero-here : b ≡ 0 = eqb-true b 0 z in let rest : bs ≡ replicate (length bs) 0 = only-zeros bs f in cc
       | false ↦ λ z f. cc
     ] refl e
@@ -88,7 +88,7 @@ all-zeros : (b : ℕ) (bs : List ℕ) → b ≡ 0 → is_plain_from true bs ≡ 
 all-zeros b bs z f = let rest : bs ≡ replicate (length bs) 0 = only-zeros bs f in cc
 
 abbrev pub IsSplit : List ℕ → Type 0
-IsSplit bs = (vs : List ℕ) × (z : ℕ) × (bs ≡ vs ++ replicate z 0) × (list_all is_visible vs ≡ true)
+IsSplit bs = (vs : List ℕ) × (z : ℕ) × (bs ≡ vs ++ replicate z 0) × (list_all is_printable vs ≡ true)
 
 pub both-true : (a b : Bool) → a ≡ true → b ≡ true → a && b ≡ true
 both-true true b e f = f
@@ -97,9 +97,9 @@ both-true false b e f = e
 pub plain-split : (bs : List ℕ) → is_plain_from false bs ≡ true → IsSplit bs
 plain-split [] e = ([], 0, refl, refl)
 plain-split (b ∷ bs) e =
-    elim (b == 0) as (λ t. (b == 0) ≡ t → cond t (is_plain_from true bs) (cond false false (is_visible b && is_plain_from false bs)) ≡ true → IsSplit (b ∷ bs)) [
+    elim (b == 0) as (λ t. (b == 0) ≡ t → cond t (is_plain_from true bs) (cond false false (is_printable b && is_plain_from false bs)) ≡ true → IsSplit (b ∷ bs)) [
       | true ↦ λ z f. ([], suc (length bs), all-zeros b bs (eqb-true b 0 z) f, refl)
       | false ↦ λ z f. (
-          let rest : IsSplit bs = plain-split bs (rest-small (is_visible b) (is_plain_from false bs) f) in
-          (b ∷ rest.0, rest.1, ap (λ cs. b ∷ cs) rest.2, both-true (is_visible b) (list_all is_visible rest.0) (first-small (is_visible b) (is_plain_from false bs) f) rest.3))
+          let rest : IsSplit bs = plain-split bs (rest-small (is_printable b) (is_plain_from false bs) f) in
+          (b ∷ rest.0, rest.1, ap (λ cs. b ∷ cs) rest.2, both-true (is_printable b) (list_all is_printable rest.0) (first-small (is_printable b) (is_plain_from false bs) f) rest.3))
     ] refl e

@@ -13,7 +13,7 @@ use Rattle.lin_ldf.specs.declared.fault.LdfFault.{LdfFault}
 use Rattle.lin_ldf.specs.declared.fault.LdfFault.TheVariants.{OutOfMemory}
 use Rattle.lin_ldf.specs.declared.token.TokenKind.TheVariants.{OpenBrace, CloseBrace, Semicolon}
 use Rattle.lin_values.specs.Passed.{has_line}
-use Rattle.lin_values.specs.Statements.{behind, behind_statement, is_group, statements, statements_at}
+use Rattle.lin_values.specs.Statements.{tokens_left, behind_statement, is_group, statements, statements_at}
 use Rattle.lin_values.proofs.ReadingSteps.{tokens-are}
 use Rattle.lin_values.proofs.FormsTaking.{Leaves, after, keeping, taking}
 
@@ -45,7 +45,7 @@ list-leaves ts =
           after (length ts) ((mark Semicolon).read a.1) (λ b. Some (a.0, b.1)) (fewer (length a.1) (length ts) ((mark Semicolon).read a.1) kept (taking (mark Semicolon).read (mark_takes Semicolon).shrinks a.1)) (λ b less. less)
     ] refl
 
-behind-shorter : (t : Symbol) (ts : List Symbol) (o : Option (Unit {0} × List Symbol)) → Leaves (length (t ∷ ts)) o → length (behind o) < length (t ∷ ts)
+behind-shorter : (t : Symbol) (ts : List Symbol) (o : Option (Unit {0} × List Symbol)) → Leaves (length (t ∷ ts)) o → length (tokens_left o) < length (t ∷ ts)
 behind-shorter t ts None less = omega arith
 behind-shorter t ts (Some read) less = less
 
@@ -54,7 +54,7 @@ statement-shorter [] h = absurd cc
 statement-shorter (t ∷ ts) h =
     let g : Leaves (length (t ∷ ts)) (group.read ts) = group-leaves (length (t ∷ ts)) ts (omega arith) in
     let l : Leaves (length (t ∷ ts)) (list.read (t ∷ ts)) = list-leaves (t ∷ ts) in
-    elim (is_group (t ∷ ts)) as (λ b. length (behind (cond b (group.read ts) (list.read (t ∷ ts)))) < length (t ∷ ts)) [
+    elim (is_group (t ∷ ts)) as (λ b. length (tokens_left (cond b (group.read ts) (list.read (t ∷ ts)))) < length (t ∷ ts)) [
       | true ↦ behind-shorter t ts (group.read ts) g
       | false ↦ behind-shorter t ts (list.read (t ∷ ts)) l
     ]

@@ -9,8 +9,8 @@ use Rattle.lin_ldf.specs.Symbols.{Symbol, is_kind}
 use Rattle.lin_ldf.specs.Words.{is_word_next}
 use Rattle.lin_ldf.specs.declared.token.TokenKind.TheVariants.{Word, CloseBrace, Semicolon}
 use Rattle.lin_values.specs.Mentioned.{has_word}
-use Rattle.lin_values.specs.Passed.{has_line, behind_line, behind_lines, behind_closing, behind_group, depth_behind, steps_while}
-use Rattle.lin_values.specs.Reading.{repeated}
+use Rattle.lin_values.specs.Passed.{has_line, behind_line, behind_lines, behind_closing, behind_group, brace_depth, steps_while}
+use Rattle.lin_values.specs.Reading.{through_lines}
 use Rattle.lin_values.proofs.Repeating.{steps-hold}
 
 -- ---- a word that no token is
@@ -41,11 +41,11 @@ module _ (P : List Symbol → Type 0) (behind : (ts : List Symbol) → P ts → 
   pub line-holds : (n : ℕ) (ts : List Symbol) → P ts → P (behind_line n ts)
   line-holds n [] holds = holds
   line-holds n (t ∷ ts) holds =
-      elim (n == 0 && is_kind CloseBrace t.kind) as (λ b. P (cond b (t ∷ ts) (cond (n == 0 && is_kind Semicolon t.kind) ts (behind_line (depth_behind n t.kind) ts)))) [
+      elim (n == 0 && is_kind CloseBrace t.kind) as (λ b. P (cond b (t ∷ ts) (cond (n == 0 && is_kind Semicolon t.kind) ts (behind_line (brace_depth n t.kind) ts)))) [
         | true ↦ holds
-        | false ↦ elim (n == 0 && is_kind Semicolon t.kind) as (λ b. P (cond b ts (behind_line (depth_behind n t.kind) ts))) [
+        | false ↦ elim (n == 0 && is_kind Semicolon t.kind) as (λ b. P (cond b ts (behind_line (brace_depth n t.kind) ts))) [
           | true ↦ behind (t ∷ ts) holds
-          | false ↦ line-holds (depth_behind n t.kind) ts (behind (t ∷ ts) holds)
+          | false ↦ line-holds (brace_depth n t.kind) ts (behind (t ∷ ts) holds)
         ]
       ]
 
@@ -59,7 +59,7 @@ module _ (P : List Symbol → Type 0) (behind : (ts : List Symbol) → P ts → 
   group-holds ts holds =
       closing-holds (behind_lines (tail ts)) (steps-hold P has_line (behind_line 0) (line-holds 0) (length (tail ts)) (tail ts) (behind ts holds))
 
-  pub repeated-leaves : {S : Type 0} (s : S) (line : List Symbol × S → List Symbol × S) → ((x : List Symbol × S) → Leaves P s x → Leaves P s (line x)) → (x : List Symbol × S) → Leaves P s x → Leaves P s (repeated line x)
+  pub repeated-leaves : {S : Type 0} (s : S) (line : List Symbol × S → List Symbol × S) → ((x : List Symbol × S) → Leaves P s x → Leaves P s (line x)) → (x : List Symbol × S) → Leaves P s x → Leaves P s (through_lines line x)
   repeated-leaves {S} s line leaves x holds =
       let y = steps_while (length x.0) (λ (z : List Symbol × S). has_line z.0) line x in
       let left : Leaves P s y = steps-hold (Leaves P s) (λ z. has_line z.0) line leaves (length x.0) x holds in

@@ -9,13 +9,13 @@ use Rattle.lin_ldf.specs.Loops.{is_next}
 use Rattle.lin_ldf.specs.Symbols.{Symbol}
 use Rattle.lin_ldf.specs.Words.{name_of}
 use Rattle.lin_ldf.specs.declared.token.TokenKind.TheVariants.{Word, OpenBrace}
-use Rattle.lin_values.specs.Configured.{with_attribute, listed_names, listed, with_listed, with_block, with_blocks, configurables}
+use Rattle.lin_values.specs.Configured.{with_attribute, listed_names, with_frame_list, with_listed, with_node_block, with_blocks, configurables}
 use Rattle.lin_values.specs.Configured as configured
 use Rattle.lin_values.specs.Mentioned.{has_word}
 use Rattle.lin_values.specs.Passed.{behind_line, behind_group}
 use Rattle.lin_values.specs.Reading.{with_types, with_lines, nothing_read, codings}
 use Rattle.lin_values.specs.Reading as reading
-use Rattle.lin_values.specs.declared.items.Codings.{Codings}
+use Rattle.lin_values.specs.declared.codings.Codings.{Codings}
 use Rattle.lin_values.proofs.Repeating.{steps-hold}
 use Rattle.lin_values.proofs.Unmentioned.{Leaves, not-front, not-behind, not-next, line-holds, group-holds, either-leaves, repeated-leaves}
 
@@ -39,15 +39,15 @@ attribute-leaves x holds =
 listed-leaves : (ts : List Symbol) → Unlisted ts → Leaves Unlisted [] (listed_names ts)
 listed-leaves ts holds = repeated-leaves Unlisted behind-unlisted [] with_attribute attribute-leaves (tail ts, []) (behind-unlisted ts holds, refl)
 
-block-leaves : (x : List Symbol × List Configurable) → Leaves Unlisted [] x → Leaves Unlisted [] (with_block x)
+block-leaves : (x : List Symbol × List Configurable) → Leaves Unlisted [] x → Leaves Unlisted [] (with_node_block x)
 block-leaves x holds =
     let left : Unlisted (tail x.0) = behind-unlisted x.0 holds.0 in
     let names : Leaves Unlisted [] (listed_names (tail x.0)) = listed-leaves (tail x.0) left in
-    let none : listed (name_of (front x.0)) (listed_names (tail x.0)).1 x.1 ≡ [] = ap (λ ns. listed (name_of (front x.0)) ns x.1) names.1 ∙ holds.1 in
+    let none : with_frame_list (name_of (front x.0)) (listed_names (tail x.0)).1 x.1 ≡ [] = ap (λ ns. with_frame_list (name_of (front x.0)) ns x.1) names.1 ∙ holds.1 in
     either-leaves Unlisted [] (is_next OpenBrace (tail x.0)) (with_listed (name_of (front x.0)) (listed_names (tail x.0)) x.1) (behind_line 0 (tail x.0), x.1) (names.0, none) (line-holds Unlisted behind-unlisted 0 (tail x.0) left, holds.1)
 
 blocks-leave : (ts : List Symbol) (cs : List Configurable) → Unlisted ts → cs ≡ [] → Leaves Unlisted [] (with_blocks ts cs)
-blocks-leave ts cs holds none = repeated-leaves Unlisted behind-unlisted [] with_block block-leaves (tail ts, cs) (behind-unlisted ts holds, none)
+blocks-leave ts cs holds none = repeated-leaves Unlisted behind-unlisted [] with_node_block block-leaves (tail ts, cs) (behind-unlisted ts holds, none)
 
 attributes-leave : (x : List Symbol × List Configurable) → Leaves Unlisted [] x → Leaves Unlisted [] (configured.with_statement x)
 attributes-leave x holds =

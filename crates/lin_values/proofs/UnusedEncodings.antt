@@ -14,11 +14,11 @@ use Rattle.lin_parts.specs.declared.description.Signal.{Signal}
 use Rattle.lin_values.proofs.ItemSteps.{told-step}
 use Rattle.lin_values.specs.Coded.{is_named, named_in}
 use Rattle.lin_values.specs.Gathered.{encoding_in, type_number, AreNamed}
-use Rattle.lin_values.specs.Unused.{encoding_number, is_number, unused_encoding}
+use Rattle.lin_values.specs.Unused.{encoding_number, is_raw_number, unused_encoding}
 use Rattle.lin_values.specs.Warnings.{told_by}
-use Rattle.lin_values.specs.declared.items.CodedLine.{CodedLine}
-use Rattle.lin_values.specs.declared.items.CodingType.{CodingType}
-use Rattle.lin_values.specs.declared.items.Codings.{Codings}
+use Rattle.lin_values.specs.declared.codings.CodedLine.{CodedLine}
+use Rattle.lin_values.specs.declared.codings.CodingType.{CodingType}
+use Rattle.lin_values.specs.declared.codings.Codings.{Codings}
 use denote.Ref.{Bor}
 
 -- the encoding of a signal, by its name
@@ -30,12 +30,12 @@ number-same : {S : Type 0} (k : Codings) (m : IndexMap (Bor (List ℕ)) (Option 
 number-same k m named s = ap (option_and_then (λ e. e)) (named s.name.text) ∙ joined k.types (find (is_named s.name.text) (named_in k.lines))
 
 -- a type more
-pub unused-step : {S : Type 0} (d : Description) (k : Codings) (m : IndexMap (Bor (List ℕ)) (Option ℕ) S) (ts : List CodingType) (ls : List CodedLine) (ss : List Signal) (i : ℕ) (t : CodingType) (is_used is_unused : Bool) (f : Finding) (old now : List Finding) → ts ≡ k.types → ls ≡ k.lines → ss ≡ d.signals → i < length ts → t ≡ get_or ts i t → AreNamed ts (named_in ls) m → is_used ≡ list_any (λ s. is_number i (encoding_in m s.name.text)) ss → is_unused ≡ not is_used → f ≡ at_name UnusedEncoding t.name → old ≡ told_by (unused_encoding d k) [] (take i ts) → now ≡ old ++ when is_unused f → now ≡ told_by (unused_encoding d k) [] (take (i + 1) ts)
+pub unused-step : {S : Type 0} (d : Description) (k : Codings) (m : IndexMap (Bor (List ℕ)) (Option ℕ) S) (ts : List CodingType) (ls : List CodedLine) (ss : List Signal) (i : ℕ) (t : CodingType) (is_used is_unused : Bool) (f : Finding) (old now : List Finding) → ts ≡ k.types → ls ≡ k.lines → ss ≡ d.signals → i < length ts → t ≡ get_or ts i t → AreNamed ts (named_in ls) m → is_used ≡ list_any (λ s. is_raw_number i (encoding_in m s.name.text)) ss → is_unused ≡ not is_used → f ≡ at_name UnusedEncoding t.name → old ≡ told_by (unused_encoding d k) [] (take i ts) → now ≡ old ++ when is_unused f → now ≡ told_by (unused_encoding d k) [] (take (i + 1) ts)
 unused-step d k m ts ls ss i t is_used is_unused f old now types lines signals lt is named used unused at so here =
     let named-here : AreNamed k.types (named_in k.lines) m = subst (λ (tl : List CodingType × List CodedLine). AreNamed tl.0 (named_in tl.1) m) (λ j. (types j, lines j)) named in
-    let same : is_used ≡ list_any (λ s. is_number (length (take i ts)) (encoding_number k s)) d.signals =
-    used ∙ ap (list_any (λ s. is_number i (encoding_in m s.name.text))) signals
-    ∙ (λ j. list_any (λ s. is_number i (number-same k m named-here s j)) d.signals)
-    ∙ ap (λ n. list_any (λ s. is_number n (encoding_number k s)) d.signals) (sym (length-take-le i ts (omega arith))) in
+    let same : is_used ≡ list_any (λ s. is_raw_number (length (take i ts)) (encoding_number k s)) d.signals =
+    used ∙ ap (list_any (λ s. is_raw_number i (encoding_in m s.name.text))) signals
+    ∙ (λ j. list_any (λ s. is_raw_number i (number-same k m named-here s j)) d.signals)
+    ∙ ap (λ n. list_any (λ s. is_raw_number n (encoding_number k s)) d.signals) (sym (length-take-le i ts (omega arith))) in
     told-step (unused_encoding d k) ts i t [] old now (when is_unused f) lt is so here
     ((λ j. when (unused j) (at j)) ∙ ap (λ b. when (not b) (at_name UnusedEncoding t.name)) same)

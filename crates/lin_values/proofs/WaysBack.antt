@@ -19,20 +19,20 @@ use Rattle.lin_values.specs.Coded.{all_codings, all_items, has_value, in_range, 
 use Rattle.lin_values.specs.Layers.{in_span, IsSomeSpan}
 use Rattle.lin_values.specs.Meaning.{bcd_digits, by_item, coded_meaning, digits_meaning, first_some, meaning, meaning_by, meaning_in, named_or_number, numeric_meaning}
 use Rattle.lin_values.specs.Meant.{Meant, Named, Number, Physical, Digits, Letters}
-use Rattle.lin_values.specs.Raws.{coded_raws, decimals_of, has_text, in_spans, is_coded, is_decimal, is_exactly, is_number, is_this, is_value, lies_within, has_raw, has_unit, means_text, raws_of, raws_within, sought_item, sought_of, sought_range, sought_raw, sought_value, unit_behind}
+use Rattle.lin_values.specs.Raws.{coded_raws, decimals_of, value_has_text, in_spans, is_coded, is_decimal_within, is_exactly, is_number_without_unit, is_this, is_value, lies_within, has_raw, has_unit, means_text, raws_of, raws_within, sought_item, sought_of, sought_range, sought_raw, sought_value, unit_behind}
 use Rattle.lin_values.specs.Read.{number_and_unit}
-use Rattle.lin_values.specs.Value.{value, IsReadable}
+use Rattle.lin_values.specs.Value.{scaled_value, IsReadable}
 use Rattle.lin_values.specs.declared.decimals.Decimal.{Decimal}
 use Rattle.lin_values.proofs.Powers.{readable-units}
 use Rattle.lin_values.proofs.ShortestAgain.{size-of}
 use Rattle.lin_values.proofs.OnlyRaw.{value-same}
-use Rattle.lin_values.specs.Warnings.{most_of}
+use Rattle.lin_values.specs.Warnings.{greatest_raw}
 use Rattle.lin_values.specs.declared.encoding.Coding.{Coding}
 use Rattle.lin_values.specs.declared.encoding.Coding.TheVariants as codings
-use Rattle.lin_values.specs.declared.items.CodingType.{CodingType}
-use Rattle.lin_values.specs.declared.items.Item.{Item}
-use Rattle.lin_values.specs.declared.items.Item.TheVariants as items
-use Rattle.lin_values.specs.declared.items.PlacedItem.{PlacedItem}
+use Rattle.lin_values.specs.declared.codings.CodingType.{CodingType}
+use Rattle.lin_values.specs.declared.codings.Item.{Item}
+use Rattle.lin_values.specs.declared.codings.Item.TheVariants as items
+use Rattle.lin_values.specs.declared.codings.PlacedItem.{PlacedItem}
 use Rattle.lin_values.specs.declared.layers.Span.{Span}
 
 and-none : (a : Bool) → a && false ≡ false
@@ -122,8 +122,8 @@ by-encoding test text decimals unit numeric agrees g n m (Some t) = ap (λ b. m 
 pub sought-is : (test : Meant → Bool) (text : Option (List ℕ)) (decimals : Option (ℤ × ℤ)) (unit : List ℕ) → IsNumeric test → Agrees test text decimals unit
     → (k : CodedData) (s n : ℕ) → sought_of k s text decimals unit n ≡ is_value k s (Scalar n) && option_map_or test (meaning k s (Scalar n)) false
 sought-is test text decimals unit numeric agrees k s n =
-    ap (λ b. not (signal_at k s).is_array && b) (by-encoding test text decimals unit numeric agrees (signal_at k s) n (nat_le n (most_of (signal_at k s).bits)) (signal_at k s).encoding)
-    ∙ and-grouped (not (signal_at k s).is_array) (nat_le n (most_of (signal_at k s).bits)) (option_map_or test (meaning k s (Scalar n)) false)
+    ap (λ b. not (signal_at k s).is_array && b) (by-encoding test text decimals unit numeric agrees (signal_at k s) n (nat_le n (greatest_raw (signal_at k s).bits)) (signal_at k s).encoding)
+    ∙ and-grouped (not (signal_at k s).is_array) (nat_le n (greatest_raw (signal_at k s).bits)) (option_map_or test (meaning k s (Scalar n)) false)
 
 -- of arrays there are none
 array-by : (test : Meant → Bool) → IsNumeric test → (g : SignalCoding) (bs : List ℕ) (o : Option CodingType) → option_map_or test (option_and_then (λ t. meaning_in g t.items (Bytes bs)) o) false ≡ false
@@ -143,20 +143,20 @@ spans-great spans n some le = list_any_none (λ s. in_span s n) spans (All-weake
 
 -- ---- decimals from one to another
 
-pub decimal-numeric : (low high : ℤ) (unit : List ℕ) → IsNumeric (is_decimal low high unit)
+pub decimal-numeric : (low high : ℤ) (unit : List ℕ) → IsNumeric (is_decimal_within low high unit)
 decimal-numeric low high unit = (λ t. refl, λ t. refl)
 
-decimal-named : (low high : ℤ) (unit : List ℕ) (n v : ℕ) (text : List ℕ) → n == v && sought_value None (Some (low, high)) unit v text ≡ is_decimal low high unit (named_or_number n text)
+decimal-named : (low high : ℤ) (unit : List ℕ) (n v : ℕ) (text : List ℕ) → n == v && sought_value None (Some (low, high)) unit v text ≡ is_decimal_within low high unit (named_or_number n text)
 decimal-named low high unit n v [] = and-none (n == v)
 decimal-named low high unit n v (c ∷ cs) = and-none (n == v)
 
-pub decimal-agrees : (low high : ℤ) (unit : List ℕ) → Agrees (is_decimal low high unit) None (Some (low, high)) unit
+pub decimal-agrees : (low high : ℤ) (unit : List ℕ) → Agrees (is_decimal_within low high unit) None (Some (low, high)) unit
 decimal-agrees low high unit n (items.Logical v text) counts = decimal-named low high unit n v text
-decimal-agrees low high unit n (items.Physical from to scale offset u) counts = and-turned (has_unit unit u) (lies_within low high (pos n *ℤ value scale +ℤ value offset))
+decimal-agrees low high unit n (items.Physical from to scale offset u) counts = and-turned (has_unit unit u) (lies_within low high (pos n *ℤ scaled_value scale +ℤ scaled_value offset))
 decimal-agrees low high unit n items.Bcd counts = refl
 decimal-agrees low high unit n items.Ascii counts = refl
 
-most-small : (bits : ℕ) → most_of bits < 65536
+most-small : (bits : ℕ) → greatest_raw bits < 65536
 most-small bits =
     let h : 2 ^ min bits 16 ≤ 2 ^ 16 = pow_mono {j = 16} (omega arith) in
     omega arith
@@ -172,16 +172,16 @@ pub scalars-are : (spans : List Span) (k : CodedData) (s : ℕ) (b : ℕ → Boo
 scalars-are spans k s b some found n =
     elim (cases_lt n 65536) as (λ _. in_spans spans (Scalar n) ≡ is_value k s (Scalar n) && b n) [
       | inl lt ↦ found n lt
-      | inr le ↦ spans-great spans n some le ∙ sym (great-fails n (most_of (signal_at k s).bits) (not (signal_at k s).is_array) (b n) (most-small (signal_at k s).bits) le)
+      | inr le ↦ spans-great spans n some le ∙ sym (great-fails n (greatest_raw (signal_at k s).bits) (not (signal_at k s).is_array) (b n) (most-small (signal_at k s).bits) le)
     ]
 
 pub within-is : (spans : List Span) (k : CodedData) (s : ℕ) (low high : ℤ) (unit : List ℕ) → All IsSomeSpan spans
     → ((n : ℕ) → n < 65536 → list_any (λ z. in_span z n) spans ≡ sought_of k s None (Some (low, high)) unit n)
     → (v : Value) → has_raw spans None v ≡ raws_within k s low high unit v
 within-is spans k s low high unit some found (Scalar n) =
-    scalars-are spans k s (λ n. option_map_or (is_decimal low high unit) (meaning k s (Scalar n)) false) some (λ n lt. found n lt ∙ sought-is (is_decimal low high unit) None (Some (low, high)) unit (decimal-numeric low high unit) (decimal-agrees low high unit) k s n) n
+    scalars-are spans k s (λ n. option_map_or (is_decimal_within low high unit) (meaning k s (Scalar n)) false) some (λ n lt. found n lt ∙ sought-is (is_decimal_within low high unit) None (Some (low, high)) unit (decimal-numeric low high unit) (decimal-agrees low high unit) k s n) n
 within-is spans k s low high unit some found (Bytes bs) =
-    sym (and-none (is_value k s (Bytes bs))) ∙ ap (λ b. is_value k s (Bytes bs) && b) (sym (array-fails (is_decimal low high unit) (decimal-numeric low high unit) k s bs))
+    sym (and-none (is_value k s (Bytes bs))) ∙ ap (λ b. is_value k s (Bytes bs) && b) (sym (array-fails (is_decimal_within low high unit) (decimal-numeric low high unit) k s bs))
 
 -- ---- a text
 
@@ -200,8 +200,8 @@ and-same false = refl
 -- what isn't of digits or characters, by the number that a text is
 abbrev pub names : List ℕ → Option (ℤ × List ℕ) → Meant → Bool
 names text number (Named t) = bytes_eq text t
-names text number (Number n) = option_map_or (is_number n) number false
-names text number (Physical z u) = option_map_or (λ p. is_decimal p.0 p.0 p.1 (Physical z u)) number false
+names text number (Number n) = option_map_or (is_number_without_unit n) number false
+names text number (Physical z u) = option_map_or (λ p. is_decimal_within p.0 p.0 p.1 (Physical z u)) number false
 names text number (Digits t) = false
 names text number (Letters t) = false
 
@@ -218,7 +218,7 @@ exactly-none : (n : ℕ) (text : List ℕ) → is_exactly n None text ≡ false
 exactly-none n [] = refl
 exactly-none n (c ∷ cs) = refl
 
-number-exactly : (n : ℕ) (text : List ℕ) (number : Option (ℤ × List ℕ)) → is_exactly n (decimals-by number) (unit-by text number) ≡ option_map_or (is_number n) number false
+number-exactly : (n : ℕ) (text : List ℕ) (number : Option (ℤ × List ℕ)) → is_exactly n (decimals-by number) (unit-by text number) ≡ option_map_or (is_number_without_unit n) number false
 number-exactly n text None = exactly-none n text
 number-exactly n text (Some (z, [])) = and-same (unsigned_abs (z -ℤ pos (n * 10 ^ 24)) == 0)
 number-exactly n text (Some (z, (c ∷ cs))) = refl
@@ -239,16 +239,16 @@ range-named text (Some p) z u = and-turned (has_unit p.1 u) (lies_within p.0 p.0
 
 names-agrees : (text : List ℕ) (number : Option (ℤ × List ℕ)) → Agrees (names text number) (Some text) (decimals-by number) (unit-by text number)
 names-agrees text number n (items.Logical v t) counts = counted-named text number n v t counts
-names-agrees text number n (items.Physical from to scale offset u) counts = range-named text number (pos n *ℤ value scale +ℤ value offset) u
+names-agrees text number n (items.Physical from to scale offset u) counts = range-named text number (pos n *ℤ scaled_value scale +ℤ scaled_value offset) u
 names-agrees text number n items.Bcd counts = refl
 names-agrees text number n items.Ascii counts = refl
 
-either-way : (k : CodedData) (s : ℕ) (text : List ℕ) (v : Value) (m : Meant) → (is_coded m && has_text k s text v m) || names text (number_and_unit text) m ≡ has_text k s text v m
+either-way : (k : CodedData) (s : ℕ) (text : List ℕ) (v : Value) (m : Meant) → (is_coded m && value_has_text k s text v m) || names text (number_and_unit text) m ≡ value_has_text k s text v m
 either-way k s text v (Named t) = sym (and-true (bytes_eq text t))
-either-way k s text v (Number n) = sym (and-true (option_map_or (is_number n) (number_and_unit text) false))
-either-way k s text v (Physical z u) = sym (and-true (option_map_or (λ p. is_decimal p.0 p.0 p.1 (Physical z u)) (number_and_unit text) false))
-either-way k s text v (Digits t) = or-false (has_text k s text v (Digits t))
-either-way k s text v (Letters t) = or-false (has_text k s text v (Letters t))
+either-way k s text v (Number n) = sym (and-true (option_map_or (is_number_without_unit n) (number_and_unit text) false))
+either-way k s text v (Physical z u) = sym (and-true (option_map_or (λ p. is_decimal_within p.0 p.0 p.1 (Physical z u)) (number_and_unit text) false))
+either-way k s text v (Digits t) = or-false (value_has_text k s text v (Digits t))
+either-way k s text v (Letters t) = or-false (value_has_text k s text v (Letters t))
 
 both-ways : (p q r : Meant → Bool) → ((m : Meant) → p m || q m ≡ r m) → (a : Bool) (o : Option Meant) → (a && option_map_or p o false) || (a && option_map_or q o false) ≡ a && option_map_or r o false
 both-ways p q r same true None = refl
@@ -272,14 +272,14 @@ pub text-is : (spans : List Span) (coded : Option Value) (k : CodedData) (s : �
 text-is spans coded k s text some found is v =
     ap (λ b. b || in_spans spans v) (is v)
     ∙ ap (λ b. coded_raws k s text v || b) (named-in spans k s text some found v)
-    ∙ both-ways (λ m. is_coded m && has_text k s text v m) (names text (number_and_unit text)) (has_text k s text v) (either-way k s text v) (is_value k s v) (meaning k s v)
+    ∙ both-ways (λ m. is_coded m && value_has_text k s text v m) (names text (number_and_unit text)) (value_has_text k s text v) (either-way k s text v) (is_value k s v) (meaning k s v)
 
 not-both : (p q : Meant → Bool) → ((m : Meant) → p m ≡ true → q m ≡ false) → (a : Bool) (o : Option Meant) → a && option_map_or p o false ≡ true → a && option_map_or q o false ≡ false
 not-both p q apart true None e = refl
 not-both p q apart true (Some m) e = apart m e
 not-both p q apart false o e = refl
 
-coded-nameless : (k : CodedData) (s : ℕ) (text : List ℕ) (v : Value) (m : Meant) → is_coded m && has_text k s text v m ≡ true → names text (number_and_unit text) m ≡ false
+coded-nameless : (k : CodedData) (s : ℕ) (text : List ℕ) (v : Value) (m : Meant) → is_coded m && value_has_text k s text v m ≡ true → names text (number_and_unit text) m ≡ false
 coded-nameless k s text v (Named t) e = absurd (let no : false ≡ true = e in cc)
 coded-nameless k s text v (Number n) e = absurd (let no : false ≡ true = e in cc)
 coded-nameless k s text v (Physical z u) e = absurd (let no : false ≡ true = e in cc)
@@ -293,7 +293,7 @@ pub coded-apart : (spans : List Span) (coded : Option Value) (k : CodedData) (s 
 coded-apart spans coded k s text some found is v e =
     let here : coded_raws k s text v ≡ true = sym (is v) ∙ ap (λ o. is_this o v) e ∙ value-same v in
     named-in spans k s text some found v
-    ∙ not-both (λ m. is_coded m && has_text k s text v m) (names text (number_and_unit text)) (coded-nameless k s text v) (is_value k s v) (meaning k s v) here
+    ∙ not-both (λ m. is_coded m && value_has_text k s text v m) (names text (number_and_unit text)) (coded-nameless k s text v) (is_value k s v) (meaning k s v) here
 
 pub sought-here : (spans : List Span) (k : CodedData) (s : ℕ) (text : List ℕ) (t : Option (List ℕ)) (d : Option (ℤ × ℤ)) (u : List ℕ) → t ≡ Some text → d ≡ decimals_of text → u ≡ unit_behind text
     → ((n : ℕ) → n < 65536 → list_any (λ z. in_span z n) spans ≡ sought_of k s t d u n)
@@ -304,16 +304,16 @@ sought-here spans k s text t d u et ed eu found n h =
     ∙ ap (λ x. sought_of k s (Some text) x u n) ed
     ∙ ap (λ x. sought_of k s (Some text) (decimals_of text) x n) eu
 
-pub readable-wide : (d : Decimal) → IsReadable d → unsigned_abs (value d) ≤ 10 ^ 38
+pub readable-wide : (d : Decimal) → IsReadable d → unsigned_abs (scaled_value d) ≤ 10 ^ 38
 readable-wide d h =
-    let e : unsigned_abs (value d) ≡ d.digits * 10 ^ (24 - d.places) = size-of d.negative (d.digits * 10 ^ (24 - d.places)) in
+    let e : unsigned_abs (scaled_value d) ≡ d.digits * 10 ^ (24 - d.places) = size-of d.negative (d.digits * 10 ^ (24 - d.places)) in
     omega (arith, e, readable-units d.digits d.places h.0 h.1)
 
 wide-fits : (z : ℤ) → unsigned_abs z ≤ 10 ^ 38 → SFits w128 z
 wide-fits (pos a) h = omega (arith, ints)
 wide-fits (negsuc a) h = omega (arith, ints)
 
-pub wide-kept : (z : ℤ) (d : Decimal) → z ≡ value d → IsReadable d → unsigned_abs (to_z w128 (of_z w128 z)) ≤ 10 ^ 38
+pub wide-kept : (z : ℤ) (d : Decimal) → z ≡ scaled_value d → IsReadable d → unsigned_abs (to_z w128 (of_z w128 z)) ≤ 10 ^ 38
 wide-kept z d e h =
     let b : unsigned_abs z ≤ 10 ^ 38 = omega (arith, readable-wide d h, ap unsigned_abs e) in
     let k : to_z w128 (of_z w128 z) ≡ z = to_z-of_z w128 z (wide-fits z b) in

@@ -22,10 +22,10 @@ use Rattle.lin_ldf.specs.Symbols.{Symbol}
 use Rattle.lin_ldf.specs.Words.{is_word_next, place_of}
 use Rattle.lin_parts.specs.declared.description.Description.{Description}
 use Rattle.lin_parts.specs.declared.description.Name.{Name}
-use Rattle.lin_values.specs.AttributeValues.{is_one_word, is_timing, product_of, time_of}
+use Rattle.lin_values.specs.AttributeValues.{is_one_word, is_timing, product_of, milliseconds_in}
 use Rattle.lin_values.specs.FrameTimes.{longest_distance}
 use Rattle.lin_values.specs.Warnings.{told_by}
-use Rattle.lin_values.specs.declared.attributes.NodeAttributes.{NodeAttributes}
+use Rattle.lin_values.specs.declared.attribute_blocks.NodeAttributes.{NodeAttributes}
 use denote.Ref.{Bor}
 
 -- ---- 65 NoResponseError: a responder of LIN 2.x or ISO 17987 publishes a frame, and has no attribute
@@ -69,20 +69,20 @@ attribute_twice before ts = when (list_any (same_word ts) before) (at_word Attri
 
 -- 69 BadAttribute: no product identification, no time, or not one word
 
-abbrev pub is_bad : List Symbol → Bool
-is_bad ts =
+abbrev pub is_bad_attribute : List Symbol → Bool
+is_bad_attribute ts =
     if is_word_next (codes "product_id") ts then not (is_some (product_of ts))
-    else if is_timing ts then not (is_some (time_of ts))
+    else if is_timing ts then not (is_some (milliseconds_in ts))
     else is_word_next (codes "response_error") ts && not (is_one_word (tail ts))
 
 abbrev pub bad_attribute : List Symbol → List Finding
-bad_attribute ts = when (is_bad ts) (at_word BadAttribute ts)
+bad_attribute ts = when (is_bad_attribute ts) (at_word BadAttribute ts)
 
 -- 70 TimeoutTooShort: a responder with an address gives up a message before its next frame can be there
 -- (section 3.2.5)
 
 abbrev pub is_below : ℕ → List Symbol → Bool
-is_below longest ts = option_map_or (λ us. nat_lt us longest) (time_of ts) false
+is_below longest ts = option_map_or (λ us. nat_lt us longest) (milliseconds_in ts) false
 
 abbrev pub is_too_short : Description → List Symbol → Bool
 is_too_short d ts =
@@ -121,7 +121,7 @@ HasWords words before =
 
 -- a description, and what its nodes are judged by
 
-pub record AreNodes {S T U V : Type 0} (d : Description) (slaves : IndexMap (Bor (List ℕ)) ℕ S)
+pub record AreNodeFacts {S T U V : Type 0} (d : Description) (slaves : IndexMap (Bor (List ℕ)) ℕ S)
     (blocks : IndexMap (Bor (List ℕ)) ℕ T) (publishers : IndexMap (Bor (List ℕ)) V U)
     (requests responses : ℕ) : Type 0 where
   pub slave_numbers : NumbersFirst (λ n. n) d.slaves slaves

@@ -16,11 +16,11 @@ use Rattle.lin_values.specs.Stops.{◌>>=◌, mark_next, next_to, number_next, v
 
 -- ---- times: '=' DEC 'ms' ';', in microseconds
 
-abbrev pub time : Form Number
-time = equals &> dec_in (codes "ms") kinds.Semicolon
+abbrev pub milliseconds_form : Form Number
+milliseconds_form = equals &> dec_in (codes "ms") kinds.Semicolon
 
-abbrev pub time_of : List Symbol → Option ℕ
-time_of ts = option_map (λ r. r.0.value) (time.read (tail ts))
+abbrev pub milliseconds_in : List Symbol → Option ℕ
+milliseconds_in ts = option_map (λ r. r.0.value) (milliseconds_form.read (tail ts))
 
 -- whether the attribute is a time
 abbrev pub is_timing : List Symbol → Bool

@@ -4,7 +4,7 @@ use Rattle.lin_ldf.specs.Forms.{front}
 use Rattle.lin_ldf.specs.Symbols.{Symbol}
 use Rattle.lin_ldf.specs.Words.{is_word_next, name_of}
 use Rattle.lin_values.specs.Statements.{inside, is_group, statements}
-use Rattle.lin_values.specs.declared.attributes.NodeAttributes.{NodeAttributes}
+use Rattle.lin_values.specs.declared.attribute_blocks.NodeAttributes.{NodeAttributes}
 
 -- ---- each attribute by the tokens from its word on
 
@@ -16,12 +16,12 @@ block_of ts =
     else []
 
 -- the blocks of the section Node_attributes
-abbrev pub blocks_of : List Symbol → List NodeAttributes
-blocks_of ts =
+abbrev pub attribute_blocks : List Symbol → List NodeAttributes
+attribute_blocks ts =
     if is_group ts && is_word_next (codes "Node_attributes") ts
     then flat_map block_of (statements (inside ts))
     else []
 
 -- those of a text
 abbrev pub node_attributes : List Symbol → List NodeAttributes
-node_attributes ts = flat_map blocks_of (statements ts)
+node_attributes ts = flat_map attribute_blocks (statements ts)

@@ -16,13 +16,13 @@ use Rattle.lin_values.specs.declared.encoding.Coding.TheVariants as codings
 use Rattle.lin_values.specs.declared.decimals.Decimal.{Decimal}
 use Rattle.lin_values.specs.declared.encoding.Range.{Range}
 use Rattle.lin_values.specs.declared.encoding.Traits.{Traits}
-use Rattle.lin_values.specs.declared.items.CodedLine.{CodedLine}
-use Rattle.lin_values.specs.declared.items.CodingType.{CodingType}
-use Rattle.lin_values.specs.declared.items.Codings.{Codings}
-use Rattle.lin_values.specs.declared.items.Item.{Item}
-use Rattle.lin_values.specs.declared.items.Item.TheVariants.{Logical, Physical, Bcd, Ascii}
-use Rattle.lin_values.specs.declared.items.PlacedItem.{PlacedItem}
-use Rattle.lin_values.specs.declared.layers.Part.{Part}
+use Rattle.lin_values.specs.declared.codings.CodedLine.{CodedLine}
+use Rattle.lin_values.specs.declared.codings.CodingType.{CodingType}
+use Rattle.lin_values.specs.declared.codings.Codings.{Codings}
+use Rattle.lin_values.specs.declared.codings.Item.{Item}
+use Rattle.lin_values.specs.declared.codings.Item.TheVariants.{Logical, Physical, Bcd, Ascii}
+use Rattle.lin_values.specs.declared.codings.PlacedItem.{PlacedItem}
+use Rattle.lin_values.specs.declared.layers.RangePart.{RangePart}
 
 -- ---- items
 
@@ -92,8 +92,8 @@ all_ends ps = flat_map ends_of (all_items ps)
 abbrev pub is_numeric : List PlacedItem → Bool
 is_numeric ps = nat_lt 0 (length (all_ends ps))
 
-abbrev pub greatest : List PlacedItem → ℕ
-greatest ps = fold max 0 (all_ends ps)
+abbrev pub greatest_end : List PlacedItem → ℕ
+greatest_end ps = fold max 0 (all_ends ps)
 
 -- digits and characters, in the order of the items
 abbrev pub codings_of : Item → List Coding
@@ -123,10 +123,10 @@ second_coding ps =
     (first_coding ps)
 
 -- what an encoding keeps of its items
-pub record IsIndexed (c : CodingType) (t : Traits) (parts : List Part) : Type 0 where
+pub record IsIndexed (c : CodingType) (t : Traits) (parts : List RangePart) : Type 0 where
   pub numeric : t.is_numeric ≡ is_numeric c.items
   pub range : t.has_range ≡ list_any is_range (all_items c.items)
-  pub greatest : t.greatest ≡ greatest c.items
+  pub greatest : t.greatest ≡ greatest_end c.items
   pub first : t.first ≡ first_coding c.items
   pub second : t.second ≡ second_coding c.items
   pub ordered : AreInOrder parts
@@ -163,8 +163,8 @@ abbrev pub signal_coding : Codings → Signal → SignalCoding
 signal_coding k s =
     record { bits = s.size; is_array = is_array s.initial; encoding = encoding_by k s }
 
-abbrev pub coded : Parts → Codings → CodedData
-coded c k = record { signals = map (signal_coding k) c.signals }
+abbrev pub coded_signals : Parts → Codings → CodedData
+coded_signals c k = record { signals = map (signal_coding k) c.signals }
 
 -- out of range: a signal of one bit without an encoding
 abbrev pub signal_at : CodedData → ℕ → SignalCoding

@@ -12,9 +12,9 @@ use Rattle.lin_values.specs.Real.{real_units}
 use Rattle.lin_values.specs.Texts.{shown_text}
 use Rattle.lin_values.specs.Value.{shortest}
 use Rattle.lin_values.specs.declared.decimals.Decimal.{Decimal}
-use Rattle.lin_values.specs.declared.items.CodedLine.{CodedLine}
-use Rattle.lin_values.specs.declared.items.Item.{Item}
-use Rattle.lin_values.specs.declared.items.Item.TheVariants as items
+use Rattle.lin_values.specs.declared.codings.CodedLine.{CodedLine}
+use Rattle.lin_values.specs.declared.codings.Item.{Item}
+use Rattle.lin_values.specs.declared.codings.Item.TheVariants as items
 
 -- V = INT up to 65,535
 abbrev pub small : List Symbol → Option (ℕ × List Symbol)
@@ -27,14 +27,14 @@ next_small ts = (mark kinds.Comma).read ts >>= λ u. small u.1
 
 -- ---- REAL
 
-abbrev pub is_mark : List ℕ → List Symbol → Bool
-is_mark w ts = is_front (λ t. is_kind kinds.Other t.kind && bytes_eq t.text w) ts
+abbrev pub is_mark_next : List ℕ → List Symbol → Bool
+is_mark_next w ts = is_front (λ t. is_kind kinds.Other t.kind && bytes_eq t.text w) ts
 
 -- whether a `-` is next; it, or a `+`, is passed over
 abbrev pub sign : List Symbol → Bool × List Symbol
 sign ts =
-    if is_mark (codes "-") ts then (true, tail ts)
-    else if is_mark (codes "+") ts then (false, tail ts)
+    if is_mark_next (codes "-") ts then (true, tail ts)
+    else if is_mark_next (codes "+") ts then (false, tail ts)
     else (false, ts)
 
 abbrev pub may_be_part : Symbol → Bool

@@ -41,9 +41,9 @@ more_bytes bytes least (suc most) ts =
     else next_to 255 ts >>= λ b. more_bytes (bytes ++ b.0 ∷ []) (least - 1) most b.1
 
 -- what a call read is all these bytes
-abbrev pub ReadsBytes : Result (Unit {0}) LdfFault → List Number → List Symbol → Reading (List Number) → Type 0
-ReadsBytes (Ok u) bytes left reading = reading ≡ Ok (bytes, left)
-ReadsBytes (Err e) bytes left reading = StopsAt e left reading
+abbrev pub ReadsMoreBytes : Result (Unit {0}) LdfFault → List Number → List Symbol → Reading (List Number) → Type 0
+ReadsMoreBytes (Ok u) bytes left reading = reading ≡ Ok (bytes, left)
+ReadsMoreBytes (Err e) bytes left reading = StopsAt e left reading
 
 -- WORD ',' WORD '}'
 abbrev pub frame_arguments : List Symbol → Reading Arguments

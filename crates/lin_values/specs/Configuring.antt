@@ -12,14 +12,14 @@ use Rattle.lin_ldf.specs.Forms.{front}
 use Rattle.lin_ldf.specs.Symbols.{Symbol}
 use Rattle.lin_ldf.specs.Words.{is_word_next, name_of, place_of}
 use Rattle.lin_parts.specs.Cluster.{nad, node_of, nodes}
-use Rattle.lin_parts.specs.Configured.{configured}
+use Rattle.lin_parts.specs.Configured.{with_configuration}
 use Rattle.lin_parts.specs.declared.parts.Identity.{Identity}
 use Rattle.lin_parts.specs.declared.parts.Parts.{Parts}
 use Rattle.lin_values.specs.Attributes.{node_attributes}
 use Rattle.lin_values.specs.Commands.{arguments, command_of}
 use Rattle.lin_values.specs.Identities.{identities_of, warnings_unless}
-use Rattle.lin_values.specs.Lines.{lines}
-use Rattle.lin_values.specs.Requests.{frames_in, identity_named, initial_of, odd_arguments, request}
+use Rattle.lin_values.specs.Lines.{token_lines}
+use Rattle.lin_values.specs.Requests.{frames_in, identity_named, initial_nad_of, odd_arguments, request}
 use Rattle.lin_values.specs.Statements.{inside, is_group, statements}
 use Rattle.lin_values.specs.Stops.{stopped_at, value_read, Reading}
 use Rattle.lin_values.specs.declared.commands.Arguments.{Arguments}
@@ -74,13 +74,13 @@ table_requests c ids ts =
     if is_group ts
     then record {
       name = name_of (front ts);
-      requests = map (entry_request c ids) (lines (inside ts));
+      requests = map (entry_request c ids) (token_lines (inside ts));
     } ∷ []
     else []
 
-abbrev pub table_warnings : Parts → List NodeIdentity → List Symbol → List Finding
-table_warnings c ids ts =
-    if is_group ts then flat_map (entry_warnings c ids) (lines (inside ts)) else []
+abbrev pub table_command_warnings : Parts → List NodeIdentity → List Symbol → List Finding
+table_command_warnings c ids ts =
+    if is_group ts then flat_map (entry_warnings c ids) (token_lines (inside ts)) else []
 
 abbrev pub section_requests : Parts → List NodeIdentity → List Symbol → List TableRequests
 section_requests c ids ts =
@@ -90,7 +90,7 @@ section_requests c ids ts =
 abbrev pub section_warnings : Parts → List NodeIdentity → List Symbol → List Finding
 section_warnings c ids ts =
     if is_group ts && is_word_next (codes "Schedule_tables") ts
-    then flat_map (table_warnings c ids) (statements (inside ts)) else []
+    then flat_map (table_command_warnings c ids) (statements (inside ts)) else []
 
 -- ---- the requests of the tables of a cluster, by their names
 abbrev pub table_named : List TableRequests → List ℕ → Option TableRequests
@@ -106,7 +106,7 @@ requests_in c tables = map (λ t. requests_named tables t.name) c.tables
 abbrev pub identity_in : Parts → List NodeIdentity → ℕ → ℕ → Identity
 identity_in c ids n own = record {
   node = n;
-  initial = initial_of ids (node_of c n).name own;
+  initial = initial_nad_of ids (node_of c n).name own;
   product = option_and_then (λ i. i.product) (identity_named ids (node_of c n).name);
   messages = map (λ f. f.message) (frames_in ids (node_of c n).name);
 }
@@ -122,7 +122,7 @@ identities_in c ids = flat_map (identity_at c ids) (drop 1 (numbers (nodes c)))
 abbrev pub configured_by : Parts → List Symbol → Parts
 configured_by c ts =
     let ids = identities_by c ts
-    in configured c (identities_in c ids)
+    in with_configuration c (identities_in c ids)
     (requests_in c (flat_map (section_requests c ids) (statements ts)))
 
 abbrev pub warnings_by : Parts → List Symbol → List Finding

@@ -15,34 +15,34 @@ use Rattle.lin_parts.specs.declared.parts.Signal.{Signal}
 use Rattle.lin_parts.specs.declared.description.Name.{Name}
 use Rattle.lin_values.specs.Coded.{is_named}
 use Rattle.lin_values.specs.Traits.{has_coding}
-use Rattle.lin_values.specs.Warnings.{kind_warnings, line_warnings, most_of, name_warnings, told_by}
+use Rattle.lin_values.specs.Warnings.{kind_warnings, representation_warnings, greatest_raw, name_warnings, told_by}
 use Rattle.lin_values.specs.Warnings.{type_warning}
 use Rattle.lin_values.specs.declared.coded.CodedSignal.{CodedSignal}
 use Rattle.lin_values.specs.declared.encoding.Coding.TheVariants.{Bcd, Ascii}
 use Rattle.lin_values.specs.declared.encoding.Traits.{Traits}
-use Rattle.lin_values.specs.declared.items.CodedLine.{CodedLine}
-use Rattle.lin_values.specs.declared.items.CodingType.{CodingType}
-use Rattle.lin_values.specs.declared.items.Codings.{Codings}
+use Rattle.lin_values.specs.declared.codings.CodedLine.{CodedLine}
+use Rattle.lin_values.specs.declared.codings.CodingType.{CodingType}
+use Rattle.lin_values.specs.declared.codings.Codings.{Codings}
 use denote.Ref.{Bor}
 
 -- ---- signals
 
-abbrev pub uncoded : Signal → CodedSignal
-uncoded s = record { bits = s.size; is_array = is_array s.initial; encoding = None }
+abbrev pub signal_without_coding : Signal → CodedSignal
+signal_without_coding s = record { bits = s.size; is_array = is_array s.initial; encoding = None }
 
 -- the first signal with each name
-abbrev pub AreSignals : {S : Type 0} → Parts → IndexMap (Bor (List ℕ)) CodedSignal S → Type 0
-AreSignals c m =
+abbrev pub AreSignalsByName : {S : Type 0} → Parts → IndexMap (Bor (List ℕ)) CodedSignal S → Type 0
+AreSignalsByName c m =
     (q : List ℕ)
     → get_by (λ k. bytes_eq q k.now) m
-    ≡ option_map uncoded (find (λ s. bytes_eq s.name q) c.signals)
+    ≡ option_map signal_without_coding (find (λ s. bytes_eq s.name q) c.signals)
 
 -- the number of the encoding that a name has
 abbrev pub encoding_in : {S : Type 0} → IndexMap (Bor (List ℕ)) (Option ℕ) S → List ℕ → Option ℕ
 encoding_in m name = option_and_then (λ e. e) (get_by (λ k. bytes_eq name k.now) m)
 
 abbrev pub signal_in : {S : Type 0} → IndexMap (Bor (List ℕ)) (Option ℕ) S → Signal → CodedSignal
-signal_in m s = record (uncoded s) { encoding = encoding_in m s.name }
+signal_in m s = record (signal_without_coding s) { encoding = encoding_in m s.name }
 
 abbrev pub is_other_kind : Traits → CodedSignal → Bool
 is_other_kind t s =
@@ -51,7 +51,7 @@ is_other_kind t s =
 
 abbrev pub told_of_kind : Traits → CodedSignal → Name → List Finding
 told_of_kind t s n =
-    when (not s.is_array && (t.is_numeric && nat_lt (most_of s.bits) t.greatest))
+    when (not s.is_array && (t.is_numeric && nat_lt (greatest_raw s.bits) t.greatest))
     (at_name finding.ValueOutside n)
     ++ when (is_other_kind t s) (at_name finding.KindOfSignal n)
 
@@ -73,7 +73,7 @@ pub record IsDeclared {S R : Type 0} (c : Parts) (ts : List CodingType)
     (by_name : IndexMap (Bor (List ℕ)) ℕ S) (named : IndexMap (Bor (List ℕ)) CodedSignal R)
     : Type 0 where
   pub types : NumbersFirst (λ t. t.name) ts by_name
-  pub signals : AreSignals c named
+  pub signals : AreSignalsByName c named
 
 -- ---- lines
 
@@ -100,11 +100,11 @@ kind_told (Some t) s n =
 abbrev pub name_told : Bool → Option CodingType → Name → Option Signal → List Finding
 name_told is_first t n None = at_name finding.UnknownSignal n ∷ []
 name_told is_first t n (Some s) =
-    if is_first then kind_told t (uncoded s) n else at_name finding.RepresentedTwice n ∷ []
+    if is_first then kind_told t (signal_without_coding s) n else at_name finding.RepresentedTwice n ∷ []
 
 abbrev pub line_told : Parts → List CodingType → List (Name × Name) → CodedLine → List Finding
 line_told c ts before l =
-    line_warnings (lines_of ts []) l
+    representation_warnings (lines_of ts []) l
     ++ told_by (name_warnings c (lines_of ts [])) before (names_of l)
 
 abbrev pub lines_told : Parts → List CodingType → List (Name × Name) → List CodedLine

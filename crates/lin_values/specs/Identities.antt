@@ -13,10 +13,10 @@ use Rattle.lin_ldf.specs.Words.{is_word_next}
 use Rattle.lin_ldf.specs.declared.token.TokenKind.TheVariants as kinds
 use Rattle.lin_parts.specs.declared.parts.Product.{Product}
 use Rattle.lin_values.specs.AttributeValues.{product_id}
-use Rattle.lin_values.specs.Lines.{lines}
-use Rattle.lin_values.specs.Stops.{◌>>=◌, mark_next, number_next, stopped, stopped_at, value_read}
+use Rattle.lin_values.specs.Lines.{token_lines}
+use Rattle.lin_values.specs.Stops.{◌>>=◌, mark_next, number_next, findings_at_stop, stopped_at, value_read}
 use Rattle.lin_values.specs.Stops.{Reading}
-use Rattle.lin_values.specs.declared.attributes.NodeAttributes.{NodeAttributes}
+use Rattle.lin_values.specs.declared.attribute_blocks.NodeAttributes.{NodeAttributes}
 use Rattle.lin_values.specs.declared.identities.ConfigurableFrame.{ConfigurableFrame}
 use Rattle.lin_values.specs.declared.identities.NodeIdentity.{NodeIdentity}
 
@@ -31,7 +31,7 @@ product_in attributes = option_and_then value_read (product_read attributes)
 
 -- a warning at the token at which reading stopped
 abbrev pub product_warnings : List (List Symbol) → List Finding
-product_warnings attributes = option_map_or (stopped BadIdentity) (product_read attributes) []
+product_warnings attributes = option_map_or (findings_at_stop BadIdentity) (product_read attributes) []
 
 -- ---- initial_NAD = NAD ;
 -- 1 to 127, but for the functional address 126, at which reading stops
@@ -55,7 +55,7 @@ abbrev pub initial_in : List (List Symbol) → Option ℕ
 initial_in attributes = option_and_then value_read (initial_read attributes)
 
 abbrev pub initial_warnings : List (List Symbol) → List Finding
-initial_warnings attributes = option_map_or (stopped BadIdentity) (initial_read attributes) []
+initial_warnings attributes = option_map_or (findings_at_stop BadIdentity) (initial_read attributes) []
 
 -- ---- configurable_frames { { WORD ; | WORD = message ; }* }
 -- after the name of a frame
@@ -87,24 +87,24 @@ configurable_frame ts = record {
   message = unwrap_or (value_read (line_read ts)) None;
 }
 
-abbrev pub line_warnings : List Symbol → List Finding
-line_warnings ts = stopped BadIdentity (line_read ts)
+abbrev pub frame_line_warnings : List Symbol → List Finding
+frame_line_warnings ts = findings_at_stop BadIdentity (line_read ts)
 
 abbrev pub is_list : List Symbol → Bool
 is_list ts = is_word_next (codes "configurable_frames") ts
 
 -- the frames of an attribute
-abbrev pub frames_of : List Symbol → List ConfigurableFrame
-frames_of ts =
+abbrev pub attribute_frames : List Symbol → List ConfigurableFrame
+attribute_frames ts =
     if is_list ts
-    then (if is_next kinds.OpenBrace (tail ts) then map configurable_frame (lines (tail (tail ts)))
+    then (if is_next kinds.OpenBrace (tail ts) then map configurable_frame (token_lines (tail (tail ts)))
     else [])
     else []
 
-abbrev pub frame_warnings : List Symbol → List Finding
-frame_warnings ts =
+abbrev pub frame_list_warnings : List Symbol → List Finding
+frame_list_warnings ts =
     if is_list ts
-    then (if is_next kinds.OpenBrace (tail ts) then flat_map line_warnings (lines (tail (tail ts)))
+    then (if is_next kinds.OpenBrace (tail ts) then flat_map frame_line_warnings (token_lines (tail (tail ts)))
     else stopped_at BadIdentity (tail ts))
     else []
 
@@ -114,19 +114,19 @@ identity_of b = record {
   node = b.node.text;
   product = product_in b.attributes;
   initial = initial_in b.attributes;
-  frames = flat_map frames_of b.attributes;
+  frames = flat_map attribute_frames b.attributes;
 }
 
-abbrev pub warnings_of : NodeAttributes → List Finding
-warnings_of b =
+abbrev pub identity_warnings : NodeAttributes → List Finding
+identity_warnings b =
     product_warnings b.attributes
-    ++ (initial_warnings b.attributes ++ flat_map frame_warnings b.attributes)
+    ++ (initial_warnings b.attributes ++ flat_map frame_list_warnings b.attributes)
 
 abbrev pub identity_unless : List ℕ → NodeAttributes → List NodeIdentity
 identity_unless commander b = if bytes_eq b.node.text commander then [] else identity_of b ∷ []
 
 abbrev pub warnings_unless : List ℕ → NodeAttributes → List Finding
-warnings_unless commander b = if bytes_eq b.node.text commander then [] else warnings_of b
+warnings_unless commander b = if bytes_eq b.node.text commander then [] else identity_warnings b
 
 abbrev pub identities_of : List ℕ → List NodeAttributes → List NodeIdentity
 identities_of commander blocks = flat_map (identity_unless commander) blocks

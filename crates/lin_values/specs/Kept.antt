@@ -3,7 +3,7 @@ use Rattle.std.specs.Prelude.{List, map, Some, None, option_and_then, slice_inde
 use Rattle.lin_values.specs.Coded.{SignalCoding, CodedData}
 use Rattle.lin_values.specs.declared.coded.Coded.TheInside.{Inside}
 use Rattle.lin_values.specs.declared.coded.CodedSignal.{CodedSignal}
-use Rattle.lin_values.specs.declared.items.CodingType.{CodingType}
+use Rattle.lin_values.specs.declared.codings.CodingType.{CodingType}
 
 abbrev pub kept_signal : List CodingType → CodedSignal → SignalCoding
 kept_signal ts s = record {

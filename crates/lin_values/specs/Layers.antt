@@ -4,7 +4,7 @@ use Rattle.std.specs.Prelude.{None, find, min, max, nat_le, nat_lt, All, AllPair
 use Rattle.std.specs.Prelude.{if◌then◌else◌}
 use Rattle.std.specs.List.{list_any, range_with_len}
 use Rattle.std.specs.Option.{option_map}
-use Rattle.lin_values.specs.declared.layers.Part.{Part}
+use Rattle.lin_values.specs.declared.layers.RangePart.{RangePart}
 use Rattle.lin_values.specs.declared.layers.Span.{Span}
 
 abbrev pub in_span : Span → ℕ → Bool
@@ -23,11 +23,11 @@ common_span a b =
     then Some (record { from = max a.from b.from; to = min a.to b.to }) else None
 
 -- the item that counts for a number
-abbrev pub item_in : List Part → ℕ → Option ℕ
+abbrev pub item_in : List RangePart → ℕ → Option ℕ
 item_in ps n = option_map (λ p. p.item) (find (λ p. in_span p.span n) ps)
 
 -- what counts for the numbers from one to before another
-abbrev pub part_between : ℕ → ℕ → ℕ → List Part
+abbrev pub part_between : ℕ → ℕ → ℕ → List RangePart
 part_between from end item =
     if nat_lt from end
     then record { span = record { from = from; to = end - 1 }; item = item } ∷ [] else []
@@ -35,12 +35,12 @@ part_between from end item =
 abbrev pub IsBefore : Span → Span → Type 0
 IsBefore a b = a.to < b.from
 
-abbrev pub AreInOrder : List Part → Type 0
+abbrev pub AreInOrder : List RangePart → Type 0
 AreInOrder ps =
     All (λ p. p.span.from ≤ p.span.to) ps × AllPairs (λ p q. IsBefore p.span q.span) ps
 
 -- the spans have the numbers that parts have, each number once, and are in order
-pub record IsLayered (covered : List Span) (ps : List Part) : Type 0 where
+pub record IsLayered (covered : List Span) (ps : List RangePart) : Type 0 where
   pub some : All (λ s. s.from ≤ s.to) covered
   pub ordered : AllPairs IsBefore covered
   pub full : All (λ p. p.span.from ≤ p.span.to) ps

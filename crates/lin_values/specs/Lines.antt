@@ -10,5 +10,5 @@ lines_at zero ts = []
 lines_at (suc n) ts = if has_line ts then ts ∷ lines_at n (behind_line 0 ts) else []
 
 -- (each takes a token)
-abbrev pub lines : List Symbol → List (List Symbol)
-lines ts = lines_at (length ts) ts
+abbrev pub token_lines : List Symbol → List (List Symbol)
+token_lines ts = lines_at (length ts) ts

@@ -8,13 +8,13 @@ use Rattle.lin_frame.specs.declared.value.Value.{Value}
 use Rattle.lin_frame.specs.declared.value.Value.TheVariants.{Scalar, Bytes}
 use Rattle.lin_values.specs.Coded.{all_codings, item_for, or_else, signal_at, CodedData, SignalCoding}
 use Rattle.lin_values.specs.Meant.{Meant, Named, Number, Physical, Digits, Letters}
-use Rattle.lin_values.specs.Value.{value}
+use Rattle.lin_values.specs.Value.{scaled_value}
 use Rattle.lin_values.specs.declared.coded.CodedSignal.{CodedSignal}
 use Rattle.lin_values.specs.declared.encoding.Coding.{Coding}
 use Rattle.lin_values.specs.declared.encoding.Coding.TheVariants as codings
-use Rattle.lin_values.specs.declared.items.Item.{Item}
-use Rattle.lin_values.specs.declared.items.Item.TheVariants as items
-use Rattle.lin_values.specs.declared.items.PlacedItem.{PlacedItem}
+use Rattle.lin_values.specs.declared.codings.Item.{Item}
+use Rattle.lin_values.specs.declared.codings.Item.TheVariants as items
+use Rattle.lin_values.specs.declared.codings.PlacedItem.{PlacedItem}
 use Rattle.lin_values.specs.declared.meaning.Meaning.{Meaning}
 use Rattle.lin_values.specs.declared.meaning.Meaning.TheVariants as meanings
 
@@ -39,7 +39,7 @@ named_or_number raw (c ∷ cs) = Named (c ∷ cs)
 abbrev pub numeric_meaning : Item → ℕ → Option Meant
 numeric_meaning (items.Logical v text) raw = Some (named_or_number raw text)
 numeric_meaning (items.Physical from to scale offset unit) raw =
-    Some (Physical (pos raw *ℤ value scale +ℤ value offset) unit)
+    Some (Physical (pos raw *ℤ scaled_value scale +ℤ scaled_value offset) unit)
 numeric_meaning items.Bcd raw = None
 numeric_meaning items.Ascii raw = None
 
@@ -113,5 +113,5 @@ abbrev pub meaning : CodedData → ℕ → Value → Option Meant
 meaning k s v = meaning_of (signal_at k s) v
 
 -- the same, where what signals mean is told
-abbrev pub told_meaning : Option CodedData → ℕ → Value → Option Meant
-told_meaning k s v = option_and_then (λ d. meaning d s v) k
+abbrev pub meaning_if_coded : Option CodedData → ℕ → Value → Option Meant
+meaning_if_coded k s v = option_and_then (λ d. meaning d s v) k

@@ -6,14 +6,14 @@ use lib.IntN.{pos, ◌+ℤ◌, ◌*ℤ◌}
 use Rattle.lin_values.specs.Coded.{item_by, item_for, range_in, signal_at, CodedData, RangeData}
 use Rattle.lin_values.specs.Layers.{in_span, item_in}
 use Rattle.lin_values.specs.Raws.{decimal_at, distance, has_unit}
-use Rattle.lin_values.specs.Value.{value}
-use Rattle.lin_values.specs.Warnings.{most_of}
+use Rattle.lin_values.specs.Value.{scaled_value}
+use Rattle.lin_values.specs.Warnings.{greatest_raw}
 use Rattle.lin_values.specs.declared.encoding.Range.{Range}
-use Rattle.lin_values.specs.declared.items.Item.{Item}
-use Rattle.lin_values.specs.declared.items.PlacedItem.{PlacedItem}
-use Rattle.lin_values.specs.declared.layers.Part.{Part}
+use Rattle.lin_values.specs.declared.codings.Item.{Item}
+use Rattle.lin_values.specs.declared.codings.PlacedItem.{PlacedItem}
+use Rattle.lin_values.specs.declared.layers.RangePart.{RangePart}
 use Rattle.lin_values.specs.declared.layers.Span.{Span}
-use Rattle.lin_values.specs.declared.nearest.Near.{Near}
+use Rattle.lin_values.specs.declared.nearest_raws.Near.{Near}
 
 -- ---- a raw value and its distance
 
@@ -64,8 +64,8 @@ abbrev pub left_by : ℤ → ℤ → ℕ → ℤ
 left_by scale distance n = distance -ℤ pos n *ℤ scale
 
 -- one number is on the same side as another, and as near, or nearer if it is higher
-abbrev pub IsReached : ℤ → ℤ → ℕ → ℕ → Type 0
-IsReached scale distance c n =
+abbrev pub IsAtLeastAsNear : ℤ → ℤ → ℕ → ℕ → Type 0
+IsAtLeastAsNear scale distance c n =
     (pos 0 ≤ℤ left_by scale distance n → pos 0 ≤ℤ left_by scale distance c)
     × (left_by scale distance n ≤ℤ pos 0 → left_by scale distance c ≤ℤ pos 0)
     × (unsigned_abs (left_by scale distance c) ≤ unsigned_abs (left_by scale distance n))
@@ -79,13 +79,13 @@ pub record IsExtended (span : Span) (h f g : ℕ → Option ℕ) : Type 0 where
   pub before : (n d : ℕ) → f n ≡ Some d → n < span.from
 
 abbrev pub range_value : Range → ℕ → ℤ
-range_value r n = pos n *ℤ value r.scale +ℤ value r.offset
+range_value r n = pos n *ℤ scaled_value r.scale +ℤ scaled_value r.offset
 
 -- ---- the raw values of an encoding, and of a signal
 
 abbrev pub range_decimal : List ℕ → ℕ → RangeData → Option ℤ
 range_decimal unit n r =
-    if has_unit unit r.unit then Some (pos n *ℤ value r.scale +ℤ value r.offset) else None
+    if has_unit unit r.unit then Some (pos n *ℤ scaled_value r.scale +ℤ scaled_value r.offset) else None
 
 abbrev pub item_decimal : List ℕ → ℕ → Item → Option ℤ
 item_decimal unit n i = option_and_then (range_decimal unit n) (range_in i)
@@ -93,16 +93,16 @@ item_decimal unit n i = option_and_then (range_decimal unit n) (range_in i)
 -- by the number of the item
 abbrev pub numbered_decimal : List PlacedItem → ℕ → List ℕ → Option ℕ → ℕ → Option ℤ
 numbered_decimal ps bits unit number n =
-    if nat_le n (most_of bits)
+    if nat_le n (greatest_raw bits)
     then option_and_then (item_decimal unit n) (option_and_then (item_by ps) number) else None
 
-abbrev pub parts_decimal : List PlacedItem → ℕ → List ℕ → List Part → ℕ → Option ℤ
+abbrev pub parts_decimal : List PlacedItem → ℕ → List ℕ → List RangePart → ℕ → Option ℤ
 parts_decimal ps bits unit parts n = numbered_decimal ps bits unit (item_in parts n) n
 
 abbrev pub raw_decimal : List PlacedItem → ℕ → List ℕ → ℕ → Option ℤ
 raw_decimal ps bits unit n =
-    if nat_le n (most_of bits) then option_and_then (item_decimal unit n) (item_for ps n) else None
+    if nat_le n (greatest_raw bits) then option_and_then (item_decimal unit n) (item_for ps n) else None
 
 abbrev pub signal_decimal : CodedData → ℕ → List ℕ → ℕ → Option ℤ
 signal_decimal k s unit n =
-    if nat_le n (most_of (signal_at k s).bits) then decimal_at k s unit n else None
+    if nat_le n (greatest_raw (signal_at k s).bits) then decimal_at k s unit n else None

@@ -12,8 +12,8 @@ abbrev pub has_line : List Symbol → Bool
 has_line ts = is_front (λ t. not (is_kind CloseBrace t.kind)) ts
 
 -- how many braces are open after a token
-abbrev pub depth_behind : ℕ → TokenKind → ℕ
-depth_behind n kind =
+abbrev pub brace_depth : ℕ → TokenKind → ℕ
+brace_depth n kind =
     if is_kind OpenBrace kind then n + 1 else if is_kind CloseBrace kind then n - 1 else n
 
 -- what stands behind the next semicolon outside of braces, or from the brace on that closes more;
@@ -23,7 +23,7 @@ behind_line n [] = []
 behind_line n (t ∷ ts) =
     if n == 0 && is_kind CloseBrace t.kind then t ∷ ts
     else if n == 0 && is_kind Semicolon t.kind then ts
-    else behind_line (depth_behind n t.kind) ts
+    else behind_line (brace_depth n t.kind) ts
 
 -- as long as a test holds, what one step makes of what was before it; so many steps at most
 abbrev pub steps_while : {X : Type 0} → ℕ → (X → Bool) → (X → X) → X → X

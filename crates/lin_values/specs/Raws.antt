@@ -15,20 +15,20 @@ use Rattle.lin_values.specs.Meaning.{meaning, value_bytes}
 use Rattle.lin_values.specs.Meant.{Meant, Named, Number, Physical, Digits, Letters}
 use Rattle.lin_values.specs.Read.{number_and_unit}
 use Rattle.lin_values.specs.Shown.{shown}
-use Rattle.lin_values.specs.Value.{value}
-use Rattle.lin_values.specs.Warnings.{most_of}
+use Rattle.lin_values.specs.Value.{scaled_value}
+use Rattle.lin_values.specs.Warnings.{greatest_raw}
 use Rattle.lin_values.specs.declared.encoding.Range.{Range}
-use Rattle.lin_values.specs.declared.items.Item.{Item}
-use Rattle.lin_values.specs.declared.items.Item.TheVariants as items
-use Rattle.lin_values.specs.declared.items.Item.TheVariants.{Logical}
-use Rattle.lin_values.specs.declared.items.PlacedItem.{PlacedItem}
-use Rattle.lin_values.specs.declared.layers.Part.{Part}
+use Rattle.lin_values.specs.declared.codings.Item.{Item}
+use Rattle.lin_values.specs.declared.codings.Item.TheVariants as items
+use Rattle.lin_values.specs.declared.codings.Item.TheVariants.{Logical}
+use Rattle.lin_values.specs.declared.codings.PlacedItem.{PlacedItem}
+use Rattle.lin_values.specs.declared.layers.RangePart.{RangePart}
 use Rattle.lin_values.specs.declared.layers.Span.{Span}
 
 -- ---- values that signals can have
 
 abbrev pub is_value : CodedData → ℕ → Value → Bool
-is_value k s (Scalar raw) = not (signal_at k s).is_array && nat_le raw (most_of (signal_at k s).bits)
+is_value k s (Scalar raw) = not (signal_at k s).is_array && nat_le raw (greatest_raw (signal_at k s).bits)
 is_value k s (Bytes bs) =
     (signal_at k s).is_array
     && (length bs == (signal_at k s).bits / 8
@@ -43,43 +43,43 @@ has_unit (c ∷ cs) unit = bytes_eq (c ∷ cs) unit
 abbrev pub lies_within : ℤ → ℤ → ℤ → Bool
 lies_within low high z = not (int_lt z low) && not (int_lt high z)
 
-abbrev pub is_decimal : ℤ → ℤ → List ℕ → Meant → Bool
-is_decimal low high unit (Named text) = false
-is_decimal low high unit (Number n) = false
-is_decimal low high unit (Physical z u) = lies_within low high z && has_unit unit u
-is_decimal low high unit (Digits text) = false
-is_decimal low high unit (Letters text) = false
+abbrev pub is_decimal_within : ℤ → ℤ → List ℕ → Meant → Bool
+is_decimal_within low high unit (Named text) = false
+is_decimal_within low high unit (Number n) = false
+is_decimal_within low high unit (Physical z u) = lies_within low high z && has_unit unit u
+is_decimal_within low high unit (Digits text) = false
+is_decimal_within low high unit (Letters text) = false
 
 abbrev pub raws_within : CodedData → ℕ → ℤ → ℤ → List ℕ → Value → Bool
 raws_within k s low high unit v =
-    is_value k s v && option_map_or (is_decimal low high unit) (meaning k s v) false
+    is_value k s v && option_map_or (is_decimal_within low high unit) (meaning k s v) false
 
 -- ---- a text
 
-abbrev pub is_number : ℕ → ℤ × List ℕ → Bool
-is_number n (z, []) = unsigned_abs (z -ℤ pos (n * 10 ^ 24)) == 0
-is_number n (z, (c ∷ cs)) = false
+abbrev pub is_number_without_unit : ℕ → ℤ × List ℕ → Bool
+is_number_without_unit n (z, []) = unsigned_abs (z -ℤ pos (n * 10 ^ 24)) == 0
+is_number_without_unit n (z, (c ∷ cs)) = false
 
 -- of a decimal its number, with its unit or without one; of characters those in quotes, none of which
 -- stands for a byte that isn't visible; else the text
 abbrev pub means_text : List ℕ → Option (ℤ × List ℕ) → Meant → Bool
 means_text text number (Named t) = bytes_eq text t
-means_text text number (Number n) = option_map_or (is_number n) number false
+means_text text number (Number n) = option_map_or (is_number_without_unit n) number false
 means_text text number (Physical z u) =
-    option_map_or (λ p. is_decimal p.0 p.0 p.1 (Physical z u)) number false
+    option_map_or (λ p. is_decimal_within p.0 p.0 p.1 (Physical z u)) number false
 means_text text number (Digits t) = bytes_eq text t
 means_text text number (Letters t) = bytes_eq text (shown (Letters t))
 
 -- an array or a scalar of characters is filled up with 00, so that its bytes are visible, or 00 at the
 -- end
-abbrev pub is_visible : ℕ → Bool
-is_visible b = nat_le 0x20 b && nat_le b 0x7E
+abbrev pub is_printable : ℕ → Bool
+is_printable b = nat_le 0x20 b && nat_le b 0x7E
 
 abbrev pub is_plain_from : Bool → List ℕ → Bool
 is_plain_from ended [] = true
 is_plain_from ended (b ∷ bs) =
     if b == 0 then is_plain_from true bs
-    else if ended then false else is_visible b && is_plain_from false bs
+    else if ended then false else is_printable b && is_plain_from false bs
 
 abbrev pub is_plain : List ℕ → Meant → Bool
 is_plain bs (Named t) = true
@@ -88,14 +88,14 @@ is_plain bs (Physical z u) = true
 is_plain bs (Digits t) = true
 is_plain bs (Letters t) = is_plain_from false bs
 
-abbrev pub has_text : CodedData → ℕ → List ℕ → Value → Meant → Bool
-has_text k s text v m =
+abbrev pub value_has_text : CodedData → ℕ → List ℕ → Value → Meant → Bool
+value_has_text k s text v m =
     means_text text (number_and_unit text) m
     && is_plain (value_bytes (signal_at k s) v) m
 
 abbrev pub raws_of : CodedData → ℕ → List ℕ → Value → Bool
 raws_of k s text v =
-    is_value k s v && option_map_or (has_text k s text v) (meaning k s v) false
+    is_value k s v && option_map_or (value_has_text k s text v) (meaning k s v) false
 
 -- those of digits or characters alone
 abbrev pub is_coded : Meant → Bool
@@ -107,7 +107,7 @@ is_coded (Letters t) = true
 
 abbrev pub coded_raws : CodedData → ℕ → List ℕ → Value → Bool
 coded_raws k s text v =
-    is_value k s v && option_map_or (λ m. is_coded m && has_text k s text v m) (meaning k s v) false
+    is_value k s v && option_map_or (λ m. is_coded m && value_has_text k s text v m) (meaning k s v) false
 
 -- ---- parts of these, as code has them
 
@@ -146,7 +146,7 @@ abbrev pub sought_range : Option (ℤ × ℤ) → List ℕ → Item → ℕ → 
 sought_range decimals unit (Logical v t) n = false
 sought_range decimals unit (items.Physical min max scale offset u) n =
     has_unit unit u
-    && option_map_or (λ d. lies_within d.0 d.1 (pos n *ℤ value scale +ℤ value offset)) decimals false
+    && option_map_or (λ d. lies_within d.0 d.1 (pos n *ℤ scaled_value scale +ℤ scaled_value offset)) decimals false
 sought_range decimals unit items.Bcd n = false
 sought_range decimals unit items.Ascii n = false
 
@@ -159,16 +159,16 @@ sought_item text decimals unit items.Bcd n = false
 sought_item text decimals unit items.Ascii n = false
 
 -- the same of a part of an encoding, and of a signal of so many bits
-abbrev pub sought_part : List PlacedItem → ℕ → Option (List ℕ) → Option (ℤ × ℤ) → List ℕ → Part → ℕ
+abbrev pub sought_part : List PlacedItem → ℕ → Option (List ℕ) → Option (ℤ × ℤ) → List ℕ → RangePart → ℕ
     → Bool
 sought_part ps bits text decimals unit part n =
-    nat_le n (most_of bits)
+    nat_le n (greatest_raw bits)
     && (in_span part.span n
     && option_map_or (λ i. sought_item text decimals unit i n) (item_by ps part.item) false)
 
 abbrev pub sought_raw : List PlacedItem → ℕ → Option (List ℕ) → Option (ℤ × ℤ) → List ℕ → ℕ → Bool
 sought_raw ps bits text decimals unit n =
-    nat_le n (most_of bits)
+    nat_le n (greatest_raw bits)
     && option_map_or (λ i. sought_item text decimals unit i n) (item_for ps n) false
 
 -- the raw values of a signal that are looked for
@@ -222,7 +222,7 @@ count_of spans coded = sum_by (λ s. s.to + 1 - s.from) spans + option_map_or (�
 -- ---- all of a text, the lowest first
 
 abbrev pub scalars : CodedData → ℕ → List ℕ
-scalars k s = range_with_len 0 (most_of (signal_at k s).bits + 1)
+scalars k s = range_with_len 0 (greatest_raw (signal_at k s).bits + 1)
 
 -- the array that characters in quotes, or two digits for each byte, spell, filled up with 00
 abbrev pub bytes_of_digits : List ℕ → List ℕ
@@ -236,14 +236,14 @@ spelled_bytes text =
 abbrev pub array_spelled : ℕ → List ℕ → Value
 array_spelled bits text = Bytes (take (bits / 8) (spelled_bytes text ++ replicate (bits / 8) 0))
 
-abbrev pub candidates : CodedData → ℕ → List ℕ → List Value
-candidates k s text =
+abbrev pub candidate_values : CodedData → ℕ → List ℕ → List Value
+candidate_values k s text =
     if (signal_at k s).is_array then array_spelled (signal_at k s).bits text ∷ []
     else map Scalar (scalars k s)
 
 -- (these are all: an array has a text only where the text spells it)
 abbrev pub values_of : CodedData → ℕ → List ℕ → List Value
-values_of k s text = filter (raws_of k s text) (candidates k s text)
+values_of k s text = filter (raws_of k s text) (candidate_values k s text)
 
 -- ---- next to a decimal, and the nearest
 
@@ -291,9 +291,9 @@ nearest k s x unit = first_raw (nearest_of x (decimals k s unit))
 
 -- ---- solved for the raw value
 
-abbrev pub solved : Range → ℤ → ℤ → ℕ → Bool
-solved r low high n =
-    let z = pos n *ℤ value r.scale +ℤ value r.offset in lies_within low high z
+abbrev pub is_mapped_within : Range → ℤ → ℤ → ℕ → Bool
+is_mapped_within r low high n =
+    let z = pos n *ℤ scaled_value r.scale +ℤ scaled_value r.offset in lies_within low high z
 
 abbrev pub in_option_span : Option Span → ℕ → Bool
 in_option_span None n = false

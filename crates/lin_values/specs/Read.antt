@@ -4,7 +4,7 @@ use Rattle.std.specs.Prelude.{List, [], ◌∷◌, Option, Some, None, nat_lt, l
 use Rattle.std.specs.Prelude.{if◌then◌else◌, option_map}
 use Rattle.std.specs.Char.{is_ascii_digit}
 use Rattle.std.specs.List.{prefix_len}
-use Rattle.lin_values.specs.Value.{signed}
+use Rattle.lin_values.specs.Value.{with_sign}
 
 -- n units and digits, of which the next counts 10 ^ (left - 1) units; later ones are all 0
 abbrev pub places_after : ℕ → ℕ → List ℕ → Option ℕ
@@ -20,15 +20,15 @@ whole_after n (c ∷ cs) =
     else if c == 46 && nat_lt n (10 ^ 14) && nat_lt 0 (length cs) then places_after (n * 10 ^ 24) 24 cs
     else None
 
-abbrev pub unsigned : List ℕ → Option ℕ
-unsigned [] = None
-unsigned (c ∷ cs) = if is_ascii_digit c then whole_after 0 (c ∷ cs) else None
+abbrev pub unsigned_number : List ℕ → Option ℕ
+unsigned_number [] = None
+unsigned_number (c ∷ cs) = if is_ascii_digit c then whole_after 0 (c ∷ cs) else None
 
-abbrev pub spelled : List ℕ → Option ℤ
-spelled [] = None
-spelled (c ∷ cs) =
-    if c == 45 then option_map (signed true) (unsigned cs)
-    else option_map (signed false) (unsigned (if c == 43 then cs else c ∷ cs))
+abbrev pub signed_number : List ℕ → Option ℤ
+signed_number [] = None
+signed_number (c ∷ cs) =
+    if c == 45 then option_map (with_sign true) (unsigned_number cs)
+    else option_map (with_sign false) (unsigned_number (if c == 43 then cs else c ∷ cs))
 
 -- ---- a number and its unit
 
@@ -49,4 +49,4 @@ without_spaces text = drop (spaces_at_front text) text
 abbrev pub number_and_unit : List ℕ → Option (ℤ × List ℕ)
 number_and_unit text =
     option_map (λ z. (z, without_spaces (drop (number_end text) text)))
-    (spelled (take (number_end text) text))
+    (signed_number (take (number_end text) text))

@@ -57,8 +57,8 @@ is_named c name n = nat_lt 0 n && bytes_eq (node_of c n).name name
 abbrev pub address_of : Parts → List ℕ → Option ℕ
 address_of c name = option_and_then (nad c) (find (is_named c name) (numbers (nodes c)))
 
-abbrev pub address : Parts → Name → Result ℕ Finding
-address c node = or_finding (address_of c node.text) (at_name NoResponder node)
+abbrev pub responder_address : Parts → Name → Result ℕ Finding
+responder_address c node = or_finding (address_of c node.text) (at_name NoResponder node)
 
 -- the identity of a node
 abbrev pub identity_named : List NodeIdentity → List ℕ → Option NodeIdentity
@@ -72,15 +72,15 @@ product_of ids node =
     or_finding (option_and_then (λ i. i.product) (identity_named ids node.text)) (at_name NoProduct node)
 
 -- its initial NAD; if its attributes have none, its configured NAD
-abbrev pub initial_of : List NodeIdentity → List ℕ → ℕ → ℕ
-initial_of ids name own = unwrap_or (option_and_then (λ i. i.initial) (identity_named ids name)) own
+abbrev pub initial_nad_of : List NodeIdentity → List ℕ → ℕ → ℕ
+initial_nad_of ids name own = unwrap_or (option_and_then (λ i. i.initial) (identity_named ids name)) own
 
 -- ---- AssignNAD { node }
 abbrev pub assign_nad : Parts → List NodeIdentity → Name → Result (List ℕ) Finding
 assign_nad c ids node = do
-  own ← address c node
+  own ← responder_address c node
   p ← product_of ids node
-  Ok (initial_of ids node.text own ∷ 6 ∷ 0xB0 ∷ low p.supplier ∷ high p.supplier ∷ low p.function
+  Ok (initial_nad_of ids node.text own ∷ 6 ∷ 0xB0 ∷ low p.supplier ∷ high p.supplier ∷ low p.function
       ∷ high p.function ∷ own ∷ [])
 
 -- ---- AssignFrameId { node , frame }
@@ -100,7 +100,7 @@ frame_request own supplier (Some message) None = None
 
 abbrev pub assign_frame : Parts → List NodeIdentity → Name → Name → Result (List ℕ) Finding
 assign_frame c ids node frame = do
-  own ← address c node
+  own ← responder_address c node
   p ← product_of ids node
   or_finding
       (frame_request own p.supplier (first_message (frames_in ids node.text) frame.text)
@@ -131,35 +131,35 @@ listed_range c fs own index =
     else Err (at_number BadIndex index)
 
 -- with some: these, and FF in place of those that are missing
-abbrev pub byte_at : List Number → ℕ → ℕ
-byte_at bytes k = option_map_or (λ b. b.value) (slice_get bytes k) 0xFF
+abbrev pub byte_or_ff : List Number → ℕ → ℕ
+byte_or_ff bytes k = option_map_or (λ b. b.value) (slice_get bytes k) 0xFF
 
 abbrev pub given_range : ℕ → List Number → List ℕ
 given_range own bytes =
-    own ∷ 6 ∷ 0xB7 ∷ byte_at bytes 0 ∷ byte_at bytes 1 ∷ byte_at bytes 2 ∷ byte_at bytes 3
-    ∷ byte_at bytes 4 ∷ []
+    own ∷ 6 ∷ 0xB7 ∷ byte_or_ff bytes 0 ∷ byte_or_ff bytes 1 ∷ byte_or_ff bytes 2 ∷ byte_or_ff bytes 3
+    ∷ byte_or_ff bytes 4 ∷ []
 
-abbrev pub range_of : Parts → List ConfigurableFrame → ℕ → List Number → Result (List ℕ) Finding
-range_of c fs own (index ∷ []) = listed_range c fs own index
-range_of c fs own [] = Ok (given_range own [])
-range_of c fs own (index ∷ pid ∷ pids) = Ok (given_range own (index ∷ pid ∷ pids))
+abbrev pub assigned_range : Parts → List ConfigurableFrame → ℕ → List Number → Result (List ℕ) Finding
+assigned_range c fs own (index ∷ []) = listed_range c fs own index
+assigned_range c fs own [] = Ok (given_range own [])
+assigned_range c fs own (index ∷ pid ∷ pids) = Ok (given_range own (index ∷ pid ∷ pids))
 
 abbrev pub assign_range : Parts → List NodeIdentity → Name → List Number → Result (List ℕ) Finding
 assign_range c ids node bytes = do
-  own ← address c node
-  range_of c (frames_in ids node.text) own bytes
+  own ← responder_address c node
+  assigned_range c (frames_in ids node.text) own bytes
 
 -- ---- DataDump { node , byte.. }
 abbrev pub data_dump : Parts → Name → List Number → Result (List ℕ) Finding
 data_dump c node bytes = do
-  own ← address c node
-  Ok (own ∷ 6 ∷ 0xB4 ∷ byte_at bytes 0 ∷ byte_at bytes 1 ∷ byte_at bytes 2 ∷ byte_at bytes 3
-      ∷ byte_at bytes 4 ∷ [])
+  own ← responder_address c node
+  Ok (own ∷ 6 ∷ 0xB4 ∷ byte_or_ff bytes 0 ∷ byte_or_ff bytes 1 ∷ byte_or_ff bytes 2 ∷ byte_or_ff bytes 3
+      ∷ byte_or_ff bytes 4 ∷ [])
 
 -- ---- SaveConfiguration { node }
 abbrev pub save_configuration : Parts → Name → Result (List ℕ) Finding
 save_configuration c node = do
-  own ← address c node
+  own ← responder_address c node
   Ok (own ∷ 1 ∷ 0xB6 ∷ 0xFF ∷ 0xFF ∷ 0xFF ∷ 0xFF ∷ 0xFF ∷ [])
 
 abbrev pub node_request : Parts → List NodeIdentity → Command → Name → List Number
@@ -172,11 +172,11 @@ node_request c ids other node bytes = assign_range c ids node bytes
 -- ---- ConditionalChangeNAD { NAD , id , byte , mask , invert , new NAD } and FreeFormat { byte.. }
 abbrev pub bytes_request : Command → List Number → List ℕ
 bytes_request command.ConditionalChangeNad bytes =
-    byte_at bytes 0 ∷ 6 ∷ 0xB3 ∷ byte_at bytes 1 ∷ byte_at bytes 2 ∷ byte_at bytes 3 ∷ byte_at bytes 4
-    ∷ byte_at bytes 5 ∷ []
+    byte_or_ff bytes 0 ∷ 6 ∷ 0xB3 ∷ byte_or_ff bytes 1 ∷ byte_or_ff bytes 2 ∷ byte_or_ff bytes 3 ∷ byte_or_ff bytes 4
+    ∷ byte_or_ff bytes 5 ∷ []
 bytes_request other bytes =
-    byte_at bytes 0 ∷ byte_at bytes 1 ∷ byte_at bytes 2 ∷ byte_at bytes 3 ∷ byte_at bytes 4
-    ∷ byte_at bytes 5 ∷ byte_at bytes 6 ∷ byte_at bytes 7 ∷ []
+    byte_or_ff bytes 0 ∷ byte_or_ff bytes 1 ∷ byte_or_ff bytes 2 ∷ byte_or_ff bytes 3 ∷ byte_or_ff bytes 4
+    ∷ byte_or_ff bytes 5 ∷ byte_or_ff bytes 6 ∷ byte_or_ff bytes 7 ∷ []
 
 -- ---- the request of a command, or why it has none
 abbrev pub request : Parts → List NodeIdentity → Command → Arguments → Result (List ℕ) Finding

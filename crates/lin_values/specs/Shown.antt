@@ -28,8 +28,8 @@ abbrev pub unit_shown : List ℕ → List ℕ
 unit_shown [] = []
 unit_shown (c ∷ cs) = 32 ∷ c ∷ cs
 
-abbrev pub quoted : List ℕ → List ℕ
-quoted text = 34 ∷ (text ++ 34 ∷ [])
+abbrev pub quoted_text : List ℕ → List ℕ
+quoted_text text = 34 ∷ (text ++ 34 ∷ [])
 
 -- without unit and quotes
 abbrev pub plain_shown : Meant → List ℕ
@@ -44,4 +44,4 @@ shown (Named text) = text
 shown (Number n) = decimal n
 shown (Physical z unit) = decimal_shown (decimal_of z) ++ unit_shown unit
 shown (Digits text) = text
-shown (Letters text) = quoted text
+shown (Letters text) = quoted_text text

@@ -5,23 +5,23 @@ use Rattle.std.specs.Char.{is_ascii_digit}
 use Rattle.std.specs.Option.{option_map}
 use Rattle.lin_frame.specs.declared.value.Value.{Value}
 use Rattle.lin_frame.specs.declared.value.Value.TheVariants.{Scalar, Bytes}
-use Rattle.lin_values.specs.Warnings.{most_of}
+use Rattle.lin_values.specs.Warnings.{greatest_raw}
 
 -- the array of characters, filled up with 00
-abbrev pub array_of : ℕ → List ℕ → Value
-array_of bits ls = Bytes (ls ++ replicate (bits / 8 - length ls) 0)
+abbrev pub character_array : ℕ → List ℕ → Value
+character_array bits ls = Bytes (ls ++ replicate (bits / 8 - length ls) 0)
 
 -- a number, where so many bits have it
 abbrev pub scalar_within : ℕ → ℕ → Option Value
-scalar_within bits n = if nat_le n (most_of bits) then Some (Scalar n) else None
+scalar_within bits n = if nat_le n (greatest_raw bits) then Some (Scalar n) else None
 
 abbrev pub in_quotes : List ℕ → List ℕ
 in_quotes ls = 34 ∷ (ls ++ 34 ∷ [])
 
 -- the number of digits, four bits for each, behind those of another
-abbrev pub number_after : ℕ → List ℕ → Option ℕ
-number_after n [] = Some n
-number_after n (c ∷ cs) = if is_ascii_digit c then number_after (n * 16 + (c - 48)) cs else None
+abbrev pub bcd_after : ℕ → List ℕ → Option ℕ
+bcd_after n [] = Some n
+bcd_after n (c ∷ cs) = if is_ascii_digit c then bcd_after (n * 16 + (c - 48)) cs else None
 
 abbrev pub byte_of : ℕ → ℕ → ℕ
 byte_of a b = (a - 48) * 16 + (b - 48)
@@ -34,13 +34,13 @@ pairs (a ∷ b ∷ cs) =
     if is_ascii_digit a && is_ascii_digit b then option_map (λ bs. byte_of a b ∷ bs) (pairs cs) else None
 
 -- two characters at most, the lowest first
-abbrev pub scalar_of : List ℕ → ℕ
-scalar_of [] = 0
-scalar_of (a ∷ []) = a
-scalar_of (a ∷ b ∷ cs) = a + 256 * b
+abbrev pub character_scalar : List ℕ → ℕ
+character_scalar [] = 0
+character_scalar (a ∷ []) = a
+character_scalar (a ∷ b ∷ cs) = a + 256 * b
 
 -- a signal of so many bits, or an array of them, has the value
 abbrev pub IsHeld : ℕ → Bool → Value → Type 0
-IsHeld bits array (Scalar n) = (array ≡ false) × (n ≤ most_of bits)
+IsHeld bits array (Scalar n) = (array ≡ false) × (n ≤ greatest_raw bits)
 IsHeld bits array (Bytes bs) =
     (array ≡ true) × (length bs ≡ bits / 8) × (length bs ≤ 8)

@@ -20,13 +20,13 @@ abbrev pub inside : List Symbol → List Symbol
 inside ts = tail (tail ts)
 
 -- what is behind what was read; nothing if it wasn't in its form
-abbrev pub behind : Option (Unit {0} × List Symbol) → List Symbol
-behind None = []
-behind (Some read) = read.1
+abbrev pub tokens_left : Option (Unit {0} × List Symbol) → List Symbol
+tokens_left None = []
+tokens_left (Some read) = read.1
 
 -- behind a WORD and its group, or what ends with the next semicolon outside of braces
 abbrev pub behind_statement : List Symbol → List Symbol
-behind_statement ts = behind (if is_group ts then group.read (tail ts) else list.read ts)
+behind_statement ts = tokens_left (if is_group ts then group.read (tail ts) else list.read ts)
 
 -- where statements begin, so many at most, up to the brace that closes the group in which they are
 abbrev pub statements_at : ℕ → List Symbol → List (List Symbol)

@@ -62,9 +62,9 @@ value_read (Err left) = None
 abbrev pub stopped_at : FindingKind → List Symbol → List Finding
 stopped_at kind ts = when (has_front ts) (at_place kind (place_of (front ts)))
 
-abbrev pub stopped : {A : Type 0} → FindingKind → Reading A → List Finding
-stopped kind (Ok read) = []
-stopped kind (Err left) = stopped_at kind left
+abbrev pub findings_at_stop : {A : Type 0} → FindingKind → Reading A → List Finding
+findings_at_stop kind (Ok read) = []
+findings_at_stop kind (Err left) = stopped_at kind left
 
 -- ---- what a call returned, and left, is what reading gives
 abbrev pub StopsAt : {A : Type 0} → LdfFault → List Symbol → Reading A → Type 0

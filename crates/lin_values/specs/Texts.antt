@@ -45,9 +45,9 @@ abbrev pub space_between : List ℕ → Bool → List ℕ
 space_between [] is_behind_gap = []
 space_between (b ∷ bs) is_behind_gap = if is_behind_gap then 32 ∷ [] else []
 
-abbrev pub spaced : List ℕ → List ℕ
-spaced bs = first_word (gaps_closed 0 bs)
+abbrev pub single_spaced : List ℕ → List ℕ
+single_spaced bs = first_word (gaps_closed 0 bs)
 
 -- as it is where it is UTF-8, else as Latin-1
 abbrev pub shown_text : List ℕ → List ℕ
-shown_text bs = spaced (if is_utf8 bs then bs else latin_1 bs)
+shown_text bs = single_spaced (if is_utf8 bs then bs else latin_1 bs)

@@ -4,8 +4,8 @@ use Rattle.lin_values.specs.Coded.{same_coding}
 use Rattle.lin_values.specs.declared.encoding.Coding.{Coding}
 use Rattle.lin_values.specs.declared.encoding.Coding.TheVariants as codings
 use Rattle.lin_values.specs.declared.encoding.Traits.{Traits}
-use Rattle.lin_values.specs.declared.items.Item.{Item}
-use Rattle.lin_values.specs.declared.items.Item.TheVariants.{Logical, Physical, Bcd, Ascii}
+use Rattle.lin_values.specs.declared.codings.Item.{Item}
+use Rattle.lin_values.specs.declared.codings.Item.TheVariants.{Logical, Physical, Bcd, Ascii}
 
 abbrev pub is_coding : Option Coding → Coding → Bool
 is_coding None c = false

@@ -12,8 +12,8 @@ use Rattle.lin_parts.specs.declared.description.Signal.{Signal}
 use Rattle.lin_values.specs.Coded.{is_named, named_in}
 use Rattle.lin_values.specs.Gathered.{type_number}
 use Rattle.lin_values.specs.Warnings.{told_by}
-use Rattle.lin_values.specs.declared.items.CodingType.{CodingType}
-use Rattle.lin_values.specs.declared.items.Codings.{Codings}
+use Rattle.lin_values.specs.declared.codings.CodingType.{CodingType}
+use Rattle.lin_values.specs.declared.codings.Codings.{Codings}
 
 -- the number of the type that the first name of a signal among the lines gives it: that of the first
 -- type with the line's name
@@ -22,13 +22,13 @@ encoding_number k s =
     option_and_then (λ p. type_number k.types p.1)
     (find (is_named s.name.text) (named_in k.lines))
 
-abbrev pub is_number : ℕ → Option ℕ → Bool
-is_number n number = option_map_or (λ m. m == n) number false
+abbrev pub is_raw_number : ℕ → Option ℕ → Bool
+is_raw_number n number = option_map_or (λ m. m == n) number false
 
 -- no signal has the type, whose number is that of the types before it
 abbrev pub unused_encoding : Description → Codings → List CodingType → CodingType → List Finding
 unused_encoding d k before t =
-    when (not (list_any (λ s. is_number (length before) (encoding_number k s)) d.signals))
+    when (not (list_any (λ s. is_raw_number (length before) (encoding_number k s)) d.signals))
     (at_name UnusedEncoding t.name)
 
 abbrev pub unused_encodings : Description → Codings → List Finding

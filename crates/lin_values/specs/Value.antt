@@ -5,13 +5,13 @@ use Rattle.std.specs.Int.{is_negative}
 use lib.IntN.{pos, neg_ℤ}
 use Rattle.lin_values.specs.declared.decimals.Decimal.{Decimal}
 
-abbrev pub signed : Bool → ℕ → ℤ
-signed false n = pos n
-signed true n = neg_ℤ (pos n)
+abbrev pub with_sign : Bool → ℕ → ℤ
+with_sign false n = pos n
+with_sign true n = neg_ℤ (pos n)
 
 -- the value, counted in units of 10 ^ -24
-abbrev pub value : Decimal → ℤ
-value d = signed d.negative (d.digits * 10 ^ (24 - d.places))
+abbrev pub scaled_value : Decimal → ℤ
+scaled_value d = with_sign d.negative (d.digits * 10 ^ (24 - d.places))
 
 -- below 10 ^ 9 in size, with at most 24 places
 abbrev pub IsInLimits : Decimal → Type 0

@@ -11,15 +11,15 @@ use Rattle.lin_cluster.specs.declared.finding.FindingKind.TheVariants as finding
 use Rattle.lin_parts.specs.declared.parts.Parts.{Parts}
 use Rattle.lin_parts.specs.declared.parts.Signal.{Signal}
 use Rattle.lin_parts.specs.declared.description.Name.{Name}
-use Rattle.lin_values.specs.Coded.{all_codings, all_items, greatest, is_named, is_numeric, named_in}
+use Rattle.lin_values.specs.Coded.{all_codings, all_items, greatest_end, is_named, is_numeric, named_in}
 use Rattle.lin_values.specs.Coded.{same_coding, type_named, has_value, signal_coding, SignalCoding}
 use Rattle.lin_values.specs.declared.encoding.Coding.TheVariants as codings
-use Rattle.lin_values.specs.declared.items.CodedLine.{CodedLine}
-use Rattle.lin_values.specs.declared.items.CodingType.{CodingType}
-use Rattle.lin_values.specs.declared.items.Codings.{Codings}
-use Rattle.lin_values.specs.declared.items.Item.{Item}
-use Rattle.lin_values.specs.declared.items.Item.TheVariants.{Logical, Physical, Bcd, Ascii}
-use Rattle.lin_values.specs.declared.items.PlacedItem.{PlacedItem}
+use Rattle.lin_values.specs.declared.codings.CodedLine.{CodedLine}
+use Rattle.lin_values.specs.declared.codings.CodingType.{CodingType}
+use Rattle.lin_values.specs.declared.codings.Codings.{Codings}
+use Rattle.lin_values.specs.declared.codings.Item.{Item}
+use Rattle.lin_values.specs.declared.codings.Item.TheVariants.{Logical, Physical, Bcd, Ascii}
+use Rattle.lin_values.specs.declared.codings.PlacedItem.{PlacedItem}
 
 -- what is told of each by those before it
 abbrev pub told_by : {X : Type 0} → (List X → X → List Finding) → List X → List X → List Finding
@@ -40,19 +40,19 @@ abbrev pub value_warnings : List PlacedItem → List Finding
 value_warnings ps = told_by (λ before p. value_warning before p p.item) [] ps
 
 -- whether a range and this one have a number in common
-abbrev pub meets : ℕ → ℕ → Item → Bool
-meets from to (Logical v text) = false
-meets from to (Physical min max scale offset unit) =
+abbrev pub meets_range : ℕ → ℕ → Item → Bool
+meets_range from to (Logical v text) = false
+meets_range from to (Physical min max scale offset unit) =
     nat_le min max && (nat_le from max && nat_le min to)
-meets from to Bcd = false
-meets from to Ascii = false
+meets_range from to Bcd = false
+meets_range from to Ascii = false
 
 -- 36: the first number is above the last; 37: an earlier range has a number of it; 40: the scale is 0
 abbrev pub range_warning : List PlacedItem → PlacedItem → Item → List Finding
 range_warning before p (Logical v text) = []
 range_warning before p (Physical from to scale offset unit) =
     when (nat_lt to from) (at_place finding.MinAboveMax p.place)
-    ++ (when (nat_le from to && list_any (meets from to) (all_items before))
+    ++ (when (nat_le from to && list_any (meets_range from to) (all_items before))
     (at_place finding.RangesOverlap p.place)
     ++ when (scale.digits == 0) (at_place finding.ZeroScale p.place))
 range_warning before p Bcd = []
@@ -75,12 +75,12 @@ type_warnings ts = told_by type_warning [] ts ++ flat_map (λ t. item_warnings t
 
 -- ---- lines
 
-abbrev pub signal_named : Parts → Name → Option Signal
-signal_named c n = find (λ s. bytes_eq s.name n.text) c.signals
+abbrev pub signal_by_name : Parts → Name → Option Signal
+signal_by_name c n = find (λ s. bytes_eq s.name n.text) c.signals
 
 -- the greatest number of so many bits
-abbrev pub most_of : ℕ → ℕ
-most_of bits = 2 ^ (min bits 16) - 1
+abbrev pub greatest_raw : ℕ → ℕ
+greatest_raw bits = 2 ^ (min bits 16) - 1
 
 -- digits of four bits, or characters of eight, of which so many bits aren't whole ones
 abbrev pub is_broken : ℕ → List PlacedItem → Bool
@@ -91,7 +91,7 @@ is_broken bits ps =
 -- 39: a value or an end that the signal can't hold; 41: items of another kind than the signal
 abbrev pub kind_warnings : Name → SignalCoding → CodingType → List Finding
 kind_warnings n s t =
-    when (not s.is_array && (is_numeric t.items && nat_lt (most_of s.bits) (greatest t.items)))
+    when (not s.is_array && (is_numeric t.items && nat_lt (greatest_raw s.bits) (greatest_end t.items)))
     (at_name finding.ValueOutside n)
     ++ when (if s.is_array then is_numeric t.items else is_broken s.bits t.items)
     (at_name finding.KindOfSignal n)
@@ -106,19 +106,19 @@ name_warnings c k before p =
     option_map_or
     (λ s. if list_any (is_named p.0.text) before then at_name finding.RepresentedTwice p.0 ∷ []
     else known_warnings k p.0 (type_named k.types p.1) s)
-    (signal_named c p.0)
+    (signal_by_name c p.0)
     (at_name finding.UnknownSignal p.0 ∷ [])
 
 -- 33: no type has the name
-abbrev pub line_warnings : Codings → CodedLine → List Finding
-line_warnings k l =
+abbrev pub representation_warnings : Codings → CodedLine → List Finding
+representation_warnings k l =
     when (not (is_some (type_named k.types l.encoding))) (at_name finding.UnknownEncoding l.encoding)
 
 -- ---- all of them, in no order
 
-abbrev pub warnings : Parts → Codings → List Finding
-warnings c k =
+abbrev pub encoding_warnings : Parts → Codings → List Finding
+encoding_warnings c k =
     map (at_place finding.BadEncoding) k.bad
     ++ (type_warnings k.types
-    ++ (flat_map (line_warnings k) k.lines
+    ++ (flat_map (representation_warnings k) k.lines
     ++ told_by (name_warnings c k) [] (named_in k.lines)))

@@ -14,12 +14,12 @@ ghost use Rattle.lin_ldf.specs.Forms.{front};
 ghost use Rattle.lin_ldf.specs.Symbols.{Symbol};
 ghost use Rattle.lin_ldf.specs.Words.{is_word_next};
 ghost use Rattle.lin_values.specs.AttributeLints.{at_word, attribute_lints, bad_attribute};
-ghost use Rattle.lin_values.specs.AttributeLints.{has_address, has_attribute, has_status, is_bad};
+ghost use Rattle.lin_values.specs.AttributeLints.{has_address, has_attribute, has_status, is_bad_attribute};
 ghost use Rattle.lin_values.specs.AttributeLints.{is_below, is_too_short, no_response_error};
 ghost use Rattle.lin_values.specs.AttributeLints.{of_attribute, of_block, publishes};
 ghost use Rattle.lin_values.specs.AttributeLints.{timeout_too_short, version_of, HasWords};
 
-use crate::attributes::{Attribute, NodeAttributes};
+use crate::attribute_blocks::{Attribute, NodeAttributes};
 use crate::coded::put_first;
 use crate::frame_times::longest_distance;
 use indexmap::IndexMap;
@@ -82,7 +82,7 @@ fn publishers<'a>(alloc: Global, frames: &'a [Frame]) -> Result<Texts<'a>, Alloc
 }
 
 /// A description, and what its nodes are judged by, looked up once. Contracts see the description.
-struct Nodes<'a> {
+struct NodeFacts<'a> {
     description: &'a Description,
     slaves: Numbers<'a>,
     blocks: Numbers<'a>,
@@ -91,22 +91,22 @@ struct Nodes<'a> {
     responses_us: u128,
 }
 
-impl<'a> Model for Nodes<'a> {
+impl<'a> Model for NodeFacts<'a> {
     ghost use Rattle.lin_parts.specs.declared.description.Description.{Description};
-    ghost use Rattle.lin_values.specs.AttributeLints.{AreNodes};
+    ghost use Rattle.lin_values.specs.AttributeLints.{AreNodeFacts};
 
     ghost Value = { Description };
 
     ghost view = { λ n. n.description.now };
 
-    ghost invariant = { λ n. AreNodes n.description.now n.slaves.map n.blocks.map n.publishers.map
+    ghost invariant = { λ n. AreNodeFacts n.description.now n.slaves.map n.blocks.map n.publishers.map
         n.requests_us n.responses_us };
 }
 
 // Written out, so that what owns one lets it go in one step.
-impl<'a> Drop for Nodes<'a> {
+impl<'a> Drop for NodeFacts<'a> {
     fn drop(self) {
-        let Nodes {
+        let NodeFacts {
             description: _,
             slaves: _slaves,
             blocks: _blocks,
@@ -134,9 +134,9 @@ fn has_status(version: &[u8]) -> bool
     version.starts_with(b"2.".as_slice()) || version.starts_with(b"ISO17987".as_slice())
 }
 
-impl<'a> Nodes<'a> {
+impl<'a> NodeFacts<'a> {
     /// Looks at each name once. An error means out of memory.
-    fn new(alloc: Global, description: &'a Description) -> Result<Nodes<'a>, AllocError>
+    fn new(alloc: Global, description: &'a Description) -> Result<NodeFacts<'a>, AllocError>
         ensures { IfOk result (λ n. n ≡ description.now) }
     {
         let slaves = numbers_of(alloc, description.slaves())?;
@@ -144,7 +144,7 @@ impl<'a> Nodes<'a> {
         let publishers = publishers(alloc, description.frames())?;
         let requests_us = longest_distance(b"MasterReq", description);
         let responses_us = longest_distance(b"SlaveResp", description);
-        Ok(Nodes {
+        Ok(NodeFacts {
             description,
             slaves,
             blocks,
@@ -257,7 +257,7 @@ impl<'a> Nodes<'a> {
 
 /// Whether the value of an attribute isn't valid.
 fn is_bad(attribute: &Attribute<'_>) -> Result<bool, AllocError>
-    ensures { IfOk result (λ is. is ≡ is_bad attribute.now) }
+    ensures { IfOk result (λ is. is ≡ is_bad_attribute attribute.now) }
 {
     if attribute.is(b"product_id") {
         Ok(attribute.product()?.is_none())
@@ -294,7 +294,7 @@ fn has_attribute(
 /// Adds 65 of a responder.
 fn add_slave(
     found: &mut Vec<Finding>,
-    nodes: &Nodes<'_>,
+    nodes: &NodeFacts<'_>,
     version: Option<&Text>,
     blocks: &[NodeAttributes<'_>],
     numbers: &Numbers<'_>,
@@ -316,7 +316,7 @@ fn add_slave(
 /// Adds 65 of each responder.
 fn add_slaves(
     found: &mut Vec<Finding>,
-    nodes: &Nodes<'_>,
+    nodes: &NodeFacts<'_>,
     version: Option<&Text>,
     blocks: &[NodeAttributes<'_>],
     numbers: &Numbers<'_>,
@@ -355,7 +355,7 @@ fn add_twice<'a>(
 /// Adds 69 and 70 of an attribute.
 fn add_faults(
     found: &mut Vec<Finding>,
-    nodes: &Nodes<'_>,
+    nodes: &NodeFacts<'_>,
     node: &Name,
     attribute: &Attribute<'_>,
 ) -> Result<(), AllocError>
@@ -379,7 +379,7 @@ fn add_faults(
 /// Adds the warnings of an attribute, and notes its word.
 fn add_attribute<'a>(
     found: &mut Vec<Finding>,
-    nodes: &Nodes<'_>,
+    nodes: &NodeFacts<'_>,
     node: &Name,
     words: &mut Texts<'a>,
     attribute: &Attribute<'a>,
@@ -398,7 +398,7 @@ fn add_attribute<'a>(
 fn add_block(
     alloc: Global,
     found: &mut Vec<Finding>,
-    nodes: &Nodes<'_>,
+    nodes: &NodeFacts<'_>,
     block: &NodeAttributes<'_>,
 ) -> Result<(), AllocError>
     ensures { OnOk result (found.new.items ≡ found.old.items ++ of_block nodes.now block.now) }
@@ -428,7 +428,7 @@ pub fn lint_attributes(
     ensures { IfOk result (λ found. found.items
         ≡ attribute_lints description.now (option_map (λ v. v.now) version.entry) blocks.now) }
 {
-    let nodes = Nodes::new(alloc, description)?;
+    let nodes = NodeFacts::new(alloc, description)?;
     let numbers = numbers_of(alloc, blocks)?;
     let mut found = Vec::new(alloc);
     add_slaves(&mut found, &nodes, version, blocks, &numbers)?;

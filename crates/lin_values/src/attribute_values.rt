@@ -9,12 +9,12 @@ ghost use Rattle.lin_ldf.specs.Symbols.{symbols_in};
 ghost use Rattle.lin_ldf.specs.Tokens.{AreTokens};
 ghost use Rattle.lin_ldf.specs.declared.token.Token.{Token};
 ghost use Rattle.lin_values.specs.AttributeValues.{header_version, is_one_word, is_timing};
-ghost use Rattle.lin_values.specs.AttributeValues.{product_id, product_of, time, time_of};
+ghost use Rattle.lin_values.specs.AttributeValues.{product_id, product_of, milliseconds_form, milliseconds_in};
 ghost use Rattle.lin_values.specs.AttributeValues.{variant, version_line};
 ghost use Rattle.lin_values.specs.Stops.{Stops};
 
-use crate::attributes::Attribute;
-use crate::lines::has_line;
+use crate::attribute_blocks::Attribute;
+use crate::skipping::has_line;
 use crate::statements::pass_statement;
 use crate::stops::{mark_next, next_to, number_next, value_read};
 use lin_ldf::{LdfFault, Parser, TokenKind};
@@ -39,7 +39,7 @@ fn if_read<T: Drop>(read: Result<T, LdfFault>) -> Result<Option<T>, AllocError>
 
 // '=' DEC 'ms' ';'
 fn time(parser: &mut Parser<'_>) -> Result<Number, LdfFault>
-    ensures { Gives result parser.new (time.read parser.old) }
+    ensures { Gives result parser.new (milliseconds_form.read parser.old) }
 {
     parser.mark(TokenKind::Equals)?;
     parser.dec_in(b"ms", TokenKind::Semicolon)
@@ -93,7 +93,7 @@ impl<'a> Attribute<'a> {
     ///
     /// An error means out of memory.
     pub fn time(&self) -> Result<Option<u32>, AllocError>
-        ensures { IfOk result (λ time. time ≡ time_of self.now) }
+        ensures { IfOk result (λ time. time ≡ milliseconds_in self.now) }
     {
         let mut value = self.value();
         match if_read(time(&mut value))? {

@@ -11,24 +11,24 @@ ghost use Rattle.lin_cluster.specs.FindingsNames.{at_place};
 ghost use Rattle.lin_cluster.specs.declared.finding.FindingKind.TheVariants.{BadEncoding};
 ghost use Rattle.lin_parts.specs.Cluster.{signal_of};
 ghost use Rattle.lin_parts.specs.declared.description.Name.{Name};
-ghost use Rattle.lin_values.specs.Coded.{coded, encoding_of, named_in, signal_at, signal_coding};
+ghost use Rattle.lin_values.specs.Coded.{coded_signals, encoding_of, named_in, signal_at, signal_coding};
 ghost use Rattle.lin_values.specs.Gathered.{encoding_in, gathered_warnings, is_other_kind, kind_told, line_told};
 ghost use Rattle.lin_values.specs.Gathered.{lines_of, lines_told, name_told, names_of, signal_in};
-ghost use Rattle.lin_values.specs.Gathered.{told_of_kind, type_at, type_number, uncoded};
-ghost use Rattle.lin_values.specs.Gathered.{AreNamed, AreSignals};
+ghost use Rattle.lin_values.specs.Gathered.{told_of_kind, type_at, type_number, signal_without_coding};
+ghost use Rattle.lin_values.specs.Gathered.{AreNamed, AreSignalsByName};
 ghost use Rattle.lin_values.specs.Kept.{kept_signal};
-ghost use Rattle.lin_values.specs.Warnings.{item_warnings, most_of, signal_named, told_by};
-ghost use Rattle.lin_values.specs.Warnings.{type_warning, warnings};
+ghost use Rattle.lin_values.specs.Warnings.{item_warnings, greatest_raw, signal_by_name, told_by};
+ghost use Rattle.lin_values.specs.Warnings.{type_warning, encoding_warnings};
 
+use crate::codings::{CodedLine, CodingType, Codings};
 use crate::encoding::{Encoding, Traits};
-use crate::items::{CodedLine, CodingType, Codings};
 use indexmap::IndexMap;
 use lin_cluster::{
     Finding, FindingKind, Named, Numbers, at_name, number_by, numbers_of, push_when,
 };
 use lin_frame::Value;
 use lin_parts::description::Name;
-use lin_parts::{Cluster, Place};
+use lin_parts::{Cluster, Location};
 use lin_text::Many;
 use std::alloc::{AllocError, Global};
 use std::marker::Model;
@@ -119,7 +119,7 @@ pub(crate) fn put_first<'a, V: Copy>(
 /// A signal of a cluster, without an encoding.
 fn uncoded(cluster: &Cluster, signal: u16) -> CodedSignal
     requires { signal < length cluster.now.signals }
-    ensures { result ≡ uncoded (signal_of cluster.now signal) }
+    ensures { result ≡ signal_without_coding (signal_of cluster.now signal) }
 {
     let is_array = match cluster.initial(signal) {
         Value::Scalar(_) => false,
@@ -137,7 +137,7 @@ fn signals_by_name(
     alloc: Global,
     cluster: &Cluster,
 ) -> Result<IndexMap<&[u8], CodedSignal>, AllocError>
-    ensures { IfOk result (λ m. AreSignals cluster.now m) }
+    ensures { IfOk result (λ m. AreSignalsByName cluster.now m) }
 {
     let mut signals = IndexMap::with_capacity(alloc, cluster.signals())?;
     for signal in 0..cluster.signals() as u16 {
@@ -171,7 +171,7 @@ fn all_signals(
 
 /// The greatest number that so many bits hold, 16 at most.
 pub(crate) fn most_of(bits: u8) -> u16
-    ensures { result ≡ most_of bits }
+    ensures { result ≡ greatest_raw bits }
 {
     if bits >= 16 {
         65_535
@@ -284,7 +284,7 @@ impl<'a> Declared<'a> {
 
     /// The signal that has a name.
     fn signal_named(&self, name: &Name) -> Option<CodedSignal>
-        ensures { result ≡ option_map uncoded (signal_named self.now.parts name.now) }
+        ensures { result ≡ option_map signal_without_coding (signal_by_name self.now.parts name.now) }
     {
         self.signals.get(&name.text.as_slice()).copied()
     }
@@ -316,7 +316,7 @@ impl<'a> Declared<'a> {
     ) -> Result<(), AllocError>
         ensures { OnOk result (warned.new.items ≡ warned.old.items
             ++ name_told is_first (type_at self.now.types encoding) name.now
-            (signal_named self.now.parts name.now)) }
+            (signal_by_name self.now.parts name.now)) }
     {
         match self.signal_named(name) {
             None => warned.push(at_name(FindingKind::UnknownSignal, name))?,
@@ -431,7 +431,7 @@ fn all_encodings(
 }
 
 /// Where items and lines stand that are in no form.
-fn add_bad(warned: &mut Vec<Finding>, bad: &[Place]) -> Result<(), AllocError>
+fn add_bad(warned: &mut Vec<Finding>, bad: &[Location]) -> Result<(), AllocError>
     ensures { OnOk result
         (warned.new.items ≡ warned.old.items ++ map (at_place BadEncoding) bad.now) }
 {
@@ -450,8 +450,8 @@ pub fn coded_by(
     cluster: &Cluster,
     codings: Codings,
 ) -> Result<(Coded, Many<Finding>), AllocError>
-    ensures coded { IfOk result (λ r. r.0 ≡ coded cluster.now codings) }
-    ensures warnings { IfOk result (λ r. IsPermutation (warnings cluster.now codings) r.1) }
+    ensures coded { IfOk result (λ r. r.0 ≡ coded_signals cluster.now codings) }
+    ensures warnings { IfOk result (λ r. IsPermutation (encoding_warnings cluster.now codings) r.1) }
     ensures ordered { IfOk result (λ r. IsSorted finding_cmp r.1) }
 {
     let Codings { types, lines, bad } = codings;

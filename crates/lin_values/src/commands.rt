@@ -4,7 +4,7 @@
 ghost use Rattle.std.specs.Prelude.{◌≡◌, IfOk, OnOk};
 ghost use Rattle.lin_values.specs.Commands.{arguments, byte_arguments, command_of, frame_arguments};
 ghost use Rattle.lin_values.specs.Commands.{is_end, more_bytes, node_arguments, AreBytes, HasBytes};
-ghost use Rattle.lin_values.specs.Commands.{ReadsBytes};
+ghost use Rattle.lin_values.specs.Commands.{ReadsMoreBytes};
 ghost use Rattle.lin_values.specs.Stops.{Stops};
 
 use crate::stops::{mark_next, name_next, next_to, number_next};
@@ -70,7 +70,7 @@ fn more_bytes(
     most: usize,
 ) -> Result<(), LdfFault>
     requires { AreBytes bytes.old.items }
-    ensures read { ReadsBytes result bytes.new.items parser.new
+    ensures read { ReadsMoreBytes result bytes.new.items parser.new
         (more_bytes bytes.old.items least most parser.old) }
     ensures bytes { OnOk result (AreBytes bytes.new.items) }
 {

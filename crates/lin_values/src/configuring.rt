@@ -10,17 +10,17 @@ ghost use Rattle.lin_values.specs.Configuring.{command_request, command_warnings
 ghost use Rattle.lin_values.specs.Configuring.{entry_request, entry_warnings, identities_in, identity_at};
 ghost use Rattle.lin_values.specs.Configuring.{identity_in};
 ghost use Rattle.lin_values.specs.Configuring.{requests_in, requests_named, section_requests};
-ghost use Rattle.lin_values.specs.Configuring.{section_warnings, table_named, table_requests, table_warnings};
+ghost use Rattle.lin_values.specs.Configuring.{section_warnings, table_named, table_requests, table_command_warnings};
 ghost use Rattle.lin_values.specs.Configuring.{warnings_by};
-ghost use Rattle.lin_values.specs.Lines.{lines};
+ghost use Rattle.lin_values.specs.Lines.{token_lines};
 ghost use Rattle.lin_values.specs.Statements.{statements};
 
-use crate::attributes::read_attributes;
+use crate::attribute_blocks::read_attributes;
 use crate::commands::{Command, command_of, read_arguments};
-use crate::configured::name_here;
+use crate::configurable_lists::name_here;
 use crate::identities::{NodeIdentity, identities_of};
-use crate::lines::{has_line, pass_line};
 use crate::requests::{add_odd, frames_in, identity_named, initial_of, request};
+use crate::skipping::{has_line, pass_line};
 use crate::statements::{inside, is_group, pass_statement};
 use crate::stops::or_found;
 use lin_cluster::{Finding, FindingKind};
@@ -101,9 +101,9 @@ fn entry_requests(
     warned: &mut Vec<Finding>,
 ) -> Result<Vec<Option<[u8; 8]>>, AllocError>
     ensures requests { IfOk result (λ found. found.items
-        ≡ map (entry_request cluster.now identities.now) (lines parser.old)) }
+        ≡ map (entry_request cluster.now identities.now) (token_lines parser.old)) }
     ensures warned { OnOk result (warned.new.items ≡ warned.old.items
-        ++ flat_map (entry_warnings cluster.now identities.now) (lines parser.old)) }
+        ++ flat_map (entry_warnings cluster.now identities.now) (token_lines parser.old)) }
 {
     let mut requests = Vec::new(parser.alloc());
     while has_line(parser) {
@@ -124,7 +124,7 @@ fn add_table(
     ensures tables { OnOk result (tables.new.items
         ≡ tables.old.items ++ table_requests cluster.now identities.now parser.now) }
     ensures warned { OnOk result (warned.new.items
-        ≡ warned.old.items ++ table_warnings cluster.now identities.now parser.now) }
+        ≡ warned.old.items ++ table_command_warnings cluster.now identities.now parser.now) }
 {
     if !is_group(parser) {
         return Ok(());
@@ -147,7 +147,7 @@ fn add_tables(
     ensures tables { OnOk result (tables.new.items ≡ tables.old.items
         ++ flat_map (table_requests cluster.now identities.now) (statements parser.old)) }
     ensures warned { OnOk result (warned.new.items ≡ warned.old.items
-        ++ flat_map (table_warnings cluster.now identities.now) (statements parser.old)) }
+        ++ flat_map (table_command_warnings cluster.now identities.now) (statements parser.old)) }
 {
     while has_line(parser) {
         add_table(parser, cluster, identities, tables, warned)?;

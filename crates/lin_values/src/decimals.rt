@@ -4,7 +4,7 @@ ghost use Rattle.std.specs.Prelude.{◌≡◌, ◌+◌, ◌-◌, ◌*◌, ◌^�
 ghost use lib.IntN.{◌+ℤ◌, ◌*ℤ◌, pos};
 ghost use Rattle.lin_text.specs.Written.{Grows};
 ghost use Rattle.lin_values.specs.Shown.{fraction, last_digits, decimal_shown};
-ghost use Rattle.lin_values.specs.Value.{signed, shortest_at, value, IsInLimits, IsReadable};
+ghost use Rattle.lin_values.specs.Value.{with_sign, shortest_at, scaled_value, IsInLimits, IsReadable};
 ghost use Rattle.lin_values.specs.Value.{is_small, IsShortest};
 
 use lin_text::TextWriter;
@@ -43,7 +43,7 @@ fn digits_at(d: Decimal, places: u8) -> u128
 /// The sum of two numbers with signs, where 0 may have either.
 fn sum(minus_a: bool, a: u128, minus_b: bool, b: u128) -> (bool, u128)
     requires { a + b < 10 ^ 38 }
-    ensures same { signed result.0 result.1 ≡ signed minus_a a +ℤ signed minus_b b }
+    ensures same { with_sign result.0 result.1 ≡ with_sign minus_a a +ℤ with_sign minus_b b }
     ensures fits { result.1 ≤ a + b }
 {
     if minus_a == minus_b {
@@ -58,7 +58,7 @@ fn sum(minus_a: bool, a: u128, minus_b: bool, b: u128) -> (bool, u128)
 /// The same value without zeros at the end.
 pub(crate) fn shortest(negative: bool, digits: u128, places: u8) -> Decimal
     requires { places ≤ 24 }
-    ensures same { value result ≡ signed negative (digits * 10 ^ (24 - places)) }
+    ensures same { scaled_value result ≡ with_sign negative (digits * 10 ^ (24 - places)) }
     ensures size { result.digits * 10 ^ (24 - result.places) ≡ digits * 10 ^ (24 - places) }
     ensures exact { result ≡ shortest_at negative digits places }
     ensures places { result.places ≤ places }
@@ -81,7 +81,7 @@ pub(crate) fn shortest(negative: bool, digits: u128, places: u8) -> Decimal
 pub fn physical(raw: u16, scale: Decimal, offset: Decimal) -> Decimal
     requires scale { IsInLimits scale }
     requires offset { IsInLimits offset }
-    ensures same { value result ≡ pos raw *ℤ value scale +ℤ value offset }
+    ensures same { scaled_value result ≡ pos raw *ℤ scaled_value scale +ℤ scaled_value offset }
     ensures size { IsReadable result }
     ensures form { IsShortest result }
 {
@@ -99,7 +99,7 @@ pub fn physical(raw: u16, scale: Decimal, offset: Decimal) -> Decimal
 /// The value in units of 10 ^ -24.
 pub fn units(d: Decimal) -> i128
     requires { IsReadable d }
-    ensures { result ≡ value d }
+    ensures { result ≡ scaled_value d }
 {
     let size = (d.digits * ten_to(24 - d.places)) as i128;
     if d.negative { -size } else { size }
@@ -108,7 +108,7 @@ pub fn units(d: Decimal) -> i128
 /// Whether a decimal is below 10 ^ 9 in size, with at most 24 places.
 pub fn is_small(d: Decimal) -> bool
     requires { IsReadable d }
-    ensures same { result ≡ is_small (value d) }
+    ensures same { result ≡ is_small (scaled_value d) }
     ensures limits { result ≡ true → IsInLimits d }
 {
     d.digits < ten_to(9 + d.places)

@@ -6,18 +6,18 @@ ghost use Rattle.std.specs.Prelude.{if◌then◌else◌};
 ghost use Rattle.std.specs.List.{list_any};
 ghost use Rattle.std.specs.Option.{option_or};
 ghost use Rattle.lin_cluster.specs.FindingsNames.{at_place};
-ghost use Rattle.lin_values.specs.Coded.{all_items, first_coding, greatest, has_value, in_range};
+ghost use Rattle.lin_values.specs.Coded.{all_items, first_coding, greatest_end, has_value, in_range};
 ghost use Rattle.lin_values.specs.Coded.{is_numeric, is_range, item_by, item_for, range_in};
 ghost use Rattle.lin_values.specs.Coded.{range_of, second_coding};
-ghost use Rattle.lin_values.specs.ItemNumbers.{range_at, range_told, span_told, value_at, value_told};
+ghost use Rattle.lin_values.specs.ItemNumbers.{range_at, range_told, span_told, item_with_value, value_told};
 ghost use Rattle.lin_values.specs.Layers.{in_span, item_in, AreInOrder};
 ghost use Rattle.lin_values.specs.Traits.{has_coding, with_coding, with_number, with_traits};
 ghost use Rattle.lin_values.specs.Warnings.{item_warnings, range_warnings, value_warnings};
 ghost use Rattle.lin_values.specs.declared.encoding.Coding.TheVariants.{Bcd, Ascii};
 
-use crate::items::{CodingType, Item, PlacedItem};
-use crate::layers::{Layers, Part, Span, item_at};
-use crate::limits::Coefficient;
+use crate::codings::{CodingType, Item, PlacedItem};
+use crate::decimal_limits::Coefficient;
+use crate::layers::{Layers, RangePart, Span, item_at};
 use lin_cluster::{Finding, FindingKind};
 use lin_text::Many;
 use std::alloc::{AllocError, Global};
@@ -93,7 +93,7 @@ impl Traits {
     pub(crate) fn of(items: &[PlacedItem]) -> Traits
         ensures numeric { result.is_numeric ≡ is_numeric items.now }
         ensures range { result.has_range ≡ list_any is_range (all_items items.now) }
-        ensures greatest { result.greatest ≡ greatest items.now }
+        ensures greatest { result.greatest ≡ greatest_end items.now }
         ensures first { result.first ≡ first_coding items.now }
         ensures second { result.second ≡ second_coding items.now }
     {
@@ -115,11 +115,11 @@ impl Traits {
 pub struct Encoding {
     coding: CodingType,
     traits: Traits,
-    parts: Many<Part>,
+    parts: Many<RangePart>,
 }
 
 impl Model for Encoding {
-    ghost use Rattle.lin_values.specs.declared.items.CodingType.{CodingType};
+    ghost use Rattle.lin_values.specs.declared.codings.CodingType.{CodingType};
 
     ghost Value = { CodingType };
 
@@ -184,7 +184,7 @@ fn add_values(
     ensures warned { OnOk result
         (warned.new.items ≡ warned.old.items ++ value_warnings items.now) }
     ensures layers { OnOk result
-        ((raw : ℕ) → item_in layers.new raw ≡ value_at items.now raw) }
+        ((raw : ℕ) → item_in layers.new raw ≡ item_with_value items.now raw) }
 {
     for number in 0..items.len() {
         add_value(layers, number, &items[number], warned)?;
@@ -310,7 +310,7 @@ impl Encoding {
     pub fn traits(&self) -> Traits
         ensures numeric { result.is_numeric ≡ is_numeric self.now.items }
         ensures range { result.has_range ≡ list_any is_range (all_items self.now.items) }
-        ensures greatest { result.greatest ≡ greatest self.now.items }
+        ensures greatest { result.greatest ≡ greatest_end self.now.items }
         ensures first { result.first ≡ first_coding self.now.items }
         ensures second { result.second ≡ second_coding self.now.items }
     {
@@ -318,7 +318,7 @@ impl Encoding {
     }
 
     /// The numbers of raw values for which each item counts, in order.
-    pub(crate) fn parts(&self) -> &[Part]
+    pub(crate) fn parts(&self) -> &[RangePart]
         ensures ordered { AreInOrder result.now }
         ensures found { (raw : ℕ) → raw < 65536
             → option_and_then (item_by self.now.items) (item_in result.now raw)

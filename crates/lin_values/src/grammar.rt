@@ -5,9 +5,9 @@ ghost use Rattle.lin_ldf.specs.Forms.{Gives};
 ghost use Rattle.lin_values.specs.Coding.{small, next_small, between_quotes, logical, physical};
 ghost use Rattle.lin_values.specs.Coding.{text_of_item, item, type_head, coded_line};
 
-use crate::items::{CodedLine, Item};
+use crate::codings::{CodedLine, Item};
 use crate::reals::real;
-use crate::texts::shown_text;
+use crate::shown_texts::shown_text;
 use lin_ldf::{LdfFault, Parser, TokenKind, one_or_more};
 use lin_parts::description::Name;
 use lin_text::Text;

@@ -4,17 +4,17 @@
 ghost use Rattle.std.specs.Prelude.{◌≡◌, ◌++◌, ◌∷◌, [], IfOk, OnOk, find, flat_map, map};
 ghost use Rattle.std.specs.Option.{option_copied};
 ghost use Rattle.lin_ldf.specs.Words.{is_word_next};
-ghost use Rattle.lin_values.specs.Identities.{configurable_frame, frame_warnings, frames_of, identities_of};
+ghost use Rattle.lin_values.specs.Identities.{configurable_frame, frame_list_warnings, attribute_frames, identities_of};
 ghost use Rattle.lin_values.specs.Identities.{identity_of, identity_unless, initial_in, initial_nad};
 ghost use Rattle.lin_values.specs.Identities.{initial_warnings, line_message, line_name, line_read};
-ghost use Rattle.lin_values.specs.Identities.{line_warnings, nad_next, product_in, product_warnings};
-ghost use Rattle.lin_values.specs.Identities.{warnings_of, warnings_unless};
-ghost use Rattle.lin_values.specs.Lines.{lines};
+ghost use Rattle.lin_values.specs.Identities.{frame_line_warnings, nad_next, product_in, product_warnings};
+ghost use Rattle.lin_values.specs.Identities.{identity_warnings, warnings_unless};
+ghost use Rattle.lin_values.specs.Lines.{token_lines};
 ghost use Rattle.lin_values.specs.Stops.{Stops};
 
+use crate::attribute_blocks::{Attribute, NodeAttributes};
 use crate::attribute_values::product_id;
-use crate::attributes::{Attribute, NodeAttributes};
-use crate::lines::{has_line, pass_line};
+use crate::skipping::{has_line, pass_line};
 use crate::stops::{add_stopped, mark_next, number_next, or_found};
 use lin_cluster::{Finding, FindingKind};
 use lin_ldf::{LdfFault, Parser, TokenKind};
@@ -149,7 +149,7 @@ fn add_frame(
 ) -> Result<(), AllocError>
     ensures frames { OnOk result
         (frames.new.items ≡ frames.old.items ++ configurable_frame line.now ∷ []) }
-    ensures warned { OnOk result (warned.new.items ≡ warned.old.items ++ line_warnings line.now) }
+    ensures warned { OnOk result (warned.new.items ≡ warned.old.items ++ frame_line_warnings line.now) }
 {
     let mut rest = line.ahead();
     let read = line_read(&mut rest);
@@ -167,9 +167,9 @@ fn add_frames(
     warned: &mut Vec<Finding>,
 ) -> Result<(), AllocError>
     ensures frames { OnOk result
-        (frames.new.items ≡ frames.old.items ++ map configurable_frame (lines parser.old)) }
+        (frames.new.items ≡ frames.old.items ++ map configurable_frame (token_lines parser.old)) }
     ensures warned { OnOk result
-        (warned.new.items ≡ warned.old.items ++ flat_map line_warnings (lines parser.old)) }
+        (warned.new.items ≡ warned.old.items ++ flat_map frame_line_warnings (token_lines parser.old)) }
 {
     while has_line(parser) {
         add_frame(parser, frames, warned)?;
@@ -184,9 +184,9 @@ fn add_list(
     frames: &mut Vec<ConfigurableFrame>,
     warned: &mut Vec<Finding>,
 ) -> Result<(), AllocError>
-    ensures frames { OnOk result (frames.new.items ≡ frames.old.items ++ frames_of attribute.now) }
+    ensures frames { OnOk result (frames.new.items ≡ frames.old.items ++ attribute_frames attribute.now) }
     ensures warned { OnOk result
-        (warned.new.items ≡ warned.old.items ++ frame_warnings attribute.now) }
+        (warned.new.items ≡ warned.old.items ++ frame_list_warnings attribute.now) }
 {
     if !attribute.is(b"configurable_frames") {
         return Ok(());
@@ -207,7 +207,7 @@ fn add_identity(
     warned: &mut Vec<Finding>,
 ) -> Result<(), AllocError>
     ensures all { OnOk result (all.new.items ≡ all.old.items ++ identity_of block.now ∷ []) }
-    ensures warned { OnOk result (warned.new.items ≡ warned.old.items ++ warnings_of block.now) }
+    ensures warned { OnOk result (warned.new.items ≡ warned.old.items ++ identity_warnings block.now) }
 {
     let attributes = block.attributes.as_slice();
     let product = product_in(attributes, warned)?;

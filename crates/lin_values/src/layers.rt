@@ -4,7 +4,7 @@ ghost use Rattle.std.specs.Prelude.{◌≡◌, ◌≤◌, [], ℕ, IfOk, OnOk, S
 ghost use Rattle.std.specs.Prelude.{if◌then◌else◌, ◌++◌, ◌∷◌, drop, length, take};
 ghost use Rattle.std.specs.List.{list_any};
 ghost use Rattle.std.specs.Option.{option_or};
-ghost use Rattle.lin_values.specs.Joined.{gaps, joined};
+ghost use Rattle.lin_values.specs.Joined.{gaps, joined_span};
 ghost use Rattle.lin_values.specs.Layers.{in_span, common_span, item_in, numbers_of, part_between, AreInOrder};
 
 use std::alloc::{AllocError, Global};
@@ -42,7 +42,7 @@ impl Span {
 
 /// Numbers for which one range counts.
 #[derive(Clone, Copy, Debug, PartialEq, Eq, PartialOrd, Ord)]
-pub struct Part {
+pub struct RangePart {
     pub span: Span,
     /// The number of its item.
     pub item: usize,
@@ -55,7 +55,7 @@ pub struct Part {
 pub struct Layers {
     alloc: Global,
     covered: Vec<Span>,
-    parts: Vec<Part>,
+    parts: Vec<RangePart>,
 }
 
 // (written out, so that an owner has one call)
@@ -71,10 +71,10 @@ impl Drop for Layers {
 
 impl Model for Layers {
     ghost use Rattle.std.specs.Prelude.{List};
-    ghost use Rattle.lin_values.specs.declared.layers.Part.{Part};
+    ghost use Rattle.lin_values.specs.declared.layers.RangePart.{RangePart};
     ghost use Rattle.lin_values.specs.Layers.{IsLayered};
 
-    ghost Value = { List Part };
+    ghost Value = { List RangePart };
 
     ghost view = { λ l. l.parts.items };
 
@@ -82,7 +82,7 @@ impl Model for Layers {
 }
 
 /// The item counts for the numbers from one to before another, if there are such.
-fn add_part(parts: &mut Vec<Part>, from: u32, end: u32, item: usize) -> Result<(), AllocError>
+fn add_part(parts: &mut Vec<RangePart>, from: u32, end: u32, item: usize) -> Result<(), AllocError>
     requires { end ≤ 65536 }
     ensures { OnOk result (parts.new.items ≡ parts.old.items ++ part_between from end item) }
 {
@@ -91,7 +91,7 @@ fn add_part(parts: &mut Vec<Part>, from: u32, end: u32, item: usize) -> Result<(
             from: from as u16,
             to: (end - 1) as u16,
         };
-        parts.push(Part { span, item })?;
+        parts.push(RangePart { span, item })?;
     }
     Ok(())
 }
@@ -128,7 +128,7 @@ fn join(
 /// of its numbers. The number of the first span behind them, and one span in the place of these and
 /// of the range.
 fn fill(
-    parts: &mut Vec<Part>,
+    parts: &mut Vec<RangePart>,
     covered: &[Span],
     at: usize,
     span: Span,
@@ -138,9 +138,9 @@ fn fill(
     ensures filled { OnOk result (parts.new.items
         ≡ parts.old.items ++ gaps span.from span.to item (drop at covered.now)) }
     ensures within { IfOk result (λ r. (at ≤ r.0) × (r.0 ≤ length covered.now)) }
-    ensures whole { IfOk result (λ r. r.1 ≡ (joined span span.to (drop at covered.now)).0) }
+    ensures whole { IfOk result (λ r. r.1 ≡ (joined_span span span.to (drop at covered.now)).0) }
     ensures behind { IfOk result
-        (λ r. drop r.0 covered.now ≡ (joined span span.to (drop at covered.now)).1) }
+        (λ r. drop r.0 covered.now ≡ (joined_span span span.to (drop at covered.now)).1) }
 {
     let mut whole = span;
     let mut next = u32::from(span.from);
@@ -196,7 +196,7 @@ impl Layers {
     /// The parts, in order of their numbers.
     ///
     /// An error means out of memory.
-    pub fn into_parts(self) -> Result<Vec<Part>, AllocError>
+    pub fn into_parts(self) -> Result<Vec<RangePart>, AllocError>
         ensures same { IfOk result (λ v. (n : ℕ) → item_in v.items n ≡ item_in self n) }
         ensures ordered { IfOk result (λ v. AreInOrder v.items) }
     {
@@ -211,7 +211,7 @@ impl Layers {
 }
 
 /// The item of the first range that has a number.
-pub fn item_at(parts: &[Part], number: u16) -> Option<usize>
+pub fn item_at(parts: &[RangePart], number: u16) -> Option<usize>
     requires { AreInOrder parts.now }
     ensures { result ≡ item_in parts.now number }
 {

@@ -11,10 +11,10 @@ ghost use Rattle.lin_values.specs.Raws.{is_coded};
 ghost use Rattle.lin_values.specs.Shown.{shown, plain_shown};
 
 use crate::coded::{Coded, CodedSignal};
+use crate::codings::Item;
+use crate::decimal_limits::PhysicalValue;
 use crate::decimals::put_decimal;
 use crate::encoding::{Coding, Encoding};
-use crate::items::Item;
-use crate::limits::PhysicalValue;
 use arrayvec::ArrayVec;
 use lin_frame::Value;
 use lin_text::{TextBuffer, TextWriter};

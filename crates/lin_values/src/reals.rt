@@ -9,10 +9,10 @@ ghost use Rattle.lin_values.specs.Real.{HasRoom, digit_units, digits_units, expo
 ghost use Rattle.lin_values.specs.Real.{exponent_size, mantissa_units, point_at, real_units, shift_of};
 ghost use Rattle.lin_values.specs.Value.{IsInLimits, IsShortest};
 
+use crate::decimal_limits::Coefficient;
 use crate::decimals::{shortest, ten_to};
-use crate::limits::Coefficient;
 use lin_ldf::{LdfFault, Parser, TokenKind};
-use lin_parts::Place;
+use lin_parts::Location;
 use std::alloc::AllocError;
 
 /// What an exponent of ten multiplies or divides by: one of the two is 0.
@@ -184,7 +184,7 @@ fn is_at_part(parser: &Parser<'_>) -> bool
 }
 
 /// Whether such a token is next, so many bytes behind a place in its line.
-fn is_at_part_behind(parser: &Parser<'_>, place: Place, length: usize) -> bool
+fn is_at_part_behind(parser: &Parser<'_>, place: Location, length: usize) -> bool
     ensures { result ≡ is_front (is_part place.line (place.column + length)) parser.now }
 {
     let next = parser.place();

@@ -4,10 +4,10 @@
 ghost use Rattle.std.specs.Prelude.{◌≡◌, ◌<◌, ◌++◌, OnOk, find};
 ghost use Rattle.std.specs.Option.{option_copied};
 ghost use Rattle.lin_values.specs.Commands.{AreBytes, HasBytes};
-ghost use Rattle.lin_values.specs.Requests.{address, address_of, assign_frame};
-ghost use Rattle.lin_values.specs.Requests.{assign_nad, assign_range, byte_at, bytes_request, data_dump};
+ghost use Rattle.lin_values.specs.Requests.{responder_address, address_of, assign_frame};
+ghost use Rattle.lin_values.specs.Requests.{assign_nad, assign_range, byte_or_ff, bytes_request, data_dump};
 ghost use Rattle.lin_values.specs.Requests.{event_pid, first_message, frame_pid, frames_in, given_range, has_message};
-ghost use Rattle.lin_values.specs.Requests.{high, identity_named, initial_of, listed_pid, listed_pids};
+ghost use Rattle.lin_values.specs.Requests.{high, identity_named, initial_nad_of, listed_pid, listed_pids};
 ghost use Rattle.lin_values.specs.Requests.{listed_range, low, node_request, odd_arguments, odd_pid};
 ghost use Rattle.lin_values.specs.Requests.{odd_range, pid_named, product_of, request};
 
@@ -80,7 +80,7 @@ fn address_of(cluster: &Cluster, name: &[u8]) -> Option<u8>
 
 /// Returns the address of the node of a command, or 73.
 fn address(cluster: &Cluster, node: &Name) -> Result<u8, Finding>
-    ensures { result ≡ address cluster.now node.now }
+    ensures { result ≡ responder_address cluster.now node.now }
 {
     match address_of(cluster, node.text.as_slice()) {
         Some(nad) => Ok(nad),
@@ -127,7 +127,7 @@ fn product_of(identities: &[NodeIdentity], node: &Name) -> Result<Product, Findi
 /// Returns the NAD that a node has before it is configured: `nad`, the configured one, if its attributes have
 /// no initial one.
 pub(crate) fn initial_of(identities: &[NodeIdentity], name: &[u8], nad: u8) -> u8
-    ensures { result ≡ initial_of identities.now name.now nad }
+    ensures { result ≡ initial_nad_of identities.now name.now nad }
 {
     match identity_named(identities, name) {
         Some(identity) => identity.initial.unwrap_or(nad),
@@ -258,7 +258,7 @@ fn listed_range(
 /// Returns one of the bytes of a command; FF if it isn't there.
 fn byte_at(bytes: &[Number], k: usize) -> u8
     requires { AreBytes bytes.now }
-    ensures { result ≡ byte_at bytes.now k }
+    ensures { result ≡ byte_or_ff bytes.now k }
 {
     match bytes.get(k) {
         Some(byte) => byte.value as u8,

@@ -5,13 +5,13 @@ ghost use Rattle.std.specs.Prelude.{option_map, unsigned_abs, true, Some, None, 
 ghost use Rattle.std.specs.List.{list_any};
 ghost use lib.IntN.{◌+ℤ◌, ◌*ℤ◌, ◌-ℤ◌, pos};
 ghost use Rattle.lin_values.specs.Layers.{in_span, IsBefore, IsSomeSpan};
-ghost use Rattle.lin_values.specs.Raws.{has_unit, in_option_span, lies_within, solved};
+ghost use Rattle.lin_values.specs.Raws.{has_unit, in_option_span, lies_within, is_mapped_within};
 ghost use Rattle.lin_values.specs.Raws.{sought_item, sought_part, sought_range, sought_raw, sought_value, AreWide};
 
 use crate::coded::{CodedSignal, most_of};
+use crate::codings::Item;
 use crate::encoding::{Encoding, Range};
-use crate::items::Item;
-use crate::layers::{Part, Span};
+use crate::layers::{RangePart, Span};
 use std::alloc::{AllocError, Global};
 
 /// What is looked for: a text of values, and decimals from one to another, in units of 10 ^ -24,
@@ -107,7 +107,7 @@ fn between(scale: i128, offset: i128, low: i128, high: i128) -> Option<Span>
 fn solved(range: &Range<'_>, low: i128, high: i128) -> Option<Span>
     requires low { unsigned_abs low ≤ 10 ^ 38 }
     requires high { unsigned_abs high ≤ 10 ^ 38 }
-    ensures found { (n : ℕ) → n < 65536 → solved range.now low high n ≡ in_option_span result n }
+    ensures found { (n : ℕ) → n < 65536 → is_mapped_within range.now low high n ≡ in_option_span result n }
     ensures some { IfSome result IsSomeSpan }
 {
     between(range.scale.units(), range.offset.units(), low, high)
@@ -180,7 +180,7 @@ fn part_span(
     encoding: &Encoding,
     signal: CodedSignal,
     sought: &Sought<'_>,
-    part: &Part,
+    part: &RangePart,
 ) -> Option<Span>
     requires { AreWide sought.now.decimals }
     ensures some { IfSome result IsSomeSpan }

@@ -2,7 +2,7 @@
 
 ghost use Rattle.std.specs.Prelude.{◌≡◌, ◌≢◌, ◌<◌, ◌≤◌, ◌++◌, ◌-◌, ◌/◌, ℕ, List, Some, None, IfSome};
 ghost use Rattle.std.specs.Prelude.{MatchOption, length, nat_le, option_map, slice_index, true, false, replicate, if◌then◌else◌};
-ghost use Rattle.lin_values.specs.Spelled.{array_of, in_quotes, number_after, pairs, scalar_of, scalar_within, IsHeld};
+ghost use Rattle.lin_values.specs.Spelled.{character_array, in_quotes, bcd_after, pairs, character_scalar, scalar_within, IsHeld};
 
 use crate::coded::{CodedSignal, most_of};
 use arrayvec::ArrayVec;
@@ -57,7 +57,7 @@ fn coded_bytes(text: &[u8]) -> Option<ArrayVec<u8, 8>>
 
 /// The number of up to four digits, four bits for each.
 fn coded_number(text: &[u8]) -> Option<u16>
-    ensures { result ≡ (if nat_le (length text.now) 4 then number_after 0 text.now else None) }
+    ensures { result ≡ (if nat_le (length text.now) 4 then bcd_after 0 text.now else None) }
 {
     if text.len() > 4 {
         return None;
@@ -75,7 +75,7 @@ fn coded_number(text: &[u8]) -> Option<u16>
 /// The scalar of two characters at most.
 fn coded_letters(text: &[u8]) -> Option<u16>
     ensures has { (ls : List ℕ) → text.now ≡ in_quotes ls → length ls ≤ 2
-        → result ≡ Some (scalar_of ls) }
+        → result ≡ Some (character_scalar ls) }
     ensures only { IfSome result (λ n. slice_index text.now 0 ≡ 34) }
 {
     match text {
@@ -105,9 +105,9 @@ fn filled(bytes: ArrayVec<u8, 8>, size: usize) -> Option<ArrayVec<u8, 8>>
 /// The array that digits or characters spell, filled up with 00.
 fn coded_array(bits: u8, text: &[u8]) -> Option<Value>
     ensures letters { (ls : List ℕ) → text.now ≡ in_quotes ls → length ls ≤ bits / 8
-        → bits / 8 ≤ 8 → result ≡ Some (array_of bits ls) }
+        → bits / 8 ≤ 8 → result ≡ Some (character_array bits ls) }
     ensures digits { (bs : List ℕ) → slice_index text.now 0 ≢ 34 → pairs text.now ≡ Some bs
-        → length bs ≤ bits / 8 → bits / 8 ≤ 8 → result ≡ Some (array_of bits bs) }
+        → length bs ≤ bits / 8 → bits / 8 ≤ 8 → result ≡ Some (character_array bits bs) }
     ensures held { IfSome result (λ v. IsHeld bits true v) }
 {
     let bytes = filled(coded_bytes(text)?, usize::from(bits / 8))?;
@@ -117,8 +117,8 @@ fn coded_array(bits: u8, text: &[u8]) -> Option<Value>
 /// The scalar that digits or characters spell.
 fn coded_scalar(bits: u8, text: &[u8]) -> Option<Value>
     ensures letters { (ls : List ℕ) → text.now ≡ in_quotes ls → length ls ≤ 2
-        → result ≡ scalar_within bits (scalar_of ls) }
-    ensures digits { (n : ℕ) → slice_index text.now 0 ≢ 34 → number_after 0 text.now ≡ Some n
+        → result ≡ scalar_within bits (character_scalar ls) }
+    ensures digits { (n : ℕ) → slice_index text.now 0 ≢ 34 → bcd_after 0 text.now ≡ Some n
         → length text.now ≤ 4 → result ≡ scalar_within bits n }
     ensures held { IfSome result (λ v. IsHeld bits false v) }
 {
@@ -135,14 +135,14 @@ fn coded_scalar(bits: u8, text: &[u8]) -> Option<Value>
 /// The value that digits or characters may spell.
 pub(crate) fn coded_value(signal: CodedSignal, text: &[u8]) -> Option<Value>
     ensures array_letters { signal.is_array ≡ true → (ls : List ℕ) → text.now ≡ in_quotes ls
-        → length ls ≤ signal.bits / 8 → signal.bits / 8 ≤ 8 → result ≡ Some (array_of signal.bits ls) }
+        → length ls ≤ signal.bits / 8 → signal.bits / 8 ≤ 8 → result ≡ Some (character_array signal.bits ls) }
     ensures array_digits { signal.is_array ≡ true → (bs : List ℕ) → slice_index text.now 0 ≢ 34
         → pairs text.now ≡ Some bs → length bs ≤ signal.bits / 8 → signal.bits / 8 ≤ 8
-        → result ≡ Some (array_of signal.bits bs) }
+        → result ≡ Some (character_array signal.bits bs) }
     ensures scalar_letters { signal.is_array ≡ false → (ls : List ℕ) → text.now ≡ in_quotes ls
-        → length ls ≤ 2 → result ≡ scalar_within signal.bits (scalar_of ls) }
+        → length ls ≤ 2 → result ≡ scalar_within signal.bits (character_scalar ls) }
     ensures scalar_digits { signal.is_array ≡ false → (n : ℕ) → slice_index text.now 0 ≢ 34
-        → number_after 0 text.now ≡ Some n → length text.now ≤ 4
+        → bcd_after 0 text.now ≡ Some n → length text.now ≤ 4
         → result ≡ scalar_within signal.bits n }
     ensures held { IfSome result (λ v. IsHeld signal.bits signal.is_array v) }
 {

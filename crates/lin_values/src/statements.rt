@@ -2,7 +2,7 @@
 
 ghost use Rattle.std.specs.Prelude.{◌≡◌, OnOk};
 ghost use Rattle.lin_ldf.specs.Forms.{Gives};
-ghost use Rattle.lin_values.specs.Statements.{behind, behind_statement, inside, is_group};
+ghost use Rattle.lin_values.specs.Statements.{tokens_left, behind_statement, inside, is_group};
 
 use lin_ldf::{LdfFault, Parser, TokenKind};
 use std::alloc::AllocError;
@@ -28,7 +28,7 @@ pub(crate) fn inside<'a>(parser: &Parser<'a>) -> Parser<'a>
 
 /// What was read is passed over; all tokens if it wasn't in its form.
 fn pass_read(parser: &mut Parser<'_>, read: Result<(), LdfFault>) -> Result<(), AllocError>
-    ensures { (form : _) → Gives read parser.old form → OnOk result (parser.new ≡ behind form) }
+    ensures { (form : _) → Gives read parser.old form → OnOk result (parser.new ≡ tokens_left form) }
 {
     match read {
         Ok(()) => Ok(()),

@@ -3,7 +3,7 @@
 ghost use Rattle.std.specs.Prelude.{◌≡◌, ◌++◌, ◌≤◌, IfOk, IfSome, Ok, OnOk};
 ghost use Rattle.lin_ldf.specs.Forms.{Gives};
 ghost use Rattle.lin_values.specs.Stops.{int_between, mark_next, name_next, next_to, number_next};
-ghost use Rattle.lin_values.specs.Stops.{or_stop, stopped, stopped_at, value_read, Stops};
+ghost use Rattle.lin_values.specs.Stops.{or_stop, findings_at_stop, stopped_at, value_read, Stops};
 
 use lin_cluster::{Finding, FindingKind, push_when};
 use lin_ldf::{LdfFault, Parser, TokenKind};
@@ -124,7 +124,7 @@ pub(crate) fn or_found<T: Drop>(
     ensures value { (reading : _) → Stops read parser.now reading
         → IfOk result (λ value. value ≡ value_read reading) }
     ensures found { (reading : _) → Stops read parser.now reading
-        → OnOk result (found.new.items ≡ found.old.items ++ stopped kind reading) }
+        → OnOk result (found.new.items ≡ found.old.items ++ findings_at_stop kind reading) }
     ensures same { IfOk result (λ value. IfSome value (λ x. read ≡ Ok x)) }
 {
     match read {

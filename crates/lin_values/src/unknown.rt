@@ -10,7 +10,7 @@ ghost use Rattle.lin_values.specs.Statements.{statements};
 ghost use Rattle.lin_values.specs.Unknown.{unknown_among, unknown_of_node, unknown_of_section};
 ghost use Rattle.lin_values.specs.Unknown.{unknown_unless, unknown_words};
 
-use crate::lines::has_line;
+use crate::skipping::has_line;
 use crate::statements::{inside, is_group, pass_statement};
 use lin_cluster::{Finding, FindingKind, push_when};
 use lin_ldf::{Parser, TokenKind, is_attribute, is_section};

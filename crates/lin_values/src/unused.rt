@@ -8,11 +8,11 @@ ghost use Rattle.lin_cluster.specs.Names.{NumbersFirst};
 ghost use Rattle.lin_parts.specs.declared.description.Name.{Name};
 ghost use Rattle.lin_values.specs.Coded.{named_in};
 ghost use Rattle.lin_values.specs.Gathered.{encoding_in, names_of, type_number, AreNamed};
-ghost use Rattle.lin_values.specs.Unused.{is_number, unused_encodings, AreUnused};
-ghost use Rattle.lin_values.specs.declared.items.CodingType.{CodingType};
+ghost use Rattle.lin_values.specs.Unused.{is_raw_number, unused_encodings, AreUnused};
+ghost use Rattle.lin_values.specs.declared.codings.CodingType.{CodingType};
 
 use crate::coded::{NamedSignals, put_first};
-use crate::items::{CodedLine, CodingType, Codings};
+use crate::codings::{CodedLine, CodingType, Codings};
 use indexmap::{IndexMap, IndexSet};
 use lin_cluster::{
     Finding, FindingKind, Named, Numbers, at_name, number_by, numbers_of, push_when,
@@ -84,7 +84,7 @@ fn used_numbers(
     named: &NamedSignals<'_>,
 ) -> Result<IndexSet<usize>, AllocError>
     ensures { IfOk result (λ used. (n : ℕ) → contains nat_eq used n
-        ≡ list_any (λ s. is_number n (encoding_in named.now.map s.name.text)) signals.now) }
+        ≡ list_any (λ s. is_raw_number n (encoding_in named.now.map s.name.text)) signals.now) }
 {
     let mut used = IndexSet::new(alloc);
     for signal in signals {

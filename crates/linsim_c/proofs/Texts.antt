@@ -1,29 +1,37 @@
 -- What `parse` and `check` say of a text, in C's words.
-use Rattle.std.proofs.Common.{◌≡◌, ◌≢◌, ◌⊎◌, inl, inr, ℕ, ◌<◌, List, [], ◌∷◌, length, Result, Ok, Err, ap, sym, ◌∙◌, slice_index_or, rules}
+use Rattle.std.proofs.Common.{◌≡◌, ◌≢◌, ◌⊎◌, inl, inr, ℕ, Bool, subst, ◌<◌, List, [], ◌∷◌, length, Result, Ok, Err, ap, sym, ◌∙◌, slice_index_or, rules}
+use Rattle.std.specs.Prelude.{IfErr, IfOk}
 use Rattle.std.proofs.lemmas.List.{nil_from_length}
 use Rattle.std.proofs.lemmas.List.Sorted.{length_permutation}
 use Rattle.lin_ldf.specs.Describes.{Describes}
+use Rattle.lin_ldf.specs.Stream.{start_of}
+use Rattle.lin_ldf.specs.Symbols.{symbols_in}
 use Rattle.lin_ldf.specs.Tokens.{IsLexFault}
 use Rattle.lin_ldf.specs.declared.fault.LdfFault.{LdfFault}
 use Rattle.lin_ldf.specs.declared.fault.LdfFault.TheVariants as ldf
 use Rattle.lin_parts.specs.declared.description.Description.{Description}
-use Rattle.lin_cluster.specs.Checks.{IsFaultOf}
+use Rattle.lin_parts.specs.declared.parts.Parts.{Parts}
+use Rattle.lin_cluster.specs.Checks.{IsCheckFault}
 use Rattle.lin_cluster.specs.Findings.{candidates}
 use Rattle.lin_cluster.specs.declared.finding.CheckFault.TheVariants.{Findings}
 use Rattle.lin_cluster.specs.declared.finding.Finding.{Finding}
 use Rattle.lin_field.specs.Bytes.{field_bytes}
-use Rattle.lin_field.specs.Describes.{Reads}
-use Rattle.lin_field.specs.declared.reading.FieldText.{FieldText}
-use Rattle.lin_field.specs.declared.settling.Settled.{Settled}
-use Rattle.linsim_c.specs.Described.{AnswersChecked, AnswersField, AnswersSettled, coded_in}
-use Rattle.linsim_c.specs.declared.described.Described.{Described}
+use Rattle.lin_field.specs.Describes.{ReadsFieldText}
+use Rattle.lin_field.specs.declared.field_text.FieldText.{FieldText}
+use Rattle.lin_field.specs.declared.normalizing.Normalized.{Normalized}
+use Rattle.linsim_c.specs.Described.{AnswersChecked, AnswersField, AnswersNormalized, AnswersStandard, ChecksField}
+use Rattle.linsim_c.specs.Described.{blanked_text, coded_in, configured_in}
+use Rattle.linsim_c.specs.declared.ldf_cluster.Described.{Described}
 use Rattle.linsim_c.specs.declared.fault.Fault.TheVariants as fault
-use Rattle.linsim_c.specs.Setups.{IsFirstFinding, Tells, TextFaults}
+use Rattle.lin_values.specs.Coded.{coded_signals}
+use Rattle.lin_values.specs.Reading.{codings}
+use Rattle.lin_values.specs.declared.codings.Codings.{Codings}
+use Rattle.linsim_c.specs.Setups.{IsClusterOf, IsFirstFinding, IsParseFault, TextFaults}
 use Rattle.linsim_c.specs.declared.fault.Fault.{Fault}
 use Rattle.linsim_c.specs.declared.fault.Fault.TheVariants.{Ldf, OutOfMemory}
 
 -- what C's fault says of the text
-pub tells_fault : (text : List ℕ) (told : Fault) (fault : LdfFault) → Tells told fault
+pub tells_fault : (text : List ℕ) (told : Fault) (fault : LdfFault) → IsParseFault told fault
     → ((d : Description) → Describes text d → fault ≡ ldf.OutOfMemory)
     → ((e : LdfFault) → IsLexFault text e → e ≢ ldf.OutOfMemory → (fault ≡ e) ⊎ (fault ≡ ldf.OutOfMemory)) → TextFaults told text
 tells_fault text (Ldf f) fault (same, some) only first = record {
@@ -35,10 +43,10 @@ tells_fault text OutOfMemory fault h only first = tt
 tells_fault text _ fault h only first = absurd h
 
 -- the same of a text of the field
-pub tells_field : (text left : List ℕ) (told : Fault) (fault : LdfFault) → Tells told fault
-    → ((t : FieldText) → Reads text t → fault ≡ ldf.OutOfMemory)
+pub tells_field : (text left : List ℕ) (told : Fault) (fault : LdfFault) → IsParseFault told fault
+    → ((t : FieldText) → ReadsFieldText text t → fault ≡ ldf.OutOfMemory)
     → ((e : LdfFault) → IsLexFault (field_bytes text) e → e ≢ ldf.OutOfMemory → (fault ≡ e) ⊎ (fault ≡ ldf.OutOfMemory))
-    → AnswersSettled (Err told) text left
+    → AnswersNormalized (Err told) text left
 tells_field text left (Ldf f) fault (same, some) only first = record {
   some = λ memory. some (sym same ∙ memory);
   nothing = λ t h. some (only t h);
@@ -48,30 +56,52 @@ tells_field text left OutOfMemory fault h only first = tt
 tells_field text left _ fault h only first = absurd h
 
 -- why a text isn't settled, and what is answered to what it is settled to, is what is answered to it
-pub unsettled : (text left : List ℕ) (why : Fault) → AnswersSettled (Err why) text left → AnswersField (Err why) text
-unsettled text left (Ldf f) h = h
-unsettled text left OutOfMemory h = tt
-unsettled text left _ h = absurd h
+pub unsettled : (is_configured : Bool) (text left : List ℕ) (why : Fault) → AnswersNormalized (Err why) text left
+    → AnswersField is_configured (Err why) text
+unsettled is_configured text left (Ldf f) h = h
+unsettled is_configured text left OutOfMemory h = tt
+unsettled is_configured text left _ h = absurd h
 
-pub field_answer : (text left : List ℕ) (s : Settled) (r : Result Described Fault) → AnswersSettled (Ok s) text left → AnswersChecked r s left → AnswersField r text
-field_answer text left s (Ok d) (read, settled, is) ((free, said), coded) = record {
+pub field_answer : (is_configured : Bool) (text left : List ℕ) (s : Normalized) (r : Result Described Fault) → AnswersNormalized (Ok s) text left
+    → AnswersChecked is_configured r s left → AnswersField is_configured r text
+field_answer is_configured text left s (Ok d) (read, settled, is) (c, (free, said), sent, coded) = record {
   read = read;
   s = s;
   settled = settled;
   free = free;
-  said = said;
+  said = sent ∙ ap (λ bytes. configured_in is_configured bytes c) is ∙ ap (configured_in is_configured (blanked_text text read)) said;
   coded = coded ∙ ap (λ bytes. coded_in bytes d.cluster) is;
 }
-field_answer text left s (Err (fault.Finding f)) (read, settled, is) h = (read, s, settled, h)
-field_answer text left s (Err OutOfMemory) settled h = tt
-field_answer text left s (Err _) settled h = absurd h
+field_answer is_configured text left s (Err (fault.Finding f)) (read, settled, is) h = (read, s, settled, h)
+field_answer is_configured text left s (Err OutOfMemory) settled h = tt
+field_answer is_configured text left s (Err _) settled h = absurd h
+
+-- what values mean in the cluster that is answered
+coded-there : {d : Described} (text : List ℕ) (k : Codings) (q : Parts) → k ≡ codings (symbols_in text (start_of text).tokens)
+    → d.cluster ≡ q → d.coded ≡ coded_signals q k → d.coded ≡ coded_in text d.cluster
+coded-there text k q read same coded =
+    coded ∙ ap (coded_signals q) read ∙ ap (λ c. coded_signals c (codings (symbols_in text (start_of text).tokens))) (sym same)
+
+-- the cluster that was found, with its requests and with what values mean, is what is answered
+pub standard_answer : (is_configured : Bool) (text : List ℕ) (k : Codings) (p q : Parts) (r : Result Described Fault) → IsClusterOf text p
+    → q ≡ configured_in is_configured text p → k ≡ codings (symbols_in text (start_of text).tokens) → IfOk r (λ d. d.cluster ≡ q)
+    → IfOk r (λ d. d.coded ≡ coded_signals q k) → IfErr r (λ why. why ≡ OutOfMemory) → AnswersStandard is_configured r text
+standard_answer is_configured text k p q (Ok d) of sent read same coded memory = (p, of, same ∙ sent, coded-there text k q read same coded)
+standard_answer is_configured text k p q (Err why) of sent read same coded memory = subst (λ w. TextFaults w text) (sym memory) tt
+
+pub checked_answer : (is_configured : Bool) (left : List ℕ) (s : Normalized) (k : Codings) (p q : Parts) (r : Result Described Fault)
+    → ChecksField (Ok p) s → q ≡ configured_in is_configured left p → k ≡ codings (symbols_in left (start_of left).tokens)
+    → IfOk r (λ d. d.cluster ≡ q) → IfOk r (λ d. d.coded ≡ coded_signals q k) → IfErr r (λ why. why ≡ OutOfMemory)
+    → AnswersChecked is_configured r s left
+checked_answer is_configured left s k p q (Ok d) of sent read same coded memory = (p, of, same ∙ sent, coded-there left k q read same coded)
+checked_answer is_configured left s k p q (Err why) of sent read same coded memory = subst (λ w. ChecksField (Err w) s) (sym memory) tt
 
 -- there is a first finding
-pub some_found : (d : Description) (found : List Finding) → IsFaultOf d (Findings found) → 0 < length found
+pub some_found : (d : Description) (found : List Finding) → IsCheckFault d (Findings found) → 0 < length found
 some_found d [] (all, some, one) = absurd (some (nil_from_length (candidates d) (sym (length_permutation (candidates d) [] all.all))))
 some_found d (f ∷ fs) h = search rules
 
 pub first_found : (text : List ℕ) (d : Description) (found : List Finding) (other : Finding) → Describes text d
-    → IsFaultOf d (Findings found) → IsFirstFinding text (slice_index_or found 0 other)
+    → IsCheckFault d (Findings found) → IsFirstFinding text (slice_index_or found 0 other)
 first_found text d [] other described h = search (some_found d [] h, rules)
 first_found text d (f ∷ fs) other described h = record { description = d; described = described; others = fs; all = h.0 }

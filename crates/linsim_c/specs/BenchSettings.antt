@@ -1,10 +1,10 @@
 -- The settings of a bench: bytes that begin with their own size. Numbers are in little endian, and each
 -- byte that settings don't have is 0.
-use Rattle.std.specs.Prelude.{◌≡◌, ◌<◌, ◌≤◌, ◌+◌, ◌*◌, ◌^◌, ◌==◌, ◌&&◌, ◌||◌, ℕ, nat_le, not, Bool, false}
+use Rattle.std.specs.Prelude.{◌≡◌, ◌<◌, ◌≤◌, ◌+◌, ◌*◌, ◌/◌, ◌%◌, ◌^◌, ◌==◌, ◌&&◌, ◌||◌, ℕ, nat_le, not, Bool, false}
 use Rattle.std.specs.Prelude.{if◌then◌else◌, List, drop, length, slice_index_or, take, Result, Ok, Err}
 use Rattle.std.specs.List.{list_any}
-use Rattle.lin_live.specs.declared.format.AnswerFormat.{AnswerFormat}
-use Rattle.lin_live.specs.declared.format.AnswerFormat.TheVariants.{Log, Named}
+use Rattle.lin_live.specs.declared.answer_format.AnswerFormat.{AnswerFormat}
+use Rattle.lin_live.specs.declared.answer_format.AnswerFormat.TheVariants.{Log, Named}
 use Rattle.linsim_c.specs.declared.bench_settings.BenchSettings.{BenchSettings}
 use Rattle.linsim_c.specs.declared.fault.Fault.{Fault}
 use Rattle.linsim_c.specs.declared.fault.Fault.TheVariants.{BadSize, UnknownFlags, BadCapacity}
@@ -43,12 +43,15 @@ abbrev pub HasSize : List ℕ → Type 0
 HasSize bytes = (number_at bytes 0 ≡ length bytes) × (has_more bytes ≡ false)
 
 -- ---- the other members
--- the flags: 1 stands for `--field`, 2 for `--physical`
+-- the flags: bit 0 stands for `--field`, bit 1 for `--physical`, bit 2 for `--configuration`
 abbrev pub is_field : ℕ → Bool
-is_field flags = (flags == 1) || (flags == 3)
+is_field flags = flags % 2 == 1
 
 abbrev pub is_physical : ℕ → Bool
-is_physical flags = (flags == 2) || (flags == 3)
+is_physical flags = flags / 2 % 2 == 1
+
+abbrev pub is_configured : ℕ → Bool
+is_configured flags = flags / 4 % 2 == 1
 
 -- how many messages of a host may wait: 16 where it isn't said
 abbrev pub capacity_of : ℕ → ℕ
@@ -57,11 +60,12 @@ capacity_of number = if number == 0 then 16 else number
 abbrev pub format_of : ℕ → AnswerFormat
 format_of number = if number == 0 then Log else Named
 
-abbrev pub said : List ℕ → BenchSettings
-said bytes = record {
+abbrev pub settings_in : List ℕ → BenchSettings
+settings_in bytes = record {
   capacity = capacity_of (number_at bytes 8);
   is_field = is_field (word_at bytes 16);
   is_physical = is_physical (word_at bytes 16);
+  is_configured = is_configured (word_at bytes 16);
   format = format_of (half_at bytes 20);
   table = half_at bytes 22;
 }
@@ -69,18 +73,18 @@ said bytes = record {
 -- each of them has a meaning
 abbrev pub AreSound : List ℕ → Type 0
 AreSound bytes =
-    HasSize bytes × (word_at bytes 16 ≤ 3) × (number_at bytes 8 ≤ 1024) × (half_at bytes 20 ≤ 1)
+    HasSize bytes × (word_at bytes 16 ≤ 7) × (number_at bytes 8 ≤ 1024) × (half_at bytes 20 ≤ 1)
 
 -- why settings aren't read, in the order in which it is told
 abbrev pub SettingsFaults : Fault → List ℕ → Type 0
 SettingsFaults BadSize bytes = HasSize bytes → ⊥
-SettingsFaults UnknownFlags bytes = HasSize bytes × (3 < word_at bytes 16)
+SettingsFaults UnknownFlags bytes = HasSize bytes × (7 < word_at bytes 16)
 SettingsFaults BadCapacity bytes =
-    HasSize bytes × (word_at bytes 16 ≤ 3) × (1024 < number_at bytes 8)
+    HasSize bytes × (word_at bytes 16 ≤ 7) × (1024 < number_at bytes 8)
 SettingsFaults UnknownFormat bytes =
-    HasSize bytes × (word_at bytes 16 ≤ 3) × (number_at bytes 8 ≤ 1024) × (1 < half_at bytes 20)
+    HasSize bytes × (word_at bytes 16 ≤ 7) × (number_at bytes 8 ≤ 1024) × (1 < half_at bytes 20)
 SettingsFaults _ bytes = ⊥
 
 abbrev pub ReadsSettings : Result BenchSettings Fault → List ℕ → Type 0
-ReadsSettings (Ok s) bytes = AreSound bytes × (s ≡ said bytes)
+ReadsSettings (Ok s) bytes = AreSound bytes × (s ≡ settings_in bytes)
 ReadsSettings (Err why) bytes = SettingsFaults why bytes

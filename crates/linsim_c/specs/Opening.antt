@@ -4,13 +4,13 @@ use Rattle.lin_bench.specs.Rules.{no_rules}
 use Rattle.lin_bench.specs.Slots.{slot_limit}
 use Rattle.lin_core.specs.Core.{CoreData}
 use Rattle.lin_live.specs.Told.{HandData}
-use Rattle.linsim_c.specs.BenchSettings.{AreSound, SettingsFaults, said}
-use Rattle.linsim_c.specs.Described.{Describes}
+use Rattle.linsim_c.specs.BenchSettings.{AreSound, SettingsFaults, settings_in}
+use Rattle.linsim_c.specs.Described.{AnswersLdfText}
 use Rattle.linsim_c.specs.Setups.{IsSetUp, SetupFaults}
-use Rattle.linsim_c.specs.Statuses.{Answer}
+use Rattle.linsim_c.specs.Statuses.{CallResult}
 use Rattle.linsim_c.specs.Writing.{told_of}
 use Rattle.linsim_c.specs.declared.bench_settings.BenchSettings.{BenchSettings}
-use Rattle.linsim_c.specs.declared.described.Described.{Described}
+use Rattle.linsim_c.specs.declared.ldf_cluster.Described.{Described}
 use Rattle.linsim_c.specs.declared.fault.Fault.{Fault}
 use Rattle.linsim_c.specs.declared.fault.Fault.TheVariants.{BadSize, UnknownFlags, BadCapacity}
 use Rattle.linsim_c.specs.declared.fault.Fault.TheVariants.{UnknownFormat, NoSuchTable, OutOfMemory}
@@ -29,7 +29,7 @@ OpensCore (Ok core) ldf s = IsFresh ldf s core
 OpensCore (Err why) ldf s = SetupFaults why ldf s
 
 -- a handle without a session has this one, or it still has none; one that had a session keeps it
-abbrev pub OpensBy : Option Session → Option Session → Answer → (Session → Type 0) → (Fault → Type 0)
+abbrev pub OpensBy : Option Session → Option Session → CallResult → (Session → Type 0) → (Fault → Type 0)
     → Type 0
 OpensBy (Some s) after answer new why = (answer ≡ Err IsOpen) × (after ≡ Some s)
 OpensBy None after (Ok told) new why =
@@ -40,15 +40,15 @@ abbrev pub IsNewScript : List ℕ → Settings → Session → Type 0
 IsNewScript ldf s (Script c) = IsFresh ldf s c
 IsNewScript ldf s (Bench b) = ⊥
 
-abbrev pub Opens : Option Session → Option Session → Answer → List ℕ → Settings → Type 0
+abbrev pub Opens : Option Session → Option Session → CallResult → List ℕ → Settings → Type 0
 Opens before after answer ldf s =
     OpensBy before after answer (IsNewScript ldf s) (λ why. SetupFaults why ldf s)
 
 -- ---- benches
 
 -- a bench in hand on which no line was made
-abbrev pub in_hand : BenchSettings → Described → HandData
-in_hand s d = record {
+abbrev pub hand_of_settings : BenchSettings → Described → HandData
+hand_of_settings s d = record {
   format = s.format;
   cluster = d.cluster;
   opening = s.table;
@@ -64,8 +64,8 @@ in_hand s d = record {
 -- settings, and what the LDF describes where it is read as they say
 abbrev pub IsBenchSetUp : List ℕ → List ℕ → Described → Type 0
 IsBenchSetUp ldf bytes d =
-    AreSound bytes × Describes (said bytes).is_field (Ok d) ldf
-    × ((said bytes).table < length d.cluster.tables)
+    AreSound bytes × AnswersLdfText (settings_in bytes).is_field (settings_in bytes).is_configured (Ok d) ldf
+    × ((settings_in bytes).table < length d.cluster.tables)
 
 -- why there is no bench: faults of the settings come before those of the LDF, and a missing table last
 abbrev pub BenchFaults : Fault → List ℕ → List ℕ → Type 0
@@ -74,19 +74,19 @@ BenchFaults UnknownFlags ldf bytes = SettingsFaults UnknownFlags bytes
 BenchFaults BadCapacity ldf bytes = SettingsFaults BadCapacity bytes
 BenchFaults UnknownFormat ldf bytes = SettingsFaults UnknownFormat bytes
 BenchFaults NoSuchTable ldf bytes =
-    AreSound bytes × ((d : Described) × Describes (said bytes).is_field (Ok d) ldf
-    × (length d.cluster.tables ≤ (said bytes).table))
+    AreSound bytes × ((d : Described) × AnswersLdfText (settings_in bytes).is_field (settings_in bytes).is_configured (Ok d) ldf
+    × (length d.cluster.tables ≤ (settings_in bytes).table))
 BenchFaults OutOfMemory ldf bytes = Unit {0}
-BenchFaults why ldf bytes = AreSound bytes × Describes (said bytes).is_field (Err why) ldf
+BenchFaults why ldf bytes = AreSound bytes × AnswersLdfText (settings_in bytes).is_field (settings_in bytes).is_configured (Err why) ldf
 
 abbrev pub OpensHand : Result HandData Fault → List ℕ → List ℕ → Type 0
-OpensHand (Ok h) ldf bytes = (d : Described) × IsBenchSetUp ldf bytes d × (h ≡ in_hand (said bytes) d)
+OpensHand (Ok h) ldf bytes = (d : Described) × IsBenchSetUp ldf bytes d × (h ≡ hand_of_settings (settings_in bytes) d)
 OpensHand (Err why) ldf bytes = BenchFaults why ldf bytes
 
 abbrev pub IsNewBench : List ℕ → List ℕ → Session → Type 0
 IsNewBench ldf bytes (Script c) = ⊥
 IsNewBench ldf bytes (Bench b) = OpensHand (Ok b.hand) ldf bytes × (b.answer ≡ [])
 
-abbrev pub OpensBench : Option Session → Option Session → Answer → List ℕ → List ℕ → Type 0
+abbrev pub OpensBench : Option Session → Option Session → CallResult → List ℕ → List ℕ → Type 0
 OpensBench before after answer ldf bytes =
     OpensBy before after answer (IsNewBench ldf bytes) (λ why. BenchFaults why ldf bytes)

@@ -37,10 +37,10 @@ pub record IsFirstFinding (text : List ℕ) (first : Finding) : Type 0 where
   pub all : AreFindings description (first ∷ others)
 
 -- what a fault of `parse` is to C
-abbrev pub Tells : Fault → LdfFault → Type 0
-Tells (Ldf told) f = (told ≡ f) × (f ≢ ldf.OutOfMemory)
-Tells OutOfMemory f = f ≡ ldf.OutOfMemory
-Tells _ f = ⊥
+abbrev pub IsParseFault : Fault → LdfFault → Type 0
+IsParseFault (Ldf told) f = (told ≡ f) × (f ≢ ldf.OutOfMemory)
+IsParseFault OutOfMemory f = f ≡ ldf.OutOfMemory
+IsParseFault _ f = ⊥
 
 -- why an LDF text gives no cluster
 abbrev pub TextFaults : Fault → List ℕ → Type 0
@@ -64,12 +64,12 @@ abbrev pub AreSound : Settings → Type 0
 AreSound s = (s.flags ≡ 0) × (1 ≤ s.capacity) × (s.capacity ≤ 1024)
 
 -- the most bytes of an LDF text that is read
-abbrev pub most_bytes : ℕ
-most_bytes = 4194304
+abbrev pub most_ldf_bytes : ℕ
+most_ldf_bytes = 4194304
 
 -- such settings, and a text that is read
 abbrev pub AreRead : List ℕ → Settings → Type 0
-AreRead text s = AreSound s × (length text ≤ most_bytes)
+AreRead text s = AreSound s × (length text ≤ most_ldf_bytes)
 
 -- the cluster of the text, where the settings fit it
 abbrev pub IsSetUp : Parts → List ℕ → Settings → Type 0
@@ -79,7 +79,7 @@ IsSetUp c text s = AreRead text s × IsClusterOf text c × (s.table < length c.t
 abbrev pub SetupFaults : Fault → List ℕ → Settings → Type 0
 SetupFaults UnknownFlags text s = s.flags ≢ 0
 SetupFaults BadCapacity text s = (s.flags ≡ 0) × ((s.capacity ≡ 0) ⊎ (1024 < s.capacity))
-SetupFaults LdfTooLong text s = AreSound s × (most_bytes < length text)
+SetupFaults LdfTooLong text s = AreSound s × (most_ldf_bytes < length text)
 SetupFaults (Ldf f) text s = AreRead text s × IsTextFault text f
 SetupFaults (fault.Finding f) text s = AreRead text s × IsFirstFinding text f
 SetupFaults NoSuchTable text s =

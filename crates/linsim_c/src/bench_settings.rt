@@ -2,8 +2,8 @@
 
 ghost use Rattle.std.specs.Prelude.{◌≡◌, ◌≤◌, ◌<◌, ◌^◌, IfErr, IfOk, drop};
 ghost use Rattle.linsim_c.specs.BenchSettings.{ReadsSettings, byte_at, capacity_of, format_of, half_at};
-ghost use Rattle.linsim_c.specs.BenchSettings.{has_more, is_field, is_physical, number_at, read_size};
-ghost use Rattle.linsim_c.specs.BenchSettings.{word_at};
+ghost use Rattle.linsim_c.specs.BenchSettings.{has_more, is_configured, is_field, is_physical};
+ghost use Rattle.linsim_c.specs.BenchSettings.{number_at, read_size, word_at};
 ghost use Rattle.linsim_c.specs.declared.fault.Fault.TheVariants.{BadCapacity, UnknownFlags as Unknown};
 ghost use Rattle.linsim_c.specs.declared.fault.Fault.TheVariants.{UnknownFormat as NoFormat};
 
@@ -28,6 +28,8 @@ pub(crate) struct BenchSettings {
     pub is_field: bool,
     /// Whether values are told as what they mean, too.
     pub is_physical: bool,
+    /// Whether slots send the requests of node configuration commands.
+    pub is_configured: bool,
     pub format: AnswerFormat,
     /// The number of the schedule table that is begun with, from 0.
     pub table: u16,
@@ -98,22 +100,33 @@ fn has_more(bytes: &[u8]) -> bool
     further(bytes).iter().any(|byte| *byte != 0)
 }
 
-/// What flags say: whether the LDF is read by the wider grammar, and whether values are told as what
-/// they mean.
+/// The flags of settings, bit by bit.
+#[derive(Drop)]
+struct Flags {
+    is_field: bool,
+    is_physical: bool,
+    is_configured: bool,
+}
+
+/// What flags say: bit 0 `is_field`, bit 1 `is_physical`, bit 2 `is_configured`.
 ///
 /// # Errors
 /// `UnknownFlags`.
-fn flags_of(flags: u32) -> Result<(bool, bool), Fault>
-    ensures flags { IfOk result (λ said. (flags ≤ 3) × (said ≡ (is_field flags, is_physical flags))) }
-    ensures unknown { IfErr result (λ why. (why ≡ Unknown) × (3 < flags)) }
+fn flags_of(flags: u32) -> Result<Flags, Fault>
+    ensures known { IfOk result (λ said. flags ≤ 7) }
+    ensures field { IfOk result (λ said. said.is_field ≡ is_field flags) }
+    ensures physical { IfOk result (λ said. said.is_physical ≡ is_physical flags) }
+    ensures configured { IfOk result (λ said. said.is_configured ≡ is_configured flags) }
+    ensures unknown { IfErr result (λ why. (why ≡ Unknown) × (7 < flags)) }
 {
-    match flags {
-        0 => Ok((false, false)),
-        1 => Ok((true, false)),
-        2 => Ok((false, true)),
-        3 => Ok((true, true)),
-        _ => Err(Fault::UnknownFlags),
+    if flags > 7 {
+        return Err(Fault::UnknownFlags);
     }
+    Ok(Flags {
+        is_field: flags % 2 == 1,
+        is_physical: flags / 2 % 2 == 1,
+        is_configured: flags / 4 % 2 == 1,
+    })
 }
 
 /// How many messages of a host may wait.
@@ -158,13 +171,18 @@ pub(crate) fn read_settings(bytes: &[u8]) -> Result<BenchSettings, Fault>
     if number_at(bytes, 0) != bytes.len() || has_more(bytes) {
         return Err(Fault::BadSize);
     }
-    let (is_field, is_physical) = flags_of(word_at(bytes, 16))?;
+    let Flags {
+        is_field,
+        is_physical,
+        is_configured,
+    } = flags_of(word_at(bytes, 16))?;
     let capacity = capacity_of(number_at(bytes, 8))?;
     let format = format_of(half_at(bytes, 20))?;
     Ok(BenchSettings {
         capacity,
         is_field,
         is_physical,
+        is_configured,
         format,
         table: half_at(bytes, 22),
     })

@@ -1,13 +1,13 @@
 //! What a call of C's is answered: a status, and a report of what the status is about.
 
 ghost use Rattle.std.specs.Prelude.{◌≡◌};
-ghost use Rattle.linsim_c.specs.Statuses.{fault_number, place_of, report_of, status_of};
+ghost use Rattle.linsim_c.specs.Statuses.{fault_number, fault_place, report_of, status_of};
 ghost use Rattle.linsim_c.specs.declared.fault.Fault.TheVariants.{OutOfMemory as NoMemory};
 
-use crate::told::Told;
+use crate::written_text::Told;
 use lin_cluster::Finding;
 use lin_ldf::LdfFault;
-use lin_parts::Place;
+use lin_parts::Location;
 use std::alloc::AllocError;
 
 /// Why a call didn't do what it is for.
@@ -84,8 +84,8 @@ fn fault_number_of(fault: &LdfFault) -> u32
 }
 
 /// Where an LDF text is at fault; line and column 0 for want of memory.
-fn place_of_fault(fault: &LdfFault) -> Place
-    ensures { result ≡ place_of fault.now }
+fn place_of_fault(fault: &LdfFault) -> Location
+    ensures { result ≡ fault_place fault.now }
 {
     match fault {
         LdfFault::BadByte(at)
@@ -95,7 +95,7 @@ fn place_of_fault(fault: &LdfFault) -> Place
         | LdfFault::NumberTooLarge(at)
         | LdfFault::SectionTwice(at)
         | LdfFault::NameTwice(at) => *at,
-        LdfFault::OutOfMemory => Place { line: 0, column: 0 },
+        LdfFault::OutOfMemory => Location { line: 0, column: 0 },
     }
 }
 

@@ -4,11 +4,11 @@ ghost use Rattle.std.specs.declared.option.Option.{Option};
 ghost use Rattle.std.specs.declared.option.Option.TheVariants.{None, Some};
 ghost use Rattle.std.specs.Option.{MatchOption};
 ghost use Rattle.std.specs.Coded.{coded_option};
-ghost use Rattle.linsim_c.specs.contracts.kept.Kept.{the_row};
+ghost use Rattle.linsim_c.specs.contracts.kept.KeptSession.{the_row};
 ghost use Rattle.linsim_c.specs.declared.kept.Session.{Session};
 
-use crate::kept::Kept;
-use crate::loose::Loose;
+use crate::box_parts::BoxParts;
+use crate::kept::KeptSession;
 use std::alloc::Global;
 use std::marker::Model;
 use std::mem;
@@ -22,9 +22,9 @@ pub struct Handle {
 }
 
 impl Model for Handle {
-    ghost use Rattle.linsim_c.specs.Held.{held};
+    ghost use Rattle.linsim_c.specs.Held.{owns_session};
 
-    ghost also_owns = { λ h. held h.at h.value };
+    ghost also_owns = { λ h. owns_session h.at h.value };
 }
 
 impl Handle {
@@ -34,31 +34,31 @@ impl Handle {
         Handle { at: null_mut() }
     }
 
-    fn of(kept: Loose<Kept, Global>) -> Handle
+    fn of(kept: BoxParts<KeptSession, Global>) -> Handle
         ensures { result.value ≡ Some kept.value }
     {
-        let Loose { at, alloc: _ } = kept;
+        let BoxParts { at, alloc: _ } = kept;
         Handle {
             at: at.cast::<u8>(),
         }
     }
 
-    fn into_loose(self, alloc: Global) -> Option<Loose<Kept, Global>>
+    fn into_loose(self, alloc: Global) -> Option<BoxParts<KeptSession, Global>>
         ensures { MatchOption result (self.value ≡ None) (λ l. self.value ≡ Some l.value) }
     {
         let Handle { at } = self;
         if at.is_null() {
             None
         } else {
-            Some(Loose {
-                at: at.cast::<Kept>(),
+            Some(BoxParts {
+                at: at.cast::<KeptSession>(),
                 alloc,
             })
         }
     }
 
     /// Takes the session out.
-    pub fn take(&mut self, alloc: Global) -> Option<Box<Kept>>
+    pub fn take(&mut self, alloc: Global) -> Option<Box<KeptSession>>
         ensures old { MatchOption result (self.old.value ≡ None)
             (λ b. self.old.value ≡ Some b.value) }
         ensures new { self.new.value ≡ None }
@@ -70,10 +70,10 @@ impl Handle {
     }
 
     /// Puts a session in, and frees the one that was there.
-    pub fn put(&mut self, alloc: Global, kept: Box<Kept>)
+    pub fn put(&mut self, alloc: Global, kept: Box<KeptSession>)
         ensures { self.new.value ≡ Some kept.value }
     {
-        match mem::replace(self, Handle::of(Loose::of(kept))).into_loose(alloc) {
+        match mem::replace(self, Handle::of(BoxParts::of(kept))).into_loose(alloc) {
             Some(loose) => {
                 let _old = loose.into_box();
             }

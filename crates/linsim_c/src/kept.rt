@@ -2,7 +2,7 @@
 
 ghost use Rattle.std.specs.Prelude.{◌≡◌};
 
-use crate::bench::Bench;
+use crate::session_bench::SessionBench;
 use lin_core::Core;
 use lin_text::TextBuffer;
 use std::marker::Model;
@@ -13,18 +13,18 @@ pub enum Session {
     /// The core of a script, whose lines have steps by numbers.
     Script(Core),
     /// The bench of a bench script.
-    Bench(Bench),
+    Bench(SessionBench),
 }
 
 /// A session, and the buffer that its texts wait in, so that none is made for each. Contracts see the
 /// session.
 #[derive(Drop)]
-pub struct Kept {
+pub struct KeptSession {
     pub(crate) session: Session,
     pub(crate) buffer: TextBuffer,
 }
 
-impl Model for Kept {
+impl Model for KeptSession {
     ghost use Rattle.linsim_c.specs.declared.kept.Session.{Session};
 
     ghost Value = { Session };
@@ -32,11 +32,11 @@ impl Model for Kept {
     ghost view = { λ k. k.session };
 }
 
-impl Kept {
-    pub(crate) fn new(session: Session) -> Kept
+impl KeptSession {
+    pub(crate) fn new(session: Session) -> KeptSession
         ensures { result ≡ session }
     {
-        Kept {
+        KeptSession {
             session,
             buffer: TextBuffer::empty(),
         }

@@ -10,33 +10,33 @@ ghost use denote.Builtin.{u8};
 ghost use denote.RawPtr.{lies_at};
 ghost use Rattle.std.specs.declared.option.Option.TheVariants.{None};
 ghost use Rattle.linsim_c.specs.BenchSettings.{IsSized};
-ghost use Rattle.linsim_c.specs.Lines.{Makes, TellsNewest};
+ghost use Rattle.linsim_c.specs.Lines.{MakesAtHandle, TellsNewest};
 ghost use Rattle.linsim_c.specs.Opening.{Opens, OpensBench};
-ghost use Rattle.linsim_c.specs.Replaying.{Replays};
+ghost use Rattle.linsim_c.specs.Replaying.{AnswersReplay};
 ghost use Rattle.linsim_c.specs.Statuses.{IsCall};
 ghost use Rattle.linsim_c.specs.Version.{GivesVersion, version_report};
 
-mod bench;
 mod bench_settings;
-mod described;
+mod box_parts;
+mod entry_texts;
 mod fault;
 mod handle;
+mod handle_opening;
 mod kept;
-mod line;
-mod loose;
-mod opening;
+mod ldf_cluster;
+mod line_call;
 mod replaying;
+mod session_bench;
 mod settings;
-mod telling;
-mod told;
 mod version;
+mod written_text;
 
+use entry_texts::put;
 use fault::{Report, told};
 use handle::Handle;
 use settings::Settings;
 use std::alloc::Global;
 use std::slice::from_raw_parts;
-use telling::put;
 
 /// Writes the version as text at the beginning of `out`, and its length and number to the report.
 #[unsafe(no_mangle)]
@@ -58,7 +58,7 @@ pub extern "C" fn linsim_replay(
     out: &mut [u8],
     report: &mut Report,
 ) -> u32
-    ensures { IsCall (λ a. Replays a ldf.now settings.now script.now out.old out.new)
+    ensures { IsCall (λ a. AnswersReplay a ldf.now settings.now script.now out.old out.new)
         result report.new }
 {
     told(replaying::replay(alloc, ldf, settings, script, out), report)
@@ -76,7 +76,7 @@ pub extern "C" fn linsim_open(
     ensures { IsCall (λ a. Opens handle.old.value handle.new.value a ldf.now settings.now)
         result report.new }
 {
-    told(opening::open(alloc, ldf, settings, handle), report)
+    told(handle_opening::open(alloc, ldf, settings, handle), report)
 }
 
 /// Opens a bench on the cluster of an LDF, if the handle has no session.
@@ -90,7 +90,10 @@ fn open_bench(
     ensures { IsCall (λ a. OpensBench handle.old.value handle.new.value a ldf.now settings.now)
         result report.new }
 {
-    told(opening::open_bench(alloc, ldf, settings, handle), report)
+    told(
+        handle_opening::open_bench(alloc, ldf, settings, handle),
+        report,
+    )
 }
 
 /// Opens a bench on the cluster of an LDF, if the handle has no session. The settings are as many
@@ -123,10 +126,10 @@ pub extern "C" fn linsim_line(
     out: &mut [u8],
     report: &mut Report,
 ) -> u32
-    ensures { IsCall (λ a. Makes handle.old.value handle.new.value a line.now out.old out.new)
+    ensures { IsCall (λ a. MakesAtHandle handle.old.value handle.new.value a line.now out.old out.new)
         result report.new }
 {
-    told(line::make(alloc, handle, line, out), report)
+    told(line_call::make(alloc, handle, line, out), report)
 }
 
 /// Writes the text of the newest entry of the log, or the newest answer, at the beginning of `out`;
@@ -141,7 +144,7 @@ pub extern "C" fn linsim_newest(
     ensures { IsCall (λ a. TellsNewest handle.old.value handle.new.value a out.old out.new)
         result report.new }
 {
-    told(line::tell_newest(alloc, handle, out), report)
+    told(line_call::tell_newest(alloc, handle, out), report)
 }
 
 /// Frees the session, if the handle has one.

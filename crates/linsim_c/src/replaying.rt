@@ -1,11 +1,11 @@
 //! A whole run.
 
-ghost use Rattle.linsim_c.specs.Replaying.{Replays, Runs};
+ghost use Rattle.linsim_c.specs.Replaying.{AnswersReplay, Runs};
 
+use crate::entry_texts::put_log;
 use crate::fault::Fault;
 use crate::settings::{Settings, set_up};
-use crate::telling::put_log;
-use crate::told::Told;
+use crate::written_text::Told;
 use lin_core::Core;
 use lin_log::{ScriptFault, run_script};
 use lin_text::TextBuffer;
@@ -44,7 +44,7 @@ pub(crate) fn replay(
     script: &[u8],
     out: &mut [u8],
 ) -> Result<Told, Fault>
-    ensures { Replays result ldf.now settings.now script.now out.old out.new }
+    ensures { AnswersReplay result ldf.now settings.now script.now out.old out.new }
 {
     let core = run(alloc, ldf, settings, script)?;
     put_log(alloc, core.log(), 0, &mut TextBuffer::empty(), out)

@@ -2,7 +2,7 @@
 
 ghost use Rattle.std.specs.Prelude.{List, ℕ};
 ghost use Rattle.lin_ldf.specs.Describes.{Describes};
-ghost use Rattle.linsim_c.specs.Setups.{AnswersParse, AnswersText, SetsUp, Tells};
+ghost use Rattle.linsim_c.specs.Setups.{AnswersParse, AnswersText, SetsUp, IsParseFault};
 
 use crate::fault::Fault;
 use lin_cluster::{CheckFault, Cluster, check};
@@ -27,7 +27,7 @@ pub struct Settings {
 
 /// Why a text is no description, to C.
 pub(crate) fn fault_of(fault: LdfFault) -> Fault
-    ensures { Tells result fault }
+    ensures { IsParseFault result fault }
 {
     match fault {
         LdfFault::OutOfMemory => Fault::OutOfMemory,

@@ -3,7 +3,7 @@
 ghost use Rattle.std.specs.Prelude.{◌≡◌, ◌++◌, OnOk, IfOk, nat_eq};
 ghost use Rattle.std.specs.List.{flat_map, filter_map, enumerate_from};
 ghost use Rattle.indexmap.specs.IndexSet.{contains};
-ghost use Rattle.lin_cluster.specs.Addresses.{address, bad_nads, nad_twice, nads_twice};
+ghost use Rattle.lin_cluster.specs.Addresses.{block_address, bad_nads, nad_twice, nads_twice};
 ghost use Rattle.lin_cluster.specs.FindingsNames.{at_number, when};
 ghost use Rattle.lin_cluster.specs.declared.finding.FindingKind.TheVariants.{NadTwice};
 
@@ -15,7 +15,7 @@ use lin_parts::description::{Attributes, Number};
 use std::alloc::{AllocError, Global};
 
 fn address(known: &Known, block: &Attributes) -> Option<Number>
-    ensures { result ≡ address known.now block.now }
+    ensures { result ≡ block_address known.now block.now }
 {
     if known.is_responder(&block.node) {
         block.configured_nad
@@ -25,7 +25,7 @@ fn address(known: &Known, block: &Attributes) -> Option<Number>
 }
 
 fn addresses(alloc: Global, known: &Known, blocks: &[Attributes]) -> Result<Vec<Number>, AllocError>
-    ensures { IfOk result (λ v. v.items ≡ filter_map (address known.now) blocks.now) }
+    ensures { IfOk result (λ v. v.items ≡ filter_map (block_address known.now) blocks.now) }
 {
     let mut addresses = Vec::new(alloc);
     for block in blocks {

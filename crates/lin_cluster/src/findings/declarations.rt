@@ -3,8 +3,8 @@
 ghost use Rattle.std.specs.Prelude.{◌≡◌, ◌++◌, OnOk};
 ghost use Rattle.lin_cluster.specs.Findings.{in_frames, in_declarations};
 
-use super::facts::Signals;
-use super::judged::Judged;
+use super::facts::AllSignalFacts;
+use super::judged::DeclarationFacts;
 use super::known::Known;
 use super::limits::{long_table, too_long};
 use super::members::members_in_order;
@@ -31,7 +31,7 @@ impl<'a> Finds<Signal> for Known<'a> {
     }
 }
 
-impl<'a> Finds<Frame> for Signals<'a> {
+impl<'a> Finds<Frame> for AllSignalFacts<'a> {
     ghost use Rattle.lin_cluster.specs.Findings.{in_frame};
 
     ghost finds = { in_frame };
@@ -43,7 +43,7 @@ impl<'a> Finds<Frame> for Signals<'a> {
     }
 }
 
-impl<'a> Finds<Sporadic> for Judged<'a> {
+impl<'a> Finds<Sporadic> for DeclarationFacts<'a> {
     ghost use Rattle.lin_cluster.specs.Findings.{in_sporadic};
 
     ghost finds = { in_sporadic };
@@ -53,7 +53,7 @@ impl<'a> Finds<Sporadic> for Judged<'a> {
     }
 }
 
-impl<'a> Finds<EventFrame> for Judged<'a> {
+impl<'a> Finds<EventFrame> for DeclarationFacts<'a> {
     ghost use Rattle.lin_cluster.specs.Findings.{in_event};
 
     ghost finds = { in_event };
@@ -74,7 +74,7 @@ impl<'a> Finds<Attributes> for Known<'a> {
     }
 }
 
-impl<'a> Finds<TableEntry> for Judged<'a> {
+impl<'a> Finds<TableEntry> for DeclarationFacts<'a> {
     ghost use Rattle.lin_cluster.specs.Findings.{in_entry};
 
     ghost finds = { in_entry };
@@ -92,7 +92,7 @@ impl<'a> Finds<TableEntry> for Judged<'a> {
     }
 }
 
-impl<'a> Finds<Table> for Judged<'a> {
+impl<'a> Finds<Table> for DeclarationFacts<'a> {
     ghost use Rattle.lin_cluster.specs.Findings.{in_table};
 
     ghost finds = { in_table };
@@ -104,7 +104,7 @@ impl<'a> Finds<Table> for Judged<'a> {
     }
 }
 
-fn in_frames(found: &mut Vec<Finding>, judged: &Judged) -> Result<(), AllocError>
+fn in_frames(found: &mut Vec<Finding>, judged: &DeclarationFacts) -> Result<(), AllocError>
     ensures { OnOk result (found.new.items ≡ found.old.items ++ in_frames judged.now) }
 {
     let signals = &judged.signals;
@@ -115,7 +115,10 @@ fn in_frames(found: &mut Vec<Finding>, judged: &Judged) -> Result<(), AllocError
 }
 
 /// What is wrong with each declaration; an error means out of memory.
-pub(super) fn in_declarations(found: &mut Vec<Finding>, judged: &Judged) -> Result<(), AllocError>
+pub(super) fn in_declarations(
+    found: &mut Vec<Finding>,
+    judged: &DeclarationFacts,
+) -> Result<(), AllocError>
     ensures { OnOk result (found.new.items ≡ found.old.items ++ in_declarations judged.now) }
 {
     let known = &judged.signals.known;

@@ -87,13 +87,13 @@ impl<'a> Makes<Signal, SignalFacts> for Known<'a> {
 }
 
 /// The facts of each signal. Contracts see the description.
-pub(super) struct Signals<'a> {
+pub(super) struct AllSignalFacts<'a> {
     pub(super) alloc: Global,
     pub(super) known: Known<'a>,
     facts: Vec<SignalFacts>,
 }
 
-impl<'a> Model for Signals<'a> {
+impl<'a> Model for AllSignalFacts<'a> {
     ghost use Rattle.lin_cluster.specs.Known.{AreSignalFacts};
     ghost use Rattle.lin_parts.specs.declared.description.Description.{Description};
 
@@ -105,9 +105,9 @@ impl<'a> Model for Signals<'a> {
 }
 
 // Written out, so that what owns one lets it go in one step.
-impl<'a> Drop for Signals<'a> {
+impl<'a> Drop for AllSignalFacts<'a> {
     fn drop(self) {
-        let Signals {
+        let AllSignalFacts {
             alloc: _,
             known: _known,
             facts: _facts,
@@ -115,13 +115,13 @@ impl<'a> Drop for Signals<'a> {
     }
 }
 
-impl<'a> Signals<'a> {
+impl<'a> AllSignalFacts<'a> {
     /// An error means out of memory.
-    pub(super) fn new(alloc: Global, known: Known<'a>) -> Result<Signals<'a>, AllocError>
+    pub(super) fn new(alloc: Global, known: Known<'a>) -> Result<AllSignalFacts<'a>, AllocError>
         ensures { IfOk result (λ s. s ≡ known.entry) }
     {
         let facts = made_of_each(alloc, &known, known.description.signals())?;
-        Ok(Signals {
+        Ok(AllSignalFacts {
             alloc,
             known,
             facts,
@@ -216,7 +216,7 @@ impl Named for Frame {
     }
 }
 
-impl<'a> Makes<Frame, FrameFacts> for Signals<'a> {
+impl<'a> Makes<Frame, FrameFacts> for AllSignalFacts<'a> {
     ghost use Rattle.lin_cluster.specs.Known.{frame_facts};
 
     ghost makes = { frame_facts };

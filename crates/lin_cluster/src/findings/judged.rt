@@ -11,7 +11,7 @@ ghost use Rattle.lin_cluster.specs.Known.{frame_facts, size_named};
 ghost use Rattle.lin_cluster.specs.Known.{AreFrameFacts, AreSizes, AreNested};
 ghost use Rattle.lin_cluster.specs.Models.{frame_model};
 
-use super::facts::{FrameFacts, Signals, at};
+use super::facts::{AllSignalFacts, FrameFacts, at};
 use super::known::{Known, carries_frame};
 use super::slots::{first_size, good_size, greatest_size};
 use super::walk::{Makes, made_of_each};
@@ -92,7 +92,7 @@ impl<'a> Makes<Table, bool> for Known<'a> {
     }
 }
 
-impl<'a> Makes<FrameFacts, SumKind> for Judged<'a> {
+impl<'a> Makes<FrameFacts, SumKind> for DeclarationFacts<'a> {
     ghost makes = { λ j f. f.model };
 
     fn make(&self, frame: &FrameFacts) -> SumKind {
@@ -103,18 +103,18 @@ impl<'a> Makes<FrameFacts, SumKind> for Judged<'a> {
 /// What an entry says of its slot: whether it names nothing, and the data bytes that the slot has
 /// to hold.
 #[derive(Clone, Copy)]
-pub(crate) struct Slot {
+pub(crate) struct EntrySlot {
     pub(crate) is_unknown: bool,
     pub(crate) size: Option<u32>,
 }
 
 /// What is worked out once of each declaration that names may name. Contracts see the description.
-pub(crate) struct Judged<'a> {
-    pub(super) signals: Signals<'a>,
+pub(crate) struct DeclarationFacts<'a> {
+    pub(super) signals: AllSignalFacts<'a>,
     facts: Facts,
 }
 
-impl<'a> Model for Judged<'a> {
+impl<'a> Model for DeclarationFacts<'a> {
     ghost use Rattle.lin_cluster.specs.Known.{AreFrameFacts, AreSizes, AreNested};
     ghost use Rattle.lin_parts.specs.declared.description.Description.{Description};
 
@@ -128,16 +128,16 @@ impl<'a> Model for Judged<'a> {
 }
 
 // Written out, so that what owns one lets it go in one step.
-impl<'a> Drop for Judged<'a> {
+impl<'a> Drop for DeclarationFacts<'a> {
     fn drop(self) {
-        let Judged {
+        let DeclarationFacts {
             signals: _signals,
             facts: _facts,
         } = self;
     }
 }
 
-fn facts_of(alloc: Global, signals: &Signals) -> Result<Facts, AllocError>
+fn facts_of(alloc: Global, signals: &AllSignalFacts) -> Result<Facts, AllocError>
     ensures frames { IfOk result (λ f. AreFrameFacts signals.now f.frames.items) }
     ensures sizes { IfOk result (λ f. AreSizes signals.now f.sporadic.items f.events.items) }
     ensures nested { IfOk result (λ f. AreNested signals.now f.nested.items) }
@@ -156,14 +156,17 @@ fn facts_of(alloc: Global, signals: &Signals) -> Result<Facts, AllocError>
     })
 }
 
-impl<'a> Judged<'a> {
+impl<'a> DeclarationFacts<'a> {
     /// An error means out of memory.
-    pub(crate) fn new(alloc: Global, description: &'a Description) -> Result<Judged<'a>, AllocError>
+    pub(crate) fn new(
+        alloc: Global,
+        description: &'a Description,
+    ) -> Result<DeclarationFacts<'a>, AllocError>
         ensures { IfOk result (λ j. j ≡ description.now) }
     {
-        let signals = Signals::new(alloc, Known::new(alloc, description)?)?;
+        let signals = AllSignalFacts::new(alloc, Known::new(alloc, description)?)?;
         let facts = facts_of(alloc, &signals)?;
-        Ok(Judged { signals, facts })
+        Ok(DeclarationFacts { signals, facts })
     }
 
     /// The checksum model of each frame; an error means out of memory.
@@ -229,23 +232,23 @@ impl<'a> Judged<'a> {
     }
 
     /// What is asked of the slot of an entry.
-    pub(crate) fn slot(&self, entry: &TableEntry) -> Slot
+    pub(crate) fn slot(&self, entry: &TableEntry) -> EntrySlot
         ensures unknown { result.is_unknown
             ≡ (carries_frame entry.now && not (is_any_frame self.now entry.now.name)) }
         ensures size { result.size ≡ slot_size self.now entry.now }
     {
         if !carries_frame(entry) {
-            return Slot {
+            return EntrySlot {
                 is_unknown: false,
                 size: Some(8),
             };
         }
         match self.size_named(&entry.name) {
-            Some(size) => Slot {
+            Some(size) => EntrySlot {
                 is_unknown: false,
                 size,
             },
-            None => Slot {
+            None => EntrySlot {
                 is_unknown: true,
                 size: None,
             },

@@ -7,7 +7,7 @@ ghost use Rattle.lin_cluster.specs.Described.{event_number, table_number};
 ghost use Rattle.lin_cluster.specs.FindingsNames.{is_node, is_responder, frame_named};
 ghost use Rattle.lin_cluster.specs.FindingsNames.{sporadic_named, event_named, is_diagnostic};
 ghost use Rattle.lin_cluster.specs.FindingsNames.{carries_frame, is_event_entry};
-ghost use Rattle.lin_cluster.specs.FindingsNodes.{node_of, is_responder_number};
+ghost use Rattle.lin_cluster.specs.FindingsNodes.{number_of_node, is_responder_number};
 ghost use Rattle.lin_cluster.specs.Known.{AreNodeNumbers, AreFrameNumbers};
 ghost use Rattle.lin_cluster.specs.Models.{tells_version_1, has_version_1, is_lin_1};
 
@@ -161,7 +161,7 @@ impl<'a> Known<'a> {
 
     /// The number of the node with this name: the commander's is 0.
     pub(super) fn node(&self, name: &Name) -> Option<usize>
-        ensures { result ≡ node_of self.now name.now }
+        ensures { result ≡ number_of_node self.now name.now }
     {
         if self.description.master.text.as_slice() == name.text.as_slice() {
             return Some(0);

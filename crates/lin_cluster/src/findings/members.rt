@@ -10,11 +10,11 @@ ghost use Rattle.lin_cluster.specs.Findings.{in_event_member};
 ghost use Rattle.lin_cluster.specs.FindingsMembers.{is_bad_after, is_wrong_after, is_mixed_after};
 ghost use Rattle.lin_cluster.specs.FindingsMembers.{in_member_after};
 ghost use Rattle.lin_cluster.specs.FindingsNames.{frame_named, is_any_frame};
-ghost use Rattle.lin_cluster.specs.FindingsNodes.{is_number, is_responder_number};
+ghost use Rattle.lin_cluster.specs.FindingsNodes.{is_node_number, is_responder_number};
 ghost use Rattle.lin_cluster.specs.Known.{frame_facts};
 
 use super::facts::FrameFacts;
-use super::judged::Judged;
+use super::judged::DeclarationFacts;
 use super::known::is_responder_number;
 use super::walk::{Finds, at_name, push_when};
 use crate::finding::{Finding, FindingKind};
@@ -42,7 +42,7 @@ fn add_publisher(
     ensures { OnOk result
         ((q : ℕ) → contains nat_eq publishers.new q
         ≡ (contains nat_eq publishers.old q
-        || option_map_or (λ f. is_number q f.publisher) frame false)) }
+        || option_map_or (λ f. is_node_number q f.publisher) frame false)) }
 {
     if let Some(frame) = frame {
         if let Some(node) = frame.publisher {
@@ -52,7 +52,7 @@ fn add_publisher(
     Ok(())
 }
 
-fn first_frame(judged: &Judged, members: &[Name]) -> Option<FrameFacts>
+fn first_frame(judged: &DeclarationFacts, members: &[Name]) -> Option<FrameFacts>
     ensures { result
         ≡ option_map (frame_facts judged.now)
         (option_and_then (frame_named judged.now) (slice_get members.now 0)) }
@@ -66,7 +66,7 @@ fn first_frame(judged: &Judged, members: &[Name]) -> Option<FrameFacts>
 // The commander publishes it, or a node that publishes an earlier one.
 fn has_bad_publisher(publishers: &IndexSet<usize>, publisher: Option<usize>) -> bool
     ensures { result
-        ≡ (is_number 0 publisher || option_map_or (contains nat_eq publishers.now) publisher false) }
+        ≡ (is_node_number 0 publisher || option_map_or (contains nat_eq publishers.now) publisher false) }
 {
     match publisher {
         Some(node) => node == 0 || publishers.contains(&node),
@@ -139,7 +139,7 @@ fn find_member(
 fn add_member(
     found: &mut Vec<Finding>,
     publishers: &mut IndexSet<usize>,
-    judged: &Judged,
+    judged: &DeclarationFacts,
     first: Option<FrameFacts>,
     member: &Name,
 ) -> Result<(), AllocError>
@@ -151,7 +151,7 @@ fn add_member(
     ensures publishers { OnOk result
         ((q : ℕ) → contains nat_eq publishers.new q
         ≡ (contains nat_eq publishers.old q
-        || option_map_or (λ f. is_number q f.publisher)
+        || option_map_or (λ f. is_node_number q f.publisher)
         (option_map (frame_facts judged.now) (frame_named judged.now member.now)) false)) }
 {
     let frame = judged.frame(member);
@@ -163,7 +163,7 @@ fn add_member(
 /// What is wrong with the members of an event-triggered frame; each name is looked up once.
 pub(super) fn members_in_order(
     found: &mut Vec<Finding>,
-    judged: &Judged,
+    judged: &DeclarationFacts,
     members: &[Name],
 ) -> Result<(), AllocError>
     ensures { OnOk result
@@ -182,7 +182,7 @@ pub(super) fn members_in_order(
 }
 
 // A member of a sporadic frame.
-impl<'a> Finds<Name> for Judged<'a> {
+impl<'a> Finds<Name> for DeclarationFacts<'a> {
     ghost use Rattle.lin_cluster.specs.Findings.{in_sporadic_member};
 
     ghost finds = { in_sporadic_member };

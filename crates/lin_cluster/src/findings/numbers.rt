@@ -10,15 +10,15 @@ use std::alloc::{AllocError, Global};
 const FEW: usize = 1024;
 
 /// A set of numbers: those below 1,024 as flags, the others as a set.
-pub(super) struct Numbers {
+pub(super) struct NumberSet {
     few: [bool; FEW],
     others: IndexSet<usize>,
 }
 
 // Written out, so that what owns one lets it go in one step.
-impl Drop for Numbers {
+impl Drop for NumberSet {
     fn drop(self) {
-        let Numbers {
+        let NumberSet {
             few: _,
             others: _others,
         } = self;
@@ -32,18 +32,18 @@ fn no_flags() -> [bool; FEW]
 }
 
 /// No numbers.
-pub(super) fn no_numbers(alloc: Global) -> Numbers
+pub(super) fn no_numbers(alloc: Global) -> NumberSet
     ensures { (q : ℕ) → has_number result q ≡ false }
 {
     let others = IndexSet::new(alloc);
-    Numbers {
+    NumberSet {
         few: no_flags(),
         others,
     }
 }
 
 /// Adds a number, and says whether it is there already. An error means out of memory.
-pub(super) fn stands_twice(numbers: &mut Numbers, number: usize) -> Result<bool, AllocError>
+pub(super) fn stands_twice(numbers: &mut NumberSet, number: usize) -> Result<bool, AllocError>
     ensures twice { IfOk result (λ twice. twice ≡ has_number numbers.old number) }
     ensures added { OnOk result
         ((q : ℕ) → has_number numbers.new q ≡ (has_number numbers.old q || nat_eq number q)) }

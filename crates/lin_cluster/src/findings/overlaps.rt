@@ -5,7 +5,7 @@ ghost use Rattle.std.specs.Prelude.{IfOk, IsSome, OnOk, false};
 ghost use Rattle.std.specs.Option.{option_map_or};
 ghost use Rattle.lin_cluster.specs.FindingsNames.{at_number, when};
 ghost use Rattle.lin_cluster.specs.FindingsRanges.{HasBit, IsRanges};
-ghost use Rattle.lin_cluster.specs.FindingsPlaces.{IsTaken, lies_in};
+ghost use Rattle.lin_cluster.specs.FindingsPlaces.{IsTaken, has_bit_between};
 ghost use Rattle.lin_cluster.specs.declared.finding.FindingKind.TheVariants.{SignalsOverlap};
 
 use super::facts::SignalFacts;
@@ -70,7 +70,7 @@ pub(super) fn add_bits(
         ((a b : ℕ) → a < b
         → HasBit ranges.new a b ↔
         (HasBit ranges.old a b
-        ⊎ (option_map_or (λ s. lies_in a b placed.now s.size) signal false ≡ true))) }
+        ⊎ (option_map_or (λ s. has_bit_between a b placed.now s.size) signal false ≡ true))) }
 {
     if let Some(signal) = signal {
         if 0 < signal.size {

@@ -9,12 +9,12 @@ ghost use Rattle.lin_cluster.specs.Findings.{in_placed};
 ghost use Rattle.lin_cluster.specs.FindingsNodes.{are_two};
 ghost use Rattle.lin_cluster.specs.FindingsNames.{at_number, when};
 ghost use Rattle.lin_cluster.specs.FindingsPlaces.{IsTaken, has_number, in_placed_by, is_outside_by};
-ghost use Rattle.lin_cluster.specs.FindingsPlaces.{lies_in};
+ghost use Rattle.lin_cluster.specs.FindingsPlaces.{has_bit_between};
 ghost use Rattle.lin_cluster.specs.FindingsRanges.{HasBit, IsRanges};
 ghost use Rattle.lin_cluster.specs.declared.finding.FindingKind.TheVariants.{SignalsOverlap};
 
-use super::facts::{SignalFacts, Signals};
-use super::numbers::{Numbers, no_numbers, stands_twice};
+use super::facts::{AllSignalFacts, SignalFacts};
+use super::numbers::{NumberSet, no_numbers, stands_twice};
 use super::overlaps::{add_bits, overlap};
 use super::ranges::{Ranges, no_ranges};
 use super::walk::{at_name, at_number, push_when};
@@ -69,15 +69,15 @@ fn find_placed(
 }
 
 /// The signals that a frame places before one: their numbers, and the ranges of their bits.
-struct Earlier {
-    numbers: Numbers,
+struct EarlierSignals {
+    numbers: NumberSet,
     ranges: Ranges,
 }
 
 // Written out, so that what owns one lets it go in one step.
-impl Drop for Earlier {
+impl Drop for EarlierSignals {
     fn drop(self) {
-        let Earlier {
+        let EarlierSignals {
             numbers: _numbers,
             ranges: _ranges,
         } = self;
@@ -88,7 +88,7 @@ impl Drop for Earlier {
 // there is such a signal, its facts.
 fn add_placed(
     found: &mut Vec<Finding>,
-    earlier: &mut Earlier,
+    earlier: &mut EarlierSignals,
     frame: &Frame,
     publisher: Option<usize>,
     placed: &PlacedSignal,
@@ -113,7 +113,7 @@ fn add_placed(
         ((a b : ℕ) → a < b
         → HasBit earlier.new.ranges a b ↔
         (HasBit earlier.old.ranges a b
-        ⊎ (option_map_or (λ s. lies_in a b placed.now s.size) known.1 false ≡ true))) }
+        ⊎ (option_map_or (λ s. has_bit_between a b placed.now s.size) known.1 false ≡ true))) }
 {
     let (number, signal) = known;
     let twice = stands_twice(&mut earlier.numbers, number)?;
@@ -125,7 +125,7 @@ fn add_placed(
 /// What is wrong with the signals that a frame places; each name is looked up once.
 pub(super) fn signals_in_order(
     found: &mut Vec<Finding>,
-    signals: &Signals,
+    signals: &AllSignalFacts,
     frame: &Frame,
     all_placed: &[PlacedSignal],
 ) -> Result<(), AllocError>
@@ -136,7 +136,7 @@ pub(super) fn signals_in_order(
         (enumerate_from 0 all_placed.now)) }
 {
     let publisher = signals.known.node(&frame.publisher);
-    let mut earlier = Earlier {
+    let mut earlier = EarlierSignals {
         numbers: no_numbers(signals.alloc),
         ranges: no_ranges(signals.alloc),
     };

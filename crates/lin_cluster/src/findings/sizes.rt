@@ -2,17 +2,17 @@
 
 ghost use Rattle.std.specs.Prelude.{◌≡◌, ◌++◌, OnOk, nat_lt, IsTrue};
 ghost use Rattle.std.specs.List.{list_any};
-ghost use Rattle.lin_cluster.specs.Sizes.{is_array, is_good_size, bad_signal_size, is_frame_size};
+ghost use Rattle.lin_cluster.specs.Sizes.{is_array_init, is_good_size, bad_signal_size, is_frame_size};
 ghost use Rattle.lin_cluster.specs.Sizes.{bad_frame_size, is_good_init, bad_init};
 
 use super::walk::{at_number, push_when};
 use crate::finding::{Finding, FindingKind};
-use lin_parts::Place;
+use lin_parts::Location;
 use lin_parts::description::{Frame, Init, Number, Signal};
 use std::alloc::AllocError;
 
 pub(super) fn is_array(init: &Init) -> bool
-    ensures { result ≡ is_array init.now }
+    ensures { result ≡ is_array_init init.now }
 {
     match init {
         Init::Scalar(_) => false,
@@ -87,7 +87,7 @@ pub(super) fn bad_init(found: &mut Vec<Finding>, signal: &Signal) -> Result<(), 
 {
     let is_bad = is_good_size(signal) && !is_good_init(signal);
     let place = match &signal.init {
-        Init::Scalar(number) => Place {
+        Init::Scalar(number) => Location {
             line: number.line,
             column: number.column,
         },

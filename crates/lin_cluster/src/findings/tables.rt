@@ -8,17 +8,17 @@ ghost use Rattle.lin_cluster.specs.Tables.{nested_at, empty_table};
 ghost use Rattle.lin_cluster.specs.Kinds.{finding_at};
 ghost use Rattle.lin_cluster.specs.declared.finding.FindingKind.TheVariants.{EmptyTable};
 
-use super::judged::Judged;
+use super::judged::DeclarationFacts;
 use super::walk::{at_name, push_when};
 use crate::finding::{Finding, FindingKind};
-use lin_parts::Place;
+use lin_parts::Location;
 use lin_parts::description::{EventFrame, Table};
 use std::alloc::AllocError;
 
 /// A resolving table that isn't there, or that has an event-triggered entry.
 pub(super) fn resolving_table(
     found: &mut Vec<Finding>,
-    judged: &Judged,
+    judged: &DeclarationFacts,
     event: &EventFrame,
 ) -> Result<(), AllocError>
     ensures { OnOk result
@@ -52,7 +52,7 @@ pub(super) fn no_table(found: &mut Vec<Finding>, tables: &[Table]) -> Result<(),
         (found.new.items
         ≡ found.old.items ++ when (length tables.now == 0) (finding_at EmptyTable 1 1)) }
 {
-    let start = Place { line: 1, column: 1 };
+    let start = Location { line: 1, column: 1 };
     push_when(
         found,
         tables.is_empty(),

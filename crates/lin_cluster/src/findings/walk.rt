@@ -6,7 +6,7 @@ ghost use Rattle.std.specs.List.{flat_map};
 ghost use Rattle.lin_cluster.specs.FindingsNames.{at_name, at_number, when};
 
 use crate::finding::{Finding, FindingKind};
-use lin_parts::Place;
+use lin_parts::Location;
 use lin_parts::description::{Name, Number};
 use std::alloc::{AllocError, Global};
 
@@ -68,7 +68,7 @@ pub fn at_name(kind: FindingKind, name: &Name) -> Finding
 {
     Finding::new(
         kind,
-        Place {
+        Location {
             line: name.line,
             column: name.column,
         },
@@ -81,7 +81,7 @@ pub fn at_number(kind: FindingKind, place: &Number) -> Finding
 {
     Finding::new(
         kind,
-        Place {
+        Location {
             line: place.line,
             column: place.column,
         },

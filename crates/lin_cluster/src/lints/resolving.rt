@@ -34,9 +34,9 @@ struct Entries<'s, 'a> {
 // The members of an event-triggered frame with an entry.
 impl<'s, 'b> Adds<EventFrame> for Entries<'s, 'b> {
     ghost use Rattle.std.specs.Prelude.{◌&&◌};
-    ghost use Rattle.lin_cluster.specs.LintNames.{has_text, is_among};
+    ghost use Rattle.lin_cluster.specs.LintNames.{has_text, is_among_names};
 
-    ghost adds = { λ s v q. has_text s.names.now.names v.name.text && is_among v.members q };
+    ghost adds = { λ s v q. has_text s.names.now.names v.name.text && is_among_names v.members q };
 
     fn add_of<'a>(&self, names: &mut NameSet<'a>, event: &'a EventFrame) -> Result<(), AllocError> {
         if self.names.has(&event.name) {
@@ -49,9 +49,9 @@ impl<'s, 'b> Adds<EventFrame> for Entries<'s, 'b> {
 // The members of a sporadic frame with an entry.
 impl<'s, 'b> Adds<Sporadic> for Entries<'s, 'b> {
     ghost use Rattle.std.specs.Prelude.{◌&&◌};
-    ghost use Rattle.lin_cluster.specs.LintNames.{has_text, is_among};
+    ghost use Rattle.lin_cluster.specs.LintNames.{has_text, is_among_names};
 
-    ghost adds = { λ s f q. has_text s.names.now.names f.name.text && is_among f.members q };
+    ghost adds = { λ s f q. has_text s.names.now.names f.name.text && is_among_names f.members q };
 
     fn add_of<'a>(&self, names: &mut NameSet<'a>, frame: &'a Sporadic) -> Result<(), AllocError> {
         if self.names.has(&frame.name) {
@@ -112,7 +112,7 @@ fn is_resolving(description: &Description, table: &Table) -> bool
 }
 
 /// A table of the text, with the frames that its event-triggered and its sporadic frames list.
-struct Listed<'u, 'b, 'a> {
+struct TableMembers<'u, 'b, 'a> {
     uses: &'u Uses<'b>,
     events: NameSet<'a>,
     sporadic: NameSet<'a>,
@@ -120,9 +120,9 @@ struct Listed<'u, 'b, 'a> {
 }
 
 // Written out, so that what owns one lets it go in one step.
-impl<'u, 'b, 'a> Drop for Listed<'u, 'b, 'a> {
+impl<'u, 'b, 'a> Drop for TableMembers<'u, 'b, 'a> {
     fn drop(self) {
-        let Listed {
+        let TableMembers {
             uses: _,
             events: _events,
             sporadic: _sporadic,
@@ -133,7 +133,7 @@ impl<'u, 'b, 'a> Drop for Listed<'u, 'b, 'a> {
 
 // A member beside its event-triggered (61) or its sporadic frame (62), an entry that resolves no
 // collision (64), and a delay off the time base (56).
-impl<'u, 'b, 'a> Finds<TableEntry> for Listed<'u, 'b, 'a> {
+impl<'u, 'b, 'a> Finds<TableEntry> for TableMembers<'u, 'b, 'a> {
     ghost use Rattle.std.specs.Prelude.{◌++◌, ◌&&◌, not};
     ghost use Rattle.lin_cluster.specs.FindingsNames.{at_name, carries_frame, when};
     ghost use Rattle.lin_cluster.specs.Lint.{off_time_base};
@@ -192,7 +192,7 @@ pub(super) fn of_entries(
     let events = event_members(uses.alloc, description, table)?;
     let sporadic = sporadic_members(uses.alloc, description, table)?;
     let is_resolving = is_resolving(description, table);
-    let listed = Listed {
+    let listed = TableMembers {
         uses,
         events,
         sporadic,

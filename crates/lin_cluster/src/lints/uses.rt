@@ -5,7 +5,7 @@ ghost use Rattle.std.specs.List.{list_any};
 ghost use Rattle.std.specs.Option.{option_copied};
 ghost use Rattle.lin_cluster.specs.FindingsNames.{signal_named, table_named};
 ghost use Rattle.lin_cluster.specs.Lint.{is_off};
-ghost use Rattle.lin_cluster.specs.LintNames.{has_dot, has_text, is_listed, is_of_text};
+ghost use Rattle.lin_cluster.specs.LintNames.{has_dot, has_text, is_member_name, is_of_text};
 ghost use Rattle.lin_cluster.specs.LintNames.{is_scheduled, is_addressed, is_diagnostic_entry};
 ghost use Rattle.lin_cluster.specs.LintNames.{has_diagnostics, is_frame, AreUses};
 
@@ -62,9 +62,9 @@ impl Adds<Name> for Standing {
 
 // The members of a sporadic frame.
 impl Adds<Sporadic> for Standing {
-    ghost use Rattle.lin_cluster.specs.LintNames.{is_among};
+    ghost use Rattle.lin_cluster.specs.LintNames.{is_among_names};
 
-    ghost adds = { λ x f q. is_among f.members q };
+    ghost adds = { λ x f q. is_among_names f.members q };
 
     fn add_of<'a>(&self, names: &mut NameSet<'a>, frame: &'a Sporadic) -> Result<(), AllocError> {
         add_each(names, self, frame.members.as_slice())
@@ -73,9 +73,9 @@ impl Adds<Sporadic> for Standing {
 
 // The members of an event-triggered frame.
 impl Adds<EventFrame> for Standing {
-    ghost use Rattle.lin_cluster.specs.LintNames.{is_among};
+    ghost use Rattle.lin_cluster.specs.LintNames.{is_among_names};
 
-    ghost adds = { λ x e q. is_among e.members q };
+    ghost adds = { λ x e q. is_among_names e.members q };
 
     fn add_of<'a>(&self, names: &mut NameSet<'a>, event: &'a EventFrame) -> Result<(), AllocError> {
         add_each(names, self, event.members.as_slice())
@@ -163,7 +163,7 @@ fn declared<'a>(alloc: Global, description: &'a Description) -> Result<NameSet<'
 }
 
 fn listed<'a>(alloc: Global, description: &'a Description) -> Result<NameSet<'a>, AllocError>
-    ensures { IfOk result (λ s. (q : List ℕ) → has_text s.names q ≡ is_listed description.now q) }
+    ensures { IfOk result (λ s. (q : List ℕ) → has_text s.names q ≡ is_member_name description.now q) }
 {
     let mut names = no_names(alloc, 0)?;
     add_each(&mut names, &Standing, description.sporadic())?;
@@ -277,7 +277,7 @@ impl<'a> Uses<'a> {
 
     /// Whether a sporadic or an event-triggered frame lists the frame.
     pub(super) fn is_listed(&self, name: &Name) -> bool
-        ensures { result ≡ is_listed self.now name.now.text }
+        ensures { result ≡ is_member_name self.now name.now.text }
     {
         self.listed.has(name)
     }

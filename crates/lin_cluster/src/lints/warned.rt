@@ -3,7 +3,7 @@
 ghost use Rattle.std.specs.Prelude.{◌≡◌, ◌++◌, OnOk, false};
 ghost use Rattle.std.specs.Option.{option_map_or};
 ghost use Rattle.lin_cluster.specs.FindingsNames.{signal_named};
-ghost use Rattle.lin_cluster.specs.Lint.{unscheduled, is_off, is_j2602, has_error_size};
+ghost use Rattle.lin_cluster.specs.Lint.{unscheduled_frame, is_off, is_j2602, has_error_size};
 ghost use Rattle.lin_cluster.specs.Lint.{is_response_error};
 
 use super::configurable::{Configurable, bad_configurables};
@@ -33,7 +33,7 @@ impl<'a> Finds<Frame> for Uses<'a> {
 
 // Unscheduled frame (53).
 fn unscheduled(found: &mut Vec<Finding>, uses: &Uses, name: &Name) -> Result<(), AllocError>
-    ensures { OnOk result (found.new.items ≡ found.old.items ++ unscheduled uses.now name.now) }
+    ensures { OnOk result (found.new.items ≡ found.old.items ++ unscheduled_frame uses.now name.now) }
 {
     push_when(
         found,

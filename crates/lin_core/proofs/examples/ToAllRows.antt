@@ -4,7 +4,7 @@ use Rattle.std.proofs.Common.{refl}
 use Rattle.lin_parts.specs.declared.parts.Parts.{Parts}
 use Rattle.lin_parts.specs.declared.parts.Entry.TheVariants.{MasterReq}
 use Rattle.lin_core.specs.Law.{AgreesOn, is_sent_over}
-use Rattle.lin_core.specs.Links.{Link, Sending, sendings, frames_of, blocks, reading}
+use Rattle.lin_core.specs.Links.{Link, Sending, sendings, block_frames, blocks, reading}
 use Rattle.lin_core.specs.Runs.{history}
 use Rattle.lin_core.specs.Replies.{reply}
 use Rattle.lin_core.specs.declared.log.LogEntry.{LogEntry}
@@ -85,12 +85,12 @@ two = record { node = 2; dir = Down }
 abbrev three : Link
 three = record { node = 3; dir = Down }
 
-pub frames-on-two : map frames_of (blocks cluster mixed two)
+pub frames-on-two : map block_frames (blocks cluster mixed two)
     ≡ ((5 ∷ 0x10 ∷ 7 ∷ 1 ∷ 2 ∷ 3 ∷ 4 ∷ 5 ∷ []) ∷ (5 ∷ 0x21 ∷ 6 ∷ 7 ∷ 255 ∷ 255 ∷ 255 ∷ 255 ∷ []) ∷ []) ∷ ((126 ∷ 2 ∷ 0x3E ∷ 0x80 ∷ 255 ∷ 255 ∷ 255 ∷ 255 ∷ []) ∷ []) ∷ []
 unfolding reply
 frames-on-two = refl
 
-pub frames-on-three : map frames_of (blocks cluster mixed three)
+pub frames-on-three : map block_frames (blocks cluster mixed three)
     ≡ ((126 ∷ 2 ∷ 0x3E ∷ 0x80 ∷ 255 ∷ 255 ∷ 255 ∷ 255 ∷ []) ∷ []) ∷ ((9 ∷ 1 ∷ 9 ∷ 255 ∷ 255 ∷ 255 ∷ 255 ∷ 255 ∷ []) ∷ []) ∷ []
 unfolding reply
 frames-on-three = refl

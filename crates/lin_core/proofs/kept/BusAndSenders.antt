@@ -7,7 +7,7 @@ use Rattle.lin_frame.specs.declared.value.Value.{Value}
 use Rattle.lin_parts.specs.declared.parts.Parts.{Parts}
 use Rattle.lin_parts.specs.Sound.{IsSound}
 use Rattle.lin_core.specs.History.{is_host_closed, Slot, has_decided, is_in, leave, open_slot}
-use Rattle.lin_core.specs.kept.Hosts.{fresh, host_after_send, KeepsHost, KeepsSender, sender_now}
+use Rattle.lin_core.specs.kept.Hosts.{new_host, host_after_send, KeepsHost, KeepsSender, sender_now}
 use Rattle.lin_core.specs.kept.State.{KeepsLate, Keeps}
 use Rattle.lin_core.specs.kept.Bus.{KeepsBus}
 use Rattle.lin_core.specs.Links.{Message, link_of}
@@ -358,11 +358,11 @@ hurt-keeps c opening capacity log past slot clock walker hosts signals by bytes 
     }
 
 -- == the empty log
-pub start-late : (c : Parts) (capacity : ℕ) (bus : BusState) (hosts : List Host) → bus ≡ record { asleep = false; asked = false; selected = None } → All (λ (host : Host). host ≡ fresh capacity) hosts → KeepsLate c [] bus hosts
+pub start-late : (c : Parts) (capacity : ℕ) (bus : BusState) (hosts : List Host) → bus ≡ record { asleep = false; asked = false; selected = None } → All (λ (host : Host). host ≡ new_host capacity) hosts → KeepsLate c [] bus hosts
 start-late c capacity bus hosts is all = record {
   bus_is = rw is (record { asleep_is = refl; asked_is = refl; selected_is = refl });
   each_sender = λ h host at.
-      let fresh_is : host ≡ fresh capacity = all-at (λ (x : Host). x ≡ fresh capacity) hosts h host all at
+      let fresh_is : host ≡ new_host capacity = all-at (λ (x : Host). x ≡ new_host capacity) hosts h host all at
       in rw fresh_is (record { closed_is = refl; sender_is = refl });
 }
 

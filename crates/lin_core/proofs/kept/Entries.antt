@@ -5,7 +5,7 @@ use Rattle.std.proofs.lemmas.List.{reverse-append, map-append}
 use Rattle.std.specs.Option.{option_map_or}
 use Rattle.lin_core.specs.kept.Hosts.{message_at, sent_in}
 use Rattle.lin_core.specs.Links.{Message}
-use Rattle.lin_core.specs.Core.{CoreData, IsHistory, answered}
+use Rattle.lin_core.specs.Core.{CoreData, IsHistory, entry_with_reply}
 use Rattle.lin_core.specs.Replies.{reply}
 use Rattle.lin_core.specs.declared.log.LogEntry.{LogEntry}
 use Rattle.lin_core.specs.declared.port.PortId.{PortId}
@@ -15,9 +15,9 @@ pub reverse-more : (log : List LogEntry) (e : LogEntry) → reverse (log ++ e �
 reverse-more log e = reverse-append log (e ∷ [])
 
 -- a history goes on by the entry that its step is answered
-pub history-more : (core : CoreData) (by : PortId) (step : Step) → IsHistory core → IsHistory (record core { log = core.log ++ answered core by step ∷ [] })
+pub history-more : (core : CoreData) (by : PortId) (step : Step) → IsHistory core → IsHistory (record core { log = core.log ++ entry_with_reply core by step ∷ [] })
 history-more core by step h =
-    rw (reverse-more core.log (answered core by step))
+    rw (reverse-more core.log (entry_with_reply core by step))
     (ap (λ (past : List LogEntry). record { port = by; step = step; reply = reply core.cluster core.opening core.capacity past by step } ∷ past) h)
 
 -- what stands in a log stays at its place

@@ -2,14 +2,14 @@
 use Rattle.std.proofs.Common.{◌≡◌, ◌≢◌, ℕ, zero, suc, ◌+◌, List, [], ◌∷◌, ◌++◌, length, refl, ap, sym, ◌∙◌, subst, arith, inl, inr}
 use Rattle.std.specs.Prelude.{Option, Some, slice_get, slice_set}
 use Rattle.std.specs.Option.{option_map_or}
-use Rattle.lin_transport.specs.Sender.{Sending as Sender}
+use Rattle.lin_transport.specs.Sender.{SenderData as Sender}
 use Rattle.lin_parts.specs.declared.parts.Parts.{Parts}
 use Rattle.lin_parts.specs.Sound.{IsSound}
 use Rattle.lin_core.specs.History.{is_host_closed}
 use Rattle.lin_core.specs.kept.Hosts.{host_after_frame, KeepsHost, KeepsSender, sender_now}
 use Rattle.lin_core.specs.kept.State.{KeepsLate}
 use Rattle.lin_core.specs.kept.Bus.{KeepsBus}
-use Rattle.lin_core.specs.Links.{Message, accepted_from, address}
+use Rattle.lin_core.specs.Links.{Message, accepted_from, link_address}
 use Rattle.lin_core.specs.declared.host.Host.{Host}
 use Rattle.lin_core.specs.declared.log.LogEntry.{LogEntry}
 use Rattle.lin_core.specs.declared.bus_state.BusState.{BusState}
@@ -42,15 +42,15 @@ going-hosts c capacity log past e h host hosts sender sound k k' g here each x y
 
 -- its sender
 more-sender : (c : Parts) (m : Message) (ms : List Message) (count : ℕ) (sender : Option Sender) → sender ≡ sender_for c (m ∷ ms) count
-    → Some (option_map_or {T = Sender} (λ s. record s { sent = s.sent + 1 }) sender (record { nad = address c m.link; size = length m.bytes; sent = 1 })) ≡ sender_for c (m ∷ ms) (suc count)
+    → Some (option_map_or {T = Sender} (λ s. record s { sent = s.sent + 1 }) sender (record { nad = link_address c m.link; size = length m.bytes; sent = 1 })) ≡ sender_for c (m ∷ ms) (suc count)
 more-sender c m ms zero sender e = rw e refl
-more-sender c m ms (suc j) sender e = rw e (ap (λ (n : ℕ). Some (record { nad = address c m.link; size = length m.bytes; sent = n })) (omega arith))
+more-sender c m ms (suc j) sender e = rw e (ap (λ (n : ℕ). Some (record { nad = link_address c m.link; size = length m.bytes; sent = n })) (omega arith))
 
 pub going-late : (c : Parts) (past : List LogEntry) (e : LogEntry) (h : ℕ) (host : Host) (bus bus' : BusState) (hosts : List Host) → IsSound c → (k : Known c past) (k' : Known c (e ∷ past)) → (g : GoesOn c past e k k' h) → slice_get hosts h ≡ Some host
     → ((x : ℕ) → is_host_closed (e ∷ past) x ≡ is_host_closed past x) → KeepsBus c (e ∷ past) bus' → KeepsLate c past bus hosts
-    → KeepsLate c (e ∷ past) bus' (slice_set hosts h (host_after_frame host (address c g.message.link) (length g.message.bytes)))
+    → KeepsLate c (e ∷ past) bus' (slice_set hosts h (host_after_frame host (link_address c g.message.link) (length g.message.bytes)))
 going-late c past e h host bus bus' hosts sound k k' g here shut kept late =
-    let new : Host = host_after_frame host (address c g.message.link) (length g.message.bytes)
+    let new : Host = host_after_frame host (link_address c g.message.link) (length g.message.bytes)
     in let own : KeepsSender c past h host = late.each_sender h host here
     in let before : host.sender ≡ sender_for c (g.message ∷ g.later) (k.states h).count = own.sender_is ∙ sender-is c past h sound k ∙ ap (λ (ms : List Message). sender_for c ms (k.states h).count) g.first
     in let after : sender_for c (g.message ∷ g.later) (suc (k.states h).count) ≡ sender_now c (e ∷ past) h

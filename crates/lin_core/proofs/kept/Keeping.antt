@@ -5,16 +5,16 @@ use Rattle.std.proofs.lemmas.List.{length-map, map-append, append-nil, length-ap
 use Rattle.std.proofs.lemmas.Option.{slice_get_read, slice_get_within, get_or_from_slice_get}
 use Rattle.lin_parts.specs.Cluster.{nodes, line_of}
 use Rattle.lin_parts.specs.declared.parts.Parts.{Parts}
-use Rattle.lin_core.specs.kept.Hosts.{message_at, sent_in, KeepsHost, message_of, host_after_send, fresh}
+use Rattle.lin_core.specs.kept.Hosts.{message_at, sent_in, KeepsHost, message_of, host_after_send, new_host}
 use Rattle.lin_core.specs.kept.State.{Keeps}
-use Rattle.lin_core.specs.kept.Signals.{KeepsSignals, Ends}
+use Rattle.lin_core.specs.kept.Signals.{KeepsSignals, EndsSlot}
 use Rattle.lin_core.specs.declared.signals.Signals.{Signals}
 use Rattle.lin_core.proofs.kept.SignalKeeping.{Writes, Answers, set-at, signals-same, open-signals, write-signals, write-fits, answer-signals, finish-signals}
 use Rattle.lin_core.proofs.slots.Opening.{with_put, put-open, answer-free}
 use Rattle.lin_core.specs.kept.Slots.{IsOpen, opening_slot, put_in, slot_in}
 use Rattle.lin_frame.specs.declared.value.Value.{Value}
 use Rattle.lin_core.specs.Links.{Message, waiting, link_of, accepted_from, sent_from}
-use Rattle.lin_core.specs.Core.{CoreData, IsRefused, answered, IsAllowed, past_of}
+use Rattle.lin_core.specs.Core.{CoreData, IsRefused, entry_with_reply, IsAllowed, past_of}
 use Rattle.lin_core.specs.Replies.{reply, refusal, refusals, opening_events, service_events, done_events, put_event, finish_events}
 use Rattle.lin_core.specs.declared.log.LogEntry.{LogEntry}
 use Rattle.lin_core.specs.declared.port.PortId.{PortId}
@@ -53,7 +53,7 @@ queue-length c capacity log past h host k =
 abbrev pub refused_entry : PortId → Step → Refusal → LogEntry
 refused_entry by step r = record { port = by; step = step; reply = Refused r }
 
-pub refused-answered : (core : CoreData) (by : PortId) (step : Step) (r : Refusal) → IsRefused core by step r → refused_entry by step r ≡ answered core by step
+pub refused-answered : (core : CoreData) (by : PortId) (step : Step) (r : Refusal) → IsRefused core by step r → refused_entry by step r ≡ entry_with_reply core by step
 unfolding reply
 refused-answered core by step r h = rw h
 
@@ -274,7 +274,7 @@ shut-slot c capacity past by old h is =
     in let closed : is_some (open_slot past) ≡ false = all.1.0
     in shut-by old (ap is_some is ∙ closed)
 
-pub done-answered : (core : CoreData) (by : PortId) (step : Step) (es : List Event) → IsAllowed core by step → es ≡ done_events core.cluster core.opening (past_of core) by step → done_entry by step es ≡ answered core by step
+pub done-answered : (core : CoreData) (by : PortId) (step : Step) (es : List Event) → IsAllowed core by step → es ≡ done_events core.cluster core.opening (past_of core) by step → done_entry by step es ≡ entry_with_reply core by step
 unfolding reply
 done-answered core by step es h e = rw (h, e)
 
@@ -341,7 +341,7 @@ clock-few : (d n t : ℕ) → d ≤ 1000000000 → t ≤ 10 ^ 9 * n → t + d �
 clock-few d n t a b = omega arith
 
 pub finish-keeps : (c : Parts) (opening capacity : ℕ) (log past : List LogEntry) (slot : OpenSlot) (clock clock' : ℕ) (walker walker' : Position) (hosts hosts' : List Host) (signals signals' : Signals) (by : PortId)
-    → Finishes c opening past slot clock clock' walker walker' → Ends c slot signals signals' → length hosts' ≡ length hosts
+    → Finishes c opening past slot clock clock' walker walker' → EndsSlot c slot signals signals' → length hosts' ≡ length hosts
     → ((h : ℕ) (host : Host) → slice_get hosts' h ≡ Some host → KeepsHost c capacity (log ++ finished_entry c past by ∷ []) (finished_entry c past by ∷ past) h host)
     → Keeps c opening capacity log past (Some slot) clock walker hosts signals
     → Keeps c opening capacity (log ++ finished_entry c past by ∷ []) (finished_entry c past by ∷ past) None clock' walker' hosts' signals'
@@ -361,7 +361,7 @@ finish-keeps c opening capacity log past slot clock clock' walker walker' hosts 
 pub all-at : {X : Type 0} (P : X → Type 0) (xs : List X) (i : ℕ) (x : X) → All P xs → slice_get xs i ≡ Some x → P x
 all-at P xs i x a h = subst P (get_or_from_slice_get xs i x x h) (All-get_or P xs i x (slice_get_within xs i x h) a)
 
-pub start-keeps : (c : Parts) (opening capacity : ℕ) (walker : Position) (hosts : List Host) (signals : Signals) → Stands c opening walker [] → Walks c walker → length hosts ≡ nodes c → All (λ (host : Host). host ≡ fresh capacity) hosts → KeepsSignals c [] None signals
+pub start-keeps : (c : Parts) (opening capacity : ℕ) (walker : Position) (hosts : List Host) (signals : Signals) → Stands c opening walker [] → Walks c walker → length hosts ≡ nodes c → All (λ (host : Host). host ≡ new_host capacity) hosts → KeepsSignals c [] None signals
     → Keeps c opening capacity [] [] None 0 walker hosts signals
 start-keeps c opening capacity walker hosts signals stands walks count all kept = record {
   slot_is = refl;
@@ -372,7 +372,7 @@ start-keeps c opening capacity walker hosts signals stands walks count all kept 
   walks = walks;
   hosts_count = count;
   each_host = λ h host at.
-      let is : host ≡ fresh capacity = all-at (λ (x : Host). x ≡ fresh capacity) hosts h host all at
+      let is : host ≡ new_host capacity = all-at (λ (x : Host). x ≡ new_host capacity) hosts h host all at
       in rw is (record { queue = refl; count = refl; capacity_is = refl });
   signals_are = kept;
 }

@@ -4,7 +4,7 @@ use Rattle.std.specs.Prelude.{Option, Some, None, ◌==◌, cond, filter, find, 
 use Rattle.std.specs.Option.{option_map_or}
 use Rattle.lin_parts.specs.declared.parts.Parts.{Parts}
 use Rattle.lin_core.specs.History.{Slot, good_under, header_is}
-use Rattle.lin_core.specs.Slots.{bytes_of, has_put, responses_after}
+use Rattle.lin_core.specs.Slots.{ready_bytes, has_put, responses_after}
 use Rattle.lin_core.specs.kept.Ready.{response_in}
 use Rattle.lin_core.specs.declared.ready.Response.{Response}
 
@@ -14,7 +14,7 @@ bytes-by : (b : Bool) (r : Response) (x : Option Response) (y : Option (ℕ × L
 bytes-by true r x y e = refl
 bytes-by false r x y e = e
 
-pub bytes-in : (ready : List Response) (n : ℕ) → bytes_of (map response_in ready) n ≡ option_map_or (λ (q : Response). q.bytes) (find (λ (q : Response). q.node == n) ready) (replicate 8 255)
+pub bytes-in : (ready : List Response) (n : ℕ) → ready_bytes (map response_in ready) n ≡ option_map_or (λ (q : Response). q.bytes) (find (λ (q : Response). q.node == n) ready) (replicate 8 255)
 bytes-in [] n = refl
 bytes-in (r ∷ rs) n = bytes-by (r.node == n) r (find (λ (q : Response). q.node == n) rs) (find (λ (p : ℕ × List ℕ). p.0 == n) (map response_in rs)) (bytes-in rs n)
 

@@ -12,8 +12,8 @@ use Rattle.lin_parts.specs.Cluster.{nad}
 use Rattle.lin_parts.specs.Sound.{IsSound}
 use Rattle.lin_parts.specs.declared.parts.Parts.{Parts}
 use Rattle.lin_core.specs.History.{Slot, is_sleep_asked, is_sleep_slot, open_slot}
-use Rattle.lin_core.specs.kept.Receivers.{AreAlike, AreReset, HearAll, HearsOn, HearsToo, IsReset, KeepsHeard, KeepsReceiver, opposite, receiver_in}
-use Rattle.lin_core.specs.Links.{Link, Message, accepted_from, address, ear_on, goes_over, heard_on, is_down, is_to_all, reading, same_link, signs}
+use Rattle.lin_core.specs.kept.Receivers.{HaveHeardAlike, AreReset, HearAll, HearsOn, HearsToo, IsReset, KeepsHeard, KeepsReceiver, opposite, receiver_in}
+use Rattle.lin_core.specs.Links.{Link, Message, accepted_from, link_address, ear_on, goes_over, heard_on, is_down, is_to_all, reading, same_link, signs}
 use Rattle.lin_core.specs.kept.Slots.{is_still, pdu_of}
 use Rattle.lin_core.specs.Replies.{link_at}
 use Rattle.lin_core.specs.Slots.{with_classic}
@@ -100,9 +100,9 @@ pub record CarriesFrame (c : Parts) (past : List LogEntry) (by : PortId) (k : Kn
   pub later : List Message
   pub first : (k.states h).rest ≡ message ∷ later
   pub go : CanGo c h message
-  pub puts : s.puts ≡ (h, with_classic (frame (address c message.link) message.bytes (k.states h).count)) ∷ []
+  pub puts : s.puts ≡ (h, with_classic (frame (link_address c message.link) message.bytes (k.states h).count)) ∷ []
   pub heard : (es : List Event) (l : Link) → is_some (nad c l.node) ≡ true
-      → heard_on c (entry_is by Finish es ∷ past) l ≡ (if goes_over message.link l then heard_by s.hurt (frame (address c message.link) message.bytes (k.states h).count) else []) ++ heard_on c past l
+      → heard_on c (entry_is by Finish es ∷ past) l ≡ (if goes_over message.link l then heard_by s.hurt (frame (link_address c message.link) message.bytes (k.states h).count) else []) ++ heard_on c past l
 
 served-none : (s : Slot) (h : ℕ) (b : Bool) → s.service ≡ true → is_sleep_slot s ≡ b → pdu_of s ≡ OfMessage h → ⊥
 served-none s h true serving e pdu = let bad : Sleep ≡ OfMessage h = sym (served-pdu s true serving e) ∙ pdu in cc
@@ -119,12 +119,12 @@ frame-by c past by sound k (Some _) s h is (slave table entry due left hurt g li
 frame-by c past by sound k (Some _) s h is (sleep table entry due left hurt only) e pdu =
     absurd (let t : Slot = sleep_slot table entry due left hurt in let same : t ≡ s = cc in let bad : Sleep ≡ OfMessage h = ap pdu_of same ∙ pdu in cc)
 frame-by c past by sound k (Some _) s h is (carries table entry due left hurt g m ms j only host r n) e pdu =
-    let f : List ℕ = frame (address c m.link) m.bytes j
+    let f : List ℕ = frame (link_address c m.link) m.bytes j
     in let t : Slot = frame_slot table entry due left hurt m.link f
     in let go : CanGo c g m = first-go c g (accepted_from past g) (heard_on c past) (signs c past) (k.states g) m ms r (k.hosts g)
     in let place : IsPlace c m.link = place-of c g m go
     in let same : t ≡ s = cc
-    in let pdu_is : pdu_of t ≡ OfMessage g = pdu-frame table entry due left hurt m.link.node m.link.dir f (address c m.link) (some-address c m.link sound place) (frame-is (address c m.link) m.bytes j) ∙ ap OfMessage host
+    in let pdu_is : pdu_of t ≡ OfMessage g = pdu-frame table entry due left hurt m.link.node m.link.dir f (link_address c m.link) (some-address c m.link sound place) (frame-is (link_address c m.link) m.bytes j) ∙ ap OfMessage host
     in let both : OfMessage g ≡ OfMessage h = sym pdu_is ∙ ap pdu_of same ∙ pdu
     in let hosts : g ≡ h = cc
     in let own : CarriesFrame c past by k t g = record {
@@ -133,7 +133,7 @@ frame-by c past by sound k (Some _) s h is (carries table entry due left hurt g 
       first = r;
       go = go;
       puts = rw n (ap (λ (x : ℕ). (x, with_classic f) ∷ []) host);
-      heard = λ es l b. rw n (finish-heard c past by es t l is ∙ ap (λ (x : List Heard). x ++ heard_on c past l) (frame-adds c table entry due left hurt m.link l f sound place (has-nad c l.node b) (frame-is (address c m.link) m.bytes j)).heard);
+      heard = λ es l b. rw n (finish-heard c past by es t l is ∙ ap (λ (x : List Heard). x ++ heard_on c past l) (frame-adds c table entry due left hurt m.link l f sound place (has-nad c l.node b) (frame-is (link_address c m.link) m.bytes j)).heard);
     }
     in subst (λ (x : ℕ). CarriesFrame c past by k s x) hosts (subst (λ (y : Slot). CarriesFrame c past by k y g) same own)
 
@@ -166,11 +166,11 @@ still-by c past by es sound k (Some _) s is (sleep table entry due left false on
     absurd (let t : Slot = sleep_slot table entry due left false in let same : t ≡ s = cc in let bad : false ≡ true = ap (λ (y : Slot). is_still (pdu_of y) y.hurt) same ∙ still in cc)
 still-by c past by es sound k (Some _) s is (carries table entry due left hurt g m ms j only host r n) e still l a =
     absurd (
-    let f : List ℕ = frame (address c m.link) m.bytes j
+    let f : List ℕ = frame (link_address c m.link) m.bytes j
     in let t : Slot = frame_slot table entry due left hurt m.link f
     in let go : CanGo c g m = first-go c g (accepted_from past g) (heard_on c past) (signs c past) (k.states g) m ms r (k.hosts g)
     in let same : t ≡ s = cc
-    in let pdu_is = pdu-frame table entry due left hurt m.link.node m.link.dir f (address c m.link) (some-address c m.link sound (place-of c g m go)) (frame-is (address c m.link) m.bytes j)
+    in let pdu_is = pdu-frame table entry due left hurt m.link.node m.link.dir f (link_address c m.link) (some-address c m.link sound (place-of c g m go)) (frame-is (link_address c m.link) m.bytes j)
     in let bad : false ≡ true = sym (ap (λ (x : Pdu). is_still x hurt) pdu_is) ∙ ap (λ (y : Slot). is_still (pdu_of y) y.hurt) same ∙ still
     in cc
     )
@@ -200,11 +200,11 @@ sleep-by c past by es sound k (Some _) s is (sleep table entry due left false on
     finish-heard c past by es (sleep_slot table entry due left false) l is ∙ ap (λ (x : List Heard). x ++ heard_on c past l) (sleep-good c table entry due left l.node l.dir sound (has-nad c l.node a)).heard
 sleep-by c past by es sound k (Some _) s is (carries table entry due left hurt g m ms j only host r n) e pdu calm l a =
     absurd (
-    let f : List ℕ = frame (address c m.link) m.bytes j
+    let f : List ℕ = frame (link_address c m.link) m.bytes j
     in let t : Slot = frame_slot table entry due left hurt m.link f
     in let go : CanGo c g m = first-go c g (accepted_from past g) (heard_on c past) (signs c past) (k.states g) m ms r (k.hosts g)
     in let same : t ≡ s = cc
-    in let pdu_is = pdu-frame table entry due left hurt m.link.node m.link.dir f (address c m.link) (some-address c m.link sound (place-of c g m go)) (frame-is (address c m.link) m.bytes j)
+    in let pdu_is = pdu-frame table entry due left hurt m.link.node m.link.dir f (link_address c m.link) (some-address c m.link sound (place-of c g m go)) (frame-is (link_address c m.link) m.bytes j)
     in let bad : OfMessage _ ≡ Sleep = sym pdu_is ∙ ap pdu_of same ∙ pdu
     in cc
     )
@@ -235,12 +235,12 @@ pub record HeardFrame (c : Parts) (past past' : List LogEntry) (l : Link) (given
   pub gains : drop (length (reading c past l)) (reading c past' l) ≡ option_to_list given
 
 pub heard-frame : (c : Parts) (past : List LogEntry) (by : PortId) (es : List Event) (k : Known c past) (s : Slot) (h : ℕ) (i : CarriesFrame c past by k s h) (given : Option (List ℕ)) (rs rs' : List Receivers) → s.hurt ≡ false → is_to_all i.message.link ≡ false
-    → HearsOn i.message.link (frame (address c i.message.link) i.message.bytes (k.states h).count) given rs rs' → KeepsHeard c past rs → HeardFrame c past (entry_is by Finish es ∷ past) i.message.link given rs'
+    → HearsOn i.message.link (frame (link_address c i.message.link) i.message.bytes (k.states h).count) given rs rs' → KeepsHeard c past rs → HeardFrame c past (entry_is by Finish es ∷ past) i.message.link given rs'
 heard-frame c past by es k s h i given rs rs' calm one on kept =
     let l : Link = i.message.link
     in let link : IsLink c h l = i.go.one one
     in let e : Ear = ear_on c l
-    in let n : ℕ = address c l
+    in let n : ℕ = link_address c l
     in let f : List ℕ = frame n i.message.bytes (k.states h).count
     in let past' : List LogEntry = entry_is by Finish es ∷ past
     in let before : List Heard = heard_on c past l
@@ -261,7 +261,7 @@ heard-frame c past by es k s h i given rs rs' calm one on kept =
     }
 
 -- room alone was made
-pub heard-alike : (c : Parts) (past : List LogEntry) (rs new : List Receivers) → AreAlike rs new → KeepsHeard c past rs → KeepsHeard c past new
+pub heard-alike : (c : Parts) (past : List LogEntry) (rs new : List Receivers) → HaveHeardAlike rs new → KeepsHeard c past rs → KeepsHeard c past new
 heard-alike c past rs new alike k = record {
   count = alike.count ∙ k.count;
   each = λ h y d at a.
@@ -280,14 +280,14 @@ all-over to n d all = ap (λ (x : Link). goes_over x (link_at n d)) (to-all-is t
 -- what a receiver down has heard then
 pub all-adds : (c : Parts) (past : List LogEntry) (by : PortId) (es : List Event) (k : Known c past) (s : Slot) (h : ℕ) (i : CarriesFrame c past by k s h) → s.hurt ≡ false → is_to_all i.message.link ≡ true → (n : ℕ) → is_some (nad c n) ≡ true
     → (goes_over i.message.link (link_at n Down) ≡ true)
-    × (heard_to (ear_on c (link_at n Down)) (frame (address c i.message.link) i.message.bytes (k.states h).count) (heard_on c past (link_at n Down)) ≡ heard_on c (entry_is by Finish es ∷ past) (link_at n Down))
+    × (heard_to (ear_on c (link_at n Down)) (frame (link_address c i.message.link) i.message.bytes (k.states h).count) (heard_on c past (link_at n Down)) ≡ heard_on c (entry_is by Finish es ∷ past) (link_at n Down))
 all-adds c past by es k s h i calm all n a =
     let to : Link = i.message.link
     in let l : Link = link_at n Down
-    in let f : List ℕ = frame (address c to) i.message.bytes (k.states h).count
+    in let f : List ℕ = frame (link_address c to) i.message.bytes (k.states h).count
     in let over : goes_over to l ≡ true = all-over to n Down all
     in let looks : looks_at (ear_on c l) (slice_index f 0) ≡ true
-    = rw (frame-address (address c to) i.message.bytes (k.states h).count) ((i.go.meant l (record { host = sym (over-host to l over) ∙ i.go.host; address = a }) over).heard)
+    = rw (frame-address (link_address c to) i.message.bytes (k.states h).count) ((i.go.meant l (record { host = sym (over-host to l over) ∙ i.go.host; address = a }) over).heard)
     in (over, heard-to (ear_on c l) f (heard_on c past l) looks ∙ sym (i.heard es l a ∙ rw (over, calm) refl))
 
 all-dir : (c : Parts) (past past' : List LogEntry) (h : ℕ) (d : Direction) (f : List ℕ) (x y : Receivers) → HearsToo f x y → heard_on c past' (link_at h Up) ≡ heard_on c past (link_at h Up)
@@ -301,7 +301,7 @@ all-dir c past past' h Down f x y hears same adds was =
     }
 
 pub to-all-heard : (c : Parts) (past : List LogEntry) (by : PortId) (es : List Event) (k : Known c past) (s : Slot) (h : ℕ) (i : CarriesFrame c past by k s h) (rs new : List Receivers) → s.hurt ≡ false → is_to_all i.message.link ≡ true
-    → HearAll c (frame (address c i.message.link) i.message.bytes (k.states h).count) rs new → KeepsHeard c past rs → KeepsHeard c (entry_is by Finish es ∷ past) new
+    → HearAll c (frame (link_address c i.message.link) i.message.bytes (k.states h).count) rs new → KeepsHeard c past rs → KeepsHeard c (entry_is by Finish es ∷ past) new
 to-all-heard c past by es k s h i rs new calm all hears kept = record {
   count = hears.count ∙ kept.count;
   each = λ n y d at a.
@@ -309,7 +309,7 @@ to-all-heard c past by es k s h i rs new calm all hears kept = record {
       let count = hears.count in
       let x = get-there rs n (omega arith) in
       let up : goes_over i.message.link (link_at n Up) ≡ false = all-over i.message.link n Up all in
-      all-dir c past (entry_is by Finish es ∷ past) n d (frame (address c i.message.link) i.message.bytes (k.states h).count) x.0 y (hears.each n x.0 y x.1 at a) (i.heard es (link_at n Up) a ∙ rw up refl)
+      all-dir c past (entry_is by Finish es ∷ past) n d (frame (link_address c i.message.link) i.message.bytes (k.states h).count) x.0 y (hears.each n x.0 y x.1 at a) (i.heard es (link_at n Up) a ∙ rw up refl)
       (all-adds c past by es k s h i calm all n a).1 (kept.each n x.0 d x.1 a);
 }
 

@@ -14,7 +14,7 @@ use Rattle.lin_parts.specs.Rules.{place_at, IsCluster}
 use Rattle.lin_parts.specs.declared.parts.Parts.{Parts}
 use Rattle.lin_parts.specs.declared.parts.Signal.{Signal}
 use Rattle.lin_core.specs.History.{open_slot, good, good_bytes, is_in, seen_by}
-use Rattle.lin_core.specs.kept.Signals.{Ends, KeepsSignals, KeepsOne, is_cleared_in, is_cleared}
+use Rattle.lin_core.specs.kept.Signals.{EndsSlot, KeepsSignals, KeepsOne, is_cleared_in, is_cleared}
 use Rattle.lin_core.specs.kept.Slots.{put_in, slot_in}
 use Rattle.lin_core.specs.Replies.{refusal, refusals}
 use Rattle.lin_core.specs.Signals.{value, heard_value, is_pending, carried_frame, is_written_since_answer}
@@ -276,7 +276,7 @@ finish-flag : (b : Bool) (flag flag' cleared carries written p : Bool) → flag'
 finish-flag true flag flag' cleared carries written p is w e = or-false flag' ∙ is ∙ w refl
 finish-flag false flag flag' cleared carries written p is w e = or-false flag' ∙ is ∙ e
 
-pub finish-signals : (c : Parts) (past : List LogEntry) (by : PortId) (es : List Event) (slot : OpenSlot) (signals signals' : Signals) → open_slot past ≡ Some (slot_in slot) → Ends c slot signals signals' → KeepsSignals c past (Some slot) signals
+pub finish-signals : (c : Parts) (past : List LogEntry) (by : PortId) (es : List Event) (slot : OpenSlot) (signals signals' : Signals) → open_slot past ≡ Some (slot_in slot) → EndsSlot c slot signals signals' → KeepsSignals c past (Some slot) signals
     → KeepsSignals c (record { port = by; step = Finish; reply = Done es } ∷ past) None signals'
 finish-signals c past by es slot signals signals' is n k = record {
   values_count = rw n.values k.values_count;

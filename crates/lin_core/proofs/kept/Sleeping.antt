@@ -3,13 +3,13 @@ use Rattle.std.proofs.Common.{◌≡◌, ℕ, zero, suc, ◌+◌, ◌-◌, ◌^�
 use Rattle.std.specs.Prelude.{Option, Some, None, flat_map, option_map, slice_get}
 use Rattle.std.proofs.lemmas.List.{length-map}
 use Rattle.lin_frame.specs.Words.{numbers}
-use Rattle.lin_transport.specs.Sender.{Sending as Sender}
+use Rattle.lin_transport.specs.Sender.{SenderData as Sender}
 use Rattle.lin_parts.specs.Cluster.{nodes}
 use Rattle.lin_parts.specs.declared.parts.Parts.{Parts}
 use Rattle.lin_parts.specs.Sound.{IsSound}
 use Rattle.lin_core.specs.History.{is_host_closed}
 use Rattle.lin_core.specs.kept.Hosts.{losses, losses_of, loss_of, host_after_settling, host_after_sleep, KeepsHost, message_of, KeepsSender, sender_now}
-use Rattle.lin_core.specs.kept.State.{KeepsLate, IsKept, Stage}
+use Rattle.lin_core.specs.kept.State.{KeepsLate, IsConsistent, Stage}
 use Rattle.lin_core.specs.kept.Bus.{KeepsBus}
 use Rattle.lin_core.specs.Links.{Link, Message, accepted_from, waiting}
 use Rattle.lin_core.specs.declared.event.Event.TheVariants.{Lost as LostEvent}
@@ -126,7 +126,7 @@ flat-below f g (suc n) each =
     ∙ rw (flat-below f g n (λ x l. each x (omega arith)), each n (omega arith)) refl
     ∙ sym (flat-append g (numbers n) (n ∷ []))
 
-pub losses-are : (a : Stage) (w : IsKept a) (k : Known a.cluster (past_in a)) → losses a.state.hosts.items ≡ flat_map (lost_by k.states all_links Slept) (numbers (nodes a.cluster))
+pub losses-are : (a : Stage) (w : IsConsistent a) (k : Known a.cluster (past_in a)) → losses a.state.hosts.items ≡ flat_map (lost_by k.states all_links Slept) (numbers (nodes a.cluster))
 losses-are a w k =
     let hosts : List Host = a.state.hosts.items
     in flat-below (losses_of hosts) (lost_by k.states all_links Slept) (length hosts)
@@ -139,7 +139,7 @@ losses-are a w k =
     ∙ ap (λ (n : ℕ). flat_map (lost_by k.states all_links Slept) (numbers n)) w.kept.hosts_count
 
 -- fewer messages are settled than the log has entries
-pub settled-small : (a : Stage) (w : IsKept a) → length a.log < 2 ^ 32 - 1 → (x : ℕ) (host : Host) → slice_get a.state.hosts.items x ≡ Some host → host.settled + 1 < 2 ^ 32
+pub settled-small : (a : Stage) (w : IsConsistent a) → length a.log < 2 ^ 32 - 1 → (x : ℕ) (host : Host) → slice_get a.state.hosts.items x ≡ Some host → host.settled + 1 < 2 ^ 32
 settled-small a w few x host at =
     let n = host-few a.cluster a.capacity a.log x host (w.kept.each_host x host at)
     in omega arith

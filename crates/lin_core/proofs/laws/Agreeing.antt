@@ -9,7 +9,7 @@ use Rattle.lin_parts.specs.Cluster.{nad}
 use Rattle.lin_parts.specs.Sound.{IsSound}
 use Rattle.lin_parts.specs.declared.parts.Parts.{Parts}
 use Rattle.lin_core.specs.Law.{AgreesOn, fates_in}
-use Rattle.lin_core.specs.Links.{Fate, Link, Message, Sending, Sign, accepted_from, address, blocks, fate_of, frames_to, goes_over, host_of, messages_on, sendings}
+use Rattle.lin_core.specs.Links.{Fate, Link, Message, Sending, Sign, accepted_from, link_address, blocks, fate_of, frames_to, goes_over, host_of, messages_on, sendings}
 use Rattle.lin_core.specs.Links.Fate.{Waiting}
 use Rattle.lin_core.specs.Runs.{history}
 use Rattle.lin_core.specs.declared.log.LogEntry.{LogEntry}
@@ -43,7 +43,7 @@ fates-settled (p ∷ ps) (b ∷ bs) tails more s = rw s.0.fate (ap (λ (fs : Lis
 -- and by those of the messages that wait
 fates-fresh : (c : Parts) (ms : List Message) → fates_in (map (frames_to c) ms) [] ≡ map fate_waiting ms
 fates-fresh c [] = refl
-fates-fresh c (m ∷ ms) = rw (goods-wait (address c m.link) m.bytes 0 (count-some m.bytes)) (ap (λ (fs : List Fate). Waiting ∷ fs) (fates-fresh c ms))
+fates-fresh c (m ∷ ms) = rw (goods-wait (link_address c m.link) m.bytes 0 (count-some m.bytes)) (ap (λ (fs : List Fate). Waiting ∷ fs) (fates-fresh c ms))
 
 fates-first : (c : Parts) (l : Link) (m : Message) (ms : List Message) (b : List Sign) (q : Bool) → Waits c b (m ∷ ms)
     → fates_in (map (frames_to c) (cond q (m ∷ filter (on l) ms) (filter (on l) ms))) (cond q (b ∷ []) []) ≡ map fate_waiting (cond q (m ∷ filter (on l) ms) (filter (on l) ms))

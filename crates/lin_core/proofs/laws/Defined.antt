@@ -6,7 +6,7 @@ use Rattle.lin_frame.specs.Words.{numbers}
 use Rattle.lin_parts.specs.declared.parts.Parts.{Parts}
 use Rattle.lin_parts.specs.Cluster.{nad, nodes, line_of}
 use Rattle.lin_core.specs.History.{Slot, open_slot, seen_of, reply_events, done, done_step, events}
-use Rattle.lin_core.specs.Links.{Link, host_of, Sign, Fate, waits, frames_of, reading, fate, is_waiting, Sending, sendings, fate_of}
+use Rattle.lin_core.specs.Links.{Link, host_of, Sign, Fate, waits, block_frames, reading, fate, is_waiting, Sending, sendings, fate_of}
 use Rattle.lin_core.specs.Slots.{put_by, due_nodes, is_service, next_due}
 use Rattle.lin_core.specs.Replies.{refusal, put_event, done_events, reply, receiver_of, report, reports, all_reports, new_messages, all_links, quiet_entry, service_events, sleeps}
 use Rattle.lin_parts.specs.Sound.{IsSound}
@@ -137,7 +137,7 @@ order-few [] (b ∷ bs) o = absurd o
 order-few (fs ∷ fss) (b ∷ []) o = omega arith
 order-few (fs ∷ fss) (b ∷ d ∷ bs) o = let r = order-few fss (d ∷ bs) o.2 in omega arith
 
-pub order-begins : (fss : List (List (List ℕ))) (bs : List (List Sign)) → InOrder fss bs → (i : ℕ) → i < length bs → IsPrefix (frames_of (slice_index_or bs i [])) (slice_index_or fss i [])
+pub order-begins : (fss : List (List (List ℕ))) (bs : List (List Sign)) → InOrder fss bs → (i : ℕ) → i < length bs → IsPrefix (block_frames (slice_index_or bs i [])) (slice_index_or fss i [])
 order-begins fss [] o i l = absurd (omega arith)
 order-begins [] (b ∷ bs) o i l = absurd o
 order-begins (fs ∷ fss) (b ∷ []) o zero l = o

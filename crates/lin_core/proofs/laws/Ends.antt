@@ -9,7 +9,7 @@ use Rattle.lin_transport.specs.Transport.{frame, frame_count, functional, Ear, H
 use Rattle.lin_parts.specs.declared.parts.Parts.{Parts}
 use Rattle.lin_parts.specs.Cluster.{nad}
 use Rattle.lin_core.specs.History.{Slot, open_slot, header_is, is_sleep_asked}
-use Rattle.lin_core.specs.Links.{Link, same_dir, Message, host_of, accepted_from, Sign, Fate, address, ear_on, frames_to, goes_over, is_down, is_to_all, put_on, signs, heard_on, blocks, blocks_of, messages_on}
+use Rattle.lin_core.specs.Links.{Link, same_dir, Message, host_of, accepted_from, Sign, Fate, link_address, ear_on, frames_to, goes_over, is_down, is_to_all, put_on, signs, heard_on, blocks, blocks_of, messages_on}
 use Rattle.lin_core.specs.Links.Sign.{Put as PutSign}
 use Rattle.lin_parts.specs.Sound.{IsSound}
 use Rattle.lin_core.specs.declared.log.LogEntry.{LogEntry}
@@ -35,7 +35,7 @@ use Rattle.lin_core.proofs.links.Results.{tails_with, IsPart, Waits, Holds, fram
 -- the block of the message that is begun
 abbrev pub begun_block : Parts → List Message → ℕ → List Sign
 begun_block c [] k = []
-begun_block c (m ∷ ms) k = goods (address c m.link) m.bytes k
+begun_block c (m ∷ ms) k = goods (link_address c m.link) m.bytes k
 
 pub tails-cons : (b : List Sign) (s : Sign) (d : List Sign) (m : Message) (ms : List Message) (l : Link) → b ≡ s ∷ d → tails_with b (m ∷ ms) l ≡ (if on l m then b ∷ [] else [])
 tails-cons b s d m ms l e = subst (λ (x : List Sign). tails_with x (m ∷ ms) l ≡ (if on l m then x ∷ [] else [])) (sym e) refl
@@ -44,7 +44,7 @@ pub goods-cons : (n : ℕ) (m : List ℕ) (j : ℕ) → goods n m (suc j) ≡ go
 goods-cons n m j = ap (map good_sign) (first-cons n m j)
 
 pub tail-same-by : (c : Parts) (m : Message) (j : ℕ) (q : Bool)
-    → tail_of (if q then Some (addressed c m, j) else None) ≡ (if q then goods (address c m.link) m.bytes (suc j) ∷ [] else [])
+    → tail_of (if q then Some (addressed c m, j) else None) ≡ (if q then goods (link_address c m.link) m.bytes (suc j) ∷ [] else [])
 tail-same-by c m j true = refl
 tail-same-by c m j false = refl
 
@@ -52,14 +52,14 @@ pub tails-same : (c : Parts) (rest : List Message) (k : ℕ) (l : Link) → tail
 tails-same c [] zero l = refl
 tails-same c [] (suc j) l = refl
 tails-same c (m ∷ ms) zero l = refl
-tails-same c (m ∷ ms) (suc j) l = tail-same-by c m j (on l m) ∙ sym (tails-cons (goods (address c m.link) m.bytes (suc j)) (good_sign (frame (address c m.link) m.bytes 0)) (map good_sign (map (frame (address c m.link) m.bytes) (map suc (numbers j)))) m ms l (goods-cons (address c m.link) m.bytes j))
+tails-same c (m ∷ ms) (suc j) l = tail-same-by c m j (on l m) ∙ sym (tails-cons (goods (link_address c m.link) m.bytes (suc j)) (good_sign (frame (link_address c m.link) m.bytes 0)) (map good_sign (map (frame (link_address c m.link) m.bytes) (map suc (numbers j)))) m ms l (goods-cons (link_address c m.link) m.bytes j))
 
 pub begun-waits : (c : Parts) (h : ℕ) (accepted : List Message) (heard : Link → List Heard) (signs : Link → List Sign) (done : List (Message × Fate)) (rest : List Message) (k : ℕ)
     → HostIs c h accepted heard signs (record { done = done; rest = rest; count = k }) → Waits c (begun_block c rest k) rest
 begun-waits c h accepted heard signs done [] k i = tt
 begun-waits c h accepted heard signs done (m ∷ ms) k i =
     let less : k < frame_count (length m.bytes) = count-less c h accepted heard signs done m ms k i
-    in record { waiting = goods-wait (address c m.link) m.bytes k less; begins = goods-prefix (address c m.link) m.bytes k (omega arith) }
+    in record { waiting = goods-wait (link_address c m.link) m.bytes k less; begins = goods-prefix (link_address c m.link) m.bytes k (omega arith) }
 
 -- a host on whose links nothing is put in the open slot
 pub plain-held : (c : Parts) (h : ℕ) (blocks : Link → List (List Sign)) (accepted : List Message) (heard : Link → List Heard) (signs : Link → List Sign) (s : HostState)
@@ -94,16 +94,16 @@ put-frame-all : (c : Parts) (table entry : ℕ) (due left : List ℕ) (hurt : Bo
 put-frame-all c table entry due left hurt b Down f k q i = rw (q, i.address, i.data_is)
 put-frame-all c table entry due left hurt b Up f k q i = refl
 
-put-frame-to : (c : Parts) (table entry : ℕ) (due left : List ℕ) (hurt : Bool) (to l : Link) (f : List ℕ) (b : Bool) → is_to_all to ≡ b → IsSound c → IsPlace c to → HasNad c l.node → IsFrameOf (address c to) f
+put-frame-to : (c : Parts) (table entry : ℕ) (due left : List ℕ) (hurt : Bool) (to l : Link) (f : List ℕ) (b : Bool) → is_to_all to ≡ b → IsSound c → IsPlace c to → HasNad c l.node → IsFrameOf (link_address c to) f
     → put_on c l (frame_slot table entry due left hurt to f) ≡ (if goes_over to l then f ∷ [] else [])
 put-frame-to c table entry due left hurt to l f true all sound p q i =
-    subst (λ (x : Link). IsFrameOf (address c x) f → put_on c l (frame_slot table entry due left hurt x f) ≡ (if goes_over x l then f ∷ [] else [])) (sym (to-all-is to.node to.dir all))
+    subst (λ (x : Link). IsFrameOf (link_address c x) f → put_on c l (frame_slot table entry due left hurt x f) ≡ (if goes_over x l then f ∷ [] else [])) (sym (to-all-is to.node to.dir all))
     (λ j. rw (over-all l.node l.dir) (put-frame-all c table entry due left hurt l.node l.dir f q.n q.is j)) i
 put-frame-to c table entry due left hurt to l f false one sound p q i =
     let at : HasNad c to.node = p one
     in rw (over-one to l one) (put-frame-by c table entry due left hurt to.node l.node to.dir l.dir f at.n q.n sound at.is q.is (rw (one, nad-is c to at.n at.is) at i))
 
-pub put-frame : (c : Parts) (table entry : ℕ) (due left : List ℕ) (hurt : Bool) (to l : Link) (f : List ℕ) → IsSound c → IsPlace c to → HasNad c l.node → IsFrameOf (address c to) f
+pub put-frame : (c : Parts) (table entry : ℕ) (due left : List ℕ) (hurt : Bool) (to l : Link) (f : List ℕ) → IsSound c → IsPlace c to → HasNad c l.node → IsFrameOf (link_address c to) f
     → put_on c l (frame_slot table entry due left hurt to f) ≡ (if goes_over to l then f ∷ [] else [])
 put-frame c table entry due left hurt to l f sound p q i = put-frame-to c table entry due left hurt to l f (is_to_all to) refl sound p q i
 
@@ -126,17 +126,17 @@ pub if-map : (q : Bool) (f : List ℕ) (signs : List Sign) → blocks_of (revers
 if-map true f signs = refl
 if-map false f signs = refl
 
-pub blocks-carried : (c : Parts) (past : List LogEntry) (table entry : ℕ) (due left : List ℕ) (hurt : Bool) (to l : Link) (f : List ℕ) → IsSound c → IsPlace c to → HasNad c l.node → IsFrameOf (address c to) f
+pub blocks-carried : (c : Parts) (past : List LogEntry) (table entry : ℕ) (due left : List ℕ) (hurt : Bool) (to l : Link) (f : List ℕ) → IsSound c → IsPlace c to → HasNad c l.node → IsFrameOf (link_address c to) f
     → open_slot past ≡ Some (frame_slot table entry due left hurt to f) → blocks c past l ≡ blocks_of (sign_if (goes_over to l) f (signs c past l))
 blocks-carried c past table entry due left hurt to l f sound p q i is = rw (is, put-frame c table entry due left hurt to l f sound p q i) (if-map (goes_over to l) f (signs c past l))
 
 -- the block with the frame of the open slot
 abbrev pub put_block : Parts → Message → ℕ → List Sign
-put_block c m k = goods (address c m.link) m.bytes k ++ PutSign (frame (address c m.link) m.bytes k) None ∷ []
+put_block c m k = goods (link_address c m.link) m.bytes k ++ PutSign (frame (link_address c m.link) m.bytes k) None ∷ []
 
 pub put-cons : (c : Parts) (m : Message) (k : ℕ) → (s : Sign) × (d : List Sign) × (put_block c m k ≡ s ∷ d)
 put-cons c m zero = (_, _, refl)
-put-cons c m (suc j) = (_, _, ap (λ (x : List Sign). x ++ PutSign (frame (address c m.link) m.bytes (suc j)) None ∷ []) (goods-cons (address c m.link) m.bytes j))
+put-cons c m (suc j) = (_, _, ap (λ (x : List Sign). x ++ PutSign (frame (link_address c m.link) m.bytes (suc j)) None ∷ []) (goods-cons (link_address c m.link) m.bytes j))
 
 pub link-carried : (e : Ear) (signs : List Sign) (ps : List (Addressed × Fate)) (m : Addressed) (k : ℕ) (q : Bool) → CanSend m.bytes → Track e signs ps (busy_if q m k)
     → HasBlocks ps (blocks_of (sign_if q (frame m.nad m.bytes k) signs)) (if q then (goods m.nad m.bytes k ++ PutSign (frame m.nad m.bytes k) None ∷ []) ∷ [] else [])
@@ -148,7 +148,7 @@ link-carried e signs ps m (suc j) false can t = record { front = blocks_of signs
 -- the host whose frame is put in the open slot
 pub carried-held : (c : Parts) (past : List LogEntry) (table entry : ℕ) (due left : List ℕ) (hurt : Bool) (h : ℕ) (m : Message) (ms : List Message) (k : ℕ) (done : List (Message × Fate)) → IsSound c
     → HostIs c h (accepted_from past h) (heard_on c past) (signs c past) (record { done = done; rest = m ∷ ms; count = k })
-    → open_slot past ≡ Some (frame_slot table entry due left hurt m.link (frame (address c m.link) m.bytes k))
+    → open_slot past ≡ Some (frame_slot table entry due left hurt m.link (frame (link_address c m.link) m.bytes k))
     → Holds c h (blocks c past) (accepted_from past h) done (m ∷ ms) (put_block c m k)
 carried-held c past table entry due left hurt h m ms k done sound i is =
     let less : k < frame_count (length m.bytes) = count-less c h (accepted_from past h) (heard_on c past) (signs c past) done m ms k i
@@ -162,12 +162,12 @@ carried-held c past table entry due left hurt h m ms k done sound i is =
             let t : Track (ear_on c l) (signs c past l) (on_link c l done) (busy_if (on l m) (addressed c m) k)
             = subst (λ (o : Option (Addressed × ℕ)). Track (ear_on c l) (signs c past l) (on_link c l done) o) (part-busy c m ms k l (on l m) refl) (i.links l a).track
             in rw (
-              blocks-carried c past table entry due left hurt m.link l (frame (address c m.link) m.bytes k) sound (place-of c h m i.can_go.0) (has-nad c l.node a.address) (frame-is (address c m.link) m.bytes k) is,
+              blocks-carried c past table entry due left hurt m.link l (frame (link_address c m.link) m.bytes k) sound (place-of c h m i.can_go.0) (has-nad c l.node a.address) (frame-is (link_address c m.link) m.bytes k) is,
               tails-cons (put_block c m k) cons.0 cons.1 m ms l cons.2,
             )
             (link-carried (ear_on c l) (signs c past l) (on_link c l done) (addressed c m) k (on l m) i.can_go.0.can t);
       };
-      waits = record { waiting = goods-unknown (address c m.link) m.bytes k (frame (address c m.link) m.bytes k); begins = more-prefix (address c m.link) m.bytes k None less };
+      waits = record { waiting = goods-unknown (link_address c m.link) m.bytes k (frame (link_address c m.link) m.bytes k); begins = more-prefix (link_address c m.link) m.bytes k None less };
     }
 
 pub record Held (c : Parts) (past : List LogEntry) (h : ℕ) (done : List (Message × Fate)) : Type 0 where
@@ -194,11 +194,11 @@ held c past h sound k (Some _) is (slave table entry due left hurt x line only w
 held c past h sound k (Some _) is (sleep table entry due left hurt only) = plainly c past h k (λ l i. put-no c past l _ is (put-sleep c table entry due left hurt l.node l.dir sound (has-nad c l.node i.address)))
 held c past h sound k (Some _) is (carries table entry due left hurt x m ms j only host r n) =
     let own : HostIs c x (accepted_from past x) (heard_on c past) (signs c past) (record { done = (k.states x).done; rest = m ∷ ms; count = j }) = as-state c x (accepted_from past x) (heard_on c past) (signs c past) (k.states x) (m ∷ ms) j r n (k.hosts x)
-    in let f : List ℕ = frame (address c m.link) m.bytes j
+    in let f : List ℕ = frame (link_address c m.link) m.bytes j
     in elim (eqb_tells x h) [
       | inl same ↦ subst (λ (y : ℕ). Held c past y (k.states y).done) same.1 (record { rest = m ∷ ms; block = put_block c m j; holds = carried-held c past table entry due left hurt x m ms j (k.states x).done sound own is })
       | inr differ ↦ plainly c past h k (λ l i.
-          blocks-carried c past table entry due left hurt m.link l f sound (place-of c x m own.can_go.0) (has-nad c l.node i.address) (frame-is (address c m.link) m.bytes j) is
+          blocks-carried c past table entry due left hurt m.link l f sound (place-of c x m own.can_go.0) (has-nad c l.node i.address) (frame-is (link_address c m.link) m.bytes j) is
           ∙ ap blocks_of (sign-none (goes_over m.link l) f (signs c past l) (other-host m.link l (goes_over m.link l) refl (λ e. differ.1 (sym host ∙ e ∙ i.host)))))
     ]
 

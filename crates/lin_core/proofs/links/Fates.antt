@@ -7,8 +7,8 @@ use Rattle.std.proofs.lemmas.List.{append-nil, map-append}
 use Rattle.lin_frame.specs.Words.{numbers}
 use Rattle.std.specs.Cmp.Lexicographic.{pointwise}
 use Rattle.std.specs.Option.{option_map_or}
-use Rattle.lin_transport.specs.Transport.{frame, frames, frame_count, first}
-use Rattle.lin_core.specs.Links.{Sign, Fate, fate, is_waiting, frames_of, before_mark, first_mark, is_damaged, is_good, begins_good, same_frames}
+use Rattle.lin_transport.specs.Transport.{frame, frames, frame_count, first_frames}
+use Rattle.lin_core.specs.Links.{Sign, Fate, fate, is_waiting, block_frames, before_mark, first_mark, is_damaged, is_good_sign, begins_good, same_frames}
 use Rattle.lin_core.specs.Links.Sign.{Put, Mark}
 use Rattle.lin_core.specs.Links.Fate.{Waiting, Sent, Lost}
 use Rattle.lin_core.specs.Law.{IsPrefix}
@@ -40,7 +40,7 @@ before-mark [] c = refl
 before-mark (Put f how ∷ b) c = ap (λ (x : List Sign). Put f how ∷ x) (before-mark b c)
 before-mark (Mark d ∷ b) c = refl
 
-pub frames-mark : (b : List Sign) (c : Cause) → frames_of (b ++ Mark c ∷ []) ≡ frames_of b
+pub frames-mark : (b : List Sign) (c : Cause) → block_frames (b ++ Mark c ∷ []) ≡ block_frames b
 frames-mark [] c = refl
 frames-mark (Put f how ∷ b) c = ap (λ (x : List (List ℕ)). f ∷ x) (frames-mark b c)
 frames-mark (Mark d ∷ b) c = frames-mark b c
@@ -65,18 +65,18 @@ pub mark-keeps : (fs : List (List ℕ)) (b : List Sign) (c : Cause) → is_waiti
 mark-keeps fs [] c h = refl
 mark-keeps fs (s ∷ b) c h =
     rw (damaged-mark (s ∷ b) c, before-mark (s ∷ b) c, first-mark (s ∷ b) c)
-    (settled-by (list_any is_damaged (s ∷ b)) (list_all is_good (before_mark (s ∷ b)) && same_frames (frames_of (before_mark (s ∷ b))) fs) (first_mark (s ∷ b)) (is_good s) c h)
+    (settled-by (list_any is_damaged (s ∷ b)) (list_all is_good_sign (before_mark (s ∷ b)) && same_frames (block_frames (before_mark (s ∷ b))) fs) (first_mark (s ∷ b)) (is_good_sign s) c h)
 
 -- blocks of good frames
 pub goods-whole : (fs : List (List ℕ)) → before_mark (map good_sign fs) ≡ map good_sign fs
 goods-whole [] = refl
 goods-whole (f ∷ fs) = ap (λ (x : List Sign). good_sign f ∷ x) (goods-whole fs)
 
-pub goods-frames : (fs : List (List ℕ)) → frames_of (map good_sign fs) ≡ fs
+pub goods-frames : (fs : List (List ℕ)) → block_frames (map good_sign fs) ≡ fs
 goods-frames [] = refl
 goods-frames (f ∷ fs) = ap (λ (x : List (List ℕ)). f ∷ x) (goods-frames fs)
 
-pub goods-good : (fs : List (List ℕ)) → list_all is_good (map good_sign fs) ≡ true
+pub goods-good : (fs : List (List ℕ)) → list_all is_good_sign (map good_sign fs) ≡ true
 goods-good [] = refl
 goods-good (f ∷ fs) = goods-good fs
 
@@ -109,12 +109,12 @@ goods-sent n m = rw (goods-unhurt (frames n m), goods-whole (frames n m), goods-
 -- some of them: begun
 pub goods-wait : (n : ℕ) (m : List ℕ) (k : ℕ) → k < frame_count (length m) → fate (frames n m) (goods n m k) ≡ Waiting
 goods-wait n m k l =
-    let fewer : same_frames (first n m k) (frames n m) ≡ false = same_frames-fewer (first n m k) (frames n m) (rw (length-first n m k, length-first n m (frame_count (length m))) l)
-    in rw (goods-unhurt (first n m k), goods-whole (first n m k), goods-good (first n m k), goods-frames (first n m k), fewer, goods-unmarked (first n m k))
+    let fewer : same_frames (first_frames n m k) (frames n m) ≡ false = same_frames-fewer (first_frames n m k) (frames n m) (rw (length-first n m k, length-first n m (frame_count (length m))) l)
+    in rw (goods-unhurt (first_frames n m k), goods-whole (first_frames n m k), goods-good (first_frames n m k), goods-frames (first_frames n m k), fewer, goods-unmarked (first_frames n m k))
 
 -- some of them, and a mark: lost
 pub fate-is : (fs : List (List ℕ)) (b before : List Sign) (whole : Bool) (mark : Option Cause) → list_any is_damaged b ≡ false → before_mark b ≡ before
-    → (list_all is_good before && same_frames (frames_of before) fs) ≡ whole → first_mark b ≡ mark → fate fs b ≡ fate_by false whole mark (begins_good b)
+    → (list_all is_good_sign before && same_frames (block_frames before) fs) ≡ whole → first_mark b ≡ mark → fate fs b ≡ fate_by false whole mark (begins_good b)
 fate-is fs b before whole mark p q r t = rw (p, q, r, t)
 
 pub cut-lost : (f : List ℕ) (ps fs : List (List ℕ)) (c : Cause) → length (f ∷ ps) < length fs → fate fs (map good_sign (f ∷ ps) ++ Mark c ∷ []) ≡ Lost c
@@ -128,7 +128,7 @@ cut-lost f ps fs c l =
 
 pub goods-cut : (n : ℕ) (m : List ℕ) (k : ℕ) (c : Cause) → suc k < frame_count (length m) → fate (frames n m) (goods n m (suc k) ++ Mark c ∷ []) ≡ Lost c
 goods-cut n m k c l =
-    let e : first n m (suc k) ≡ frame n m 0 ∷ map (frame n m) (map suc (numbers k)) = first-cons n m k
+    let e : first_frames n m (suc k) ≡ frame n m 0 ∷ map (frame n m) (map suc (numbers k)) = first-cons n m k
     in ap (λ (fs : List (List ℕ)). fate (frames n m) (map good_sign fs ++ Mark c ∷ [])) e
     ∙ cut-lost (frame n m 0) (map (frame n m) (map suc (numbers k))) (frames n m) c
     (let x = ap length e in let y = length-first n m (suc k) in let z = length-first n m (frame_count (length m)) in omega arith)
@@ -156,25 +156,25 @@ numbers-begin (suc n) k h = elim (eqb_tells k (suc n)) [
       in (r.0 ++ n ∷ [], ap (λ (xs : List ℕ). xs ++ n ∷ []) r.1 ∙ append_assoc (numbers k) r.0 (n ∷ []))
 ]
 
-pub first-prefix : (n : ℕ) (m : List ℕ) (k : ℕ) → k ≤ frame_count (length m) → IsPrefix (first n m k) (frames n m)
+pub first-prefix : (n : ℕ) (m : List ℕ) (k : ℕ) → k ≤ frame_count (length m) → IsPrefix (first_frames n m k) (frames n m)
 first-prefix n m k h =
     let r = numbers-begin (frame_count (length m)) k h
     in (map (frame n m) r.0, ap (map (frame n m)) r.1 ∙ map-append (frame n m) (numbers k) r.0)
 
-pub frames_of-append : (b d : List Sign) → frames_of (b ++ d) ≡ frames_of b ++ frames_of d
+pub frames_of-append : (b d : List Sign) → block_frames (b ++ d) ≡ block_frames b ++ block_frames d
 frames_of-append [] d = refl
 frames_of-append (Put f how ∷ b) d = ap (λ (x : List (List ℕ)). f ∷ x) (frames_of-append b d)
 frames_of-append (Mark c ∷ b) d = frames_of-append b d
 
-pub goods-prefix : (n : ℕ) (m : List ℕ) (k : ℕ) → k ≤ frame_count (length m) → IsPrefix (frames_of (goods n m k)) (frames n m)
-goods-prefix n m k h = rw (goods-frames (first n m k)) (first-prefix n m k h)
+pub goods-prefix : (n : ℕ) (m : List ℕ) (k : ℕ) → k ≤ frame_count (length m) → IsPrefix (block_frames (goods n m k)) (frames n m)
+goods-prefix n m k h = rw (goods-frames (first_frames n m k)) (first-prefix n m k h)
 
 -- the same with one more frame after them, however it was seen
-pub more-prefix : (n : ℕ) (m : List ℕ) (k : ℕ) (how : Option Seen) → k < frame_count (length m) → IsPrefix (frames_of (goods n m k ++ Put (frame n m k) how ∷ [])) (frames n m)
-more-prefix n m k how h = rw (frames_of-append (goods n m k) (Put (frame n m k) how ∷ []), goods-frames (first n m k), ← first-more n m k) (first-prefix n m (suc k) (omega arith))
+pub more-prefix : (n : ℕ) (m : List ℕ) (k : ℕ) (how : Option Seen) → k < frame_count (length m) → IsPrefix (block_frames (goods n m k ++ Put (frame n m k) how ∷ [])) (frames n m)
+more-prefix n m k how h = rw (frames_of-append (goods n m k) (Put (frame n m k) how ∷ []), goods-frames (first_frames n m k), ← first-more n m k) (first-prefix n m (suc k) (omega arith))
 
 -- the frame of the open slot after them: it still waits
-pub all-unknown : (fs : List (List ℕ)) (f : List ℕ) → list_all is_good (map good_sign fs ++ Put f None ∷ []) ≡ false
+pub all-unknown : (fs : List (List ℕ)) (f : List ℕ) → list_all is_good_sign (map good_sign fs ++ Put f None ∷ []) ≡ false
 all-unknown [] f = refl
 all-unknown (g ∷ fs) f = all-unknown fs f
 
@@ -192,4 +192,4 @@ mark-unknown (g ∷ fs) f = mark-unknown fs f
 
 pub goods-unknown : (n : ℕ) (m : List ℕ) (k : ℕ) (f : List ℕ) → fate (frames n m) (goods n m k ++ Put f None ∷ []) ≡ Waiting
 goods-unknown n m k f =
-    rw (damaged-unknown (first n m k) f, before-unknown (first n m k) f, all-unknown (first n m k) f, mark-unknown (first n m k) f)
+    rw (damaged-unknown (first_frames n m k) f, before-unknown (first_frames n m k) f, all-unknown (first_frames n m k) f, mark-unknown (first_frames n m k) f)

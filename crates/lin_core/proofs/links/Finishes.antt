@@ -12,7 +12,7 @@ use Rattle.lin_transport.specs.Transport.Heard.{Reset}
 use Rattle.lin_parts.specs.declared.parts.Parts.{Parts}
 use Rattle.lin_parts.specs.Cluster.{nad}
 use Rattle.lin_core.specs.History.{Slot, open_slot, seen_of, header_is, is_sleep_slot}
-use Rattle.lin_core.specs.Links.{Link, same_dir, host_of, Sign, address, is_down, is_to_all, ear_on, goes_over, message_under, nad_on, put_signs, signs, heard_on, heard_good, diagnostic_header}
+use Rattle.lin_core.specs.Links.{Link, same_dir, host_of, Sign, link_address, is_down, is_to_all, ear_on, goes_over, message_under, nad_on, put_signs, signs, heard_on, heard_good, diagnostic_header}
 use Rattle.lin_core.specs.Links.Sign.{Mark}
 use Rattle.lin_core.specs.Slots.{with_classic, sleep_frame}
 use Rattle.lin_parts.specs.Sound.{IsSound}
@@ -180,11 +180,11 @@ nad-is c l n e = ap (λ (o : Option ℕ). unwrap_or o 0) e
 abbrev pub IsPlace : Parts → Link → Type 0
 IsPlace c to = is_to_all to ≡ false → HasNad c to.node
 
-some-by : (c : Parts) (to : Link) (b : Bool) → is_to_all to ≡ b → IsSound c → IsPlace c to → 1 ≤ address c to
+some-by : (c : Parts) (to : Link) (b : Bool) → is_to_all to ≡ b → IsSound c → IsPlace c to → 1 ≤ link_address c to
 some-by c to true all sound p = rw all (omega arith)
 some-by c to false one sound p = let at : HasNad c to.node = p one in rw (one, nad-is c to at.n at.is) (sound.some to.node at.n at.is)
 
-pub some-address : (c : Parts) (to : Link) → IsSound c → IsPlace c to → 1 ≤ address c to
+pub some-address : (c : Parts) (to : Link) → IsSound c → IsPlace c to → 1 ≤ link_address c to
 some-address c to sound p = some-by c to (is_to_all to) refl sound p
 
 -- a link of a node that has an address goes to it alone
@@ -200,15 +200,15 @@ frame-adds-all c table entry due left false b Down f k q i = record { signs = rw
 frame-adds-all c table entry due left true b Up f k q i = record { signs = refl; heard = refl }
 frame-adds-all c table entry due left false b Up f k q i = record { signs = rw i.address; heard = rw i.address }
 
-adds-to : (c : Parts) (table entry : ℕ) (due left : List ℕ) (hurt : Bool) (to l : Link) (f : List ℕ) (b : Bool) → is_to_all to ≡ b → IsSound c → IsPlace c to → HasNad c l.node → IsFrameOf (address c to) f
+adds-to : (c : Parts) (table entry : ℕ) (due left : List ℕ) (hurt : Bool) (to l : Link) (f : List ℕ) (b : Bool) → is_to_all to ≡ b → IsSound c → IsPlace c to → HasNad c l.node → IsFrameOf (link_address c to) f
     → Adds c (frame_slot table entry due left hurt to f) l (goes_over to l) hurt f
 adds-to c table entry due left hurt to l f true all sound p q i =
-    subst (λ (x : Link). IsFrameOf (address c x) f → Adds c (frame_slot table entry due left hurt x f) l (goes_over x l) hurt f) (sym (to-all-is to.node to.dir all))
+    subst (λ (x : Link). IsFrameOf (link_address c x) f → Adds c (frame_slot table entry due left hurt x f) l (goes_over x l) hurt f) (sym (to-all-is to.node to.dir all))
     (λ j. rw (over-all l.node l.dir) (frame-adds-all c table entry due left hurt l.node l.dir f q.n q.is j)) i
 adds-to c table entry due left hurt to l f false one sound p q i =
     let at : HasNad c to.node = p one
     in rw (over-one to l one) (frame-adds-by c table entry due left hurt to.node l.node to.dir l.dir f at.n q.n sound at.is q.is (rw (one, nad-is c to at.n at.is) at i))
 
-pub frame-adds : (c : Parts) (table entry : ℕ) (due left : List ℕ) (hurt : Bool) (to l : Link) (f : List ℕ) → IsSound c → IsPlace c to → HasNad c l.node → IsFrameOf (address c to) f
+pub frame-adds : (c : Parts) (table entry : ℕ) (due left : List ℕ) (hurt : Bool) (to l : Link) (f : List ℕ) → IsSound c → IsPlace c to → HasNad c l.node → IsFrameOf (link_address c to) f
     → Adds c (frame_slot table entry due left hurt to f) l (goes_over to l) hurt f
 frame-adds c table entry due left hurt to l f sound p q i = adds-to c table entry due left hurt to l f (is_to_all to) refl sound p q i

@@ -4,11 +4,11 @@ use Rattle.std.specs.Prelude.{⊤, Option, Some, None, cond, ◌&&◌, if◌then
 use Rattle.std.proofs.lemmas.List.{append-nil, map-append, length-append}
 use Rattle.std.proofs.lemmas.List.Elements.{filter-append}
 use Rattle.lin_transport.specs.Law.{Addressed}
-use Rattle.lin_transport.specs.Transport.{frames, messages_to, Ear, Heard, first}
+use Rattle.lin_transport.specs.Transport.{frames, messages_to, Ear, Heard, first_frames}
 use Rattle.lin_transport.proofs.Ears.{to-none}
 use Rattle.lin_transport.proofs.Pieces.{reads-nothing}
 use Rattle.lin_parts.specs.declared.parts.Parts.{Parts}
-use Rattle.lin_core.specs.Links.{Link, Message, Sign, Fate, fate, frames_of, Sending, address, frames_to, home, sendings_from}
+use Rattle.lin_core.specs.Links.{Link, Message, Sign, Fate, fate, block_frames, Sending, link_address, frames_to, home, sendings_from}
 use Rattle.lin_core.specs.Links.Fate.{Waiting, Sent, Lost}
 use Rattle.lin_core.specs.Law.{is_sent, is_sent_over, IsPrefix, InOrder}
 use Rattle.lin_transport.proofs.Frames.{and-false, count-some}
@@ -25,7 +25,7 @@ tails_with (s ∷ b) (m ∷ ms) l = if on l m then (s ∷ b) ∷ [] else []
 -- the first message waits with this block
 pub record IsPart (c : Parts) (b : List Sign) (m : Message) : Type 0 where
   pub waiting : fate (frames_to c m) b ≡ Waiting
-  pub begins : IsPrefix (frames_of b) (frames_to c m)
+  pub begins : IsPrefix (block_frames b) (frames_to c m)
 
 abbrev pub Waits : Parts → List Sign → List Message → Type 0
 Waits c b [] = ⊤
@@ -67,7 +67,7 @@ few-held c h blocks done m ms b o = record {
 pub fresh-outcomes : (c : Parts) (blocks : Link → List (List Sign)) (before ms : List Message) → AllFresh c (sendings_from c blocks before ms) → map (outcome c) (sendings_from c blocks before ms) ≡ map waiting_one ms
 fresh-outcomes c blocks before [] f = refl
 fresh-outcomes c blocks before (m ∷ ms) f =
-    rw (f.0.none, goods-wait (address c m.link) m.bytes 0 (count-some m.bytes)) (ap (λ (xs : List (Message × Fate)). waiting_one m ∷ xs) (fresh-outcomes c blocks (before ++ m ∷ []) ms f.1))
+    rw (f.0.none, goods-wait (link_address c m.link) m.bytes 0 (count-some m.bytes)) (ap (λ (xs : List (Message × Fate)). waiting_one m ∷ xs) (fresh-outcomes c blocks (before ++ m ∷ []) ms f.1))
 
 pub rest-outcomes : (c : Parts) (h : ℕ) (blocks : Link → List (List Sign)) (accepted : List Message) (done : List (Message × Fate)) (rest : List Message) (b : List Sign)
     → Holds c h blocks accepted done rest b → map (outcome c) (sendings_from c blocks (map message_of done) rest) ≡ map waiting_one rest
@@ -134,7 +134,7 @@ sent-are c h blocks accepted done rest b l t =
 pub track-reads : (e : Ear) (heard : List Heard) (signs : List Sign) (ps : List (Addressed × Fate)) (o : Option (Addressed × ℕ)) → LinkIs e heard signs ps o → messages_to e heard ≡ sent_of ps
 track-reads e heard signs ps None t = rw t.heard_is t.track.reads
 track-reads e heard signs ps (Some x) t =
-    rw (t.heard_is, t.track.pieces) (reads-nothing e t.track.cut (first x.0.nad x.0.bytes (suc x.1)) (to-none e x.0 x.1 t.track.meant t.track.more) ∙ t.track.reads)
+    rw (t.heard_is, t.track.pieces) (reads-nothing e t.track.cut (first_frames x.0.nad x.0.bytes (suc x.1)) (to-none e x.0 x.1 t.track.meant t.track.more) ∙ t.track.reads)
 
 -- the frames of each message
 abbrev pub frames_of_each : List (Addressed × Fate) → List (List (List ℕ))

@@ -5,9 +5,9 @@ use Rattle.std.proofs.lemmas.List.{append-nil, map-append}
 use Rattle.std.proofs.lemmas.List.Elements.{filter_map-append}
 use Rattle.lin_transport.specs.Words.{with_last}
 use Rattle.lin_transport.specs.Law.{Addressed, IsFor}
-use Rattle.lin_transport.specs.Transport.{frame, frames, frame_count, pieces, message_to, messages_to, Ear, Heard, first}
+use Rattle.lin_transport.specs.Transport.{frame, frames, frame_count, pieces, message_to, messages_to, Ear, Heard, first_frames}
 use Rattle.lin_transport.specs.Transport.Heard.{Frame, Reset}
-use Rattle.lin_core.specs.Links.{Sign, Fate, fate, is_waiting, frames_of, in_last, blocks_of}
+use Rattle.lin_core.specs.Links.{Sign, Fate, fate, is_waiting, block_frames, in_last, blocks_of}
 use Rattle.lin_core.specs.Links.Sign.{Put, Mark}
 use Rattle.lin_core.specs.Links.Fate.{Waiting, Sent, Lost}
 use Rattle.lin_core.specs.Law.{IsPrefix}
@@ -30,7 +30,7 @@ heard_of (Mark cause ∷ signs) = Reset ∷ heard_of signs
 pub record IsSettled (p : Addressed × Fate) (b : List Sign) : Type 0 where
   pub fate : fate (frames p.0.nad p.0.bytes) b ≡ p.1
   pub settled : is_waiting p.1 ≡ false
-  pub begins : IsPrefix (frames_of b) (frames p.0.nad p.0.bytes)
+  pub begins : IsPrefix (block_frames b) (frames p.0.nad p.0.bytes)
 
 abbrev pub AreSettled : List (Addressed × Fate) → List (List Sign) → Type 0
 AreSettled [] [] = ⊤
@@ -59,7 +59,7 @@ pub record Busy (e : Ear) (signs : List Sign) (ps : List (Addressed × Fate)) (m
   pub blocks : blocks_of signs ≡ earlier ++ goods m.nad m.bytes (suc k) ∷ []
   pub settled : AreSettled ps earlier
   pub cut : List (List (List ℕ))
-  pub pieces : pieces (heard_of signs) ≡ cut ++ first m.nad m.bytes (suc k) ∷ []
+  pub pieces : pieces (heard_of signs) ≡ cut ++ first_frames m.nad m.bytes (suc k) ∷ []
   pub reads : filter_map (message_to e) cut ≡ sent_of ps
 
 pub in_last-append : (bs : List (List Sign)) (b : List Sign) (s : Sign) → in_last s (bs ++ b ∷ []) ≡ bs ++ (b ++ s ∷ []) ∷ []
@@ -118,7 +118,7 @@ pub busy-mark : (e : Ear) (signs : List Sign) (ps : List (Addressed × Fate)) (m
 busy-mark e signs ps m k c t = record {
   settled = rw (t.blocks, with_last-append (λ (b : List Sign). b ++ Mark c ∷ []) t.earlier (goods m.nad m.bytes (suc k))) (settled-more ps t.earlier (m, Lost c) (goods m.nad m.bytes (suc k) ++ Mark c ∷ []) t.settled (lost-settled m k c t.more));
   reads = reads-nothing e (pieces (heard_of signs)) [] refl
-      ∙ ap (filter_map (message_to e)) t.pieces ∙ reads-nothing e t.cut (first m.nad m.bytes (suc k)) (to-none e m k t.meant t.more)
+      ∙ ap (filter_map (message_to e)) t.pieces ∙ reads-nothing e t.cut (first_frames m.nad m.bytes (suc k)) (to-none e m k t.meant t.more)
       ∙ t.reads ∙ sym (sent-lost ps m c);
 }
 
@@ -134,7 +134,7 @@ pub busy-hurt : (e : Ear) (signs : List Sign) (ps : List (Addressed × Fate)) (m
 busy-hurt e signs ps m k t = record {
   settled = rw (frame-continues m.nad m.bytes k, t.blocks, in_last-append t.earlier (goods m.nad m.bytes (suc k)) (hurt_sign (frame m.nad m.bytes (suc k))))
       (settled-more ps t.earlier (m, Lost Damaged) (goods m.nad m.bytes (suc k) ++ hurt_sign (frame m.nad m.bytes (suc k)) ∷ []) t.settled (hurt-settled m (suc k) t.more));
-  reads = ap (filter_map (message_to e)) t.pieces ∙ reads-nothing e t.cut (first m.nad m.bytes (suc k)) (to-none e m k t.meant t.more) ∙ t.reads ∙ sym (sent-lost ps m Damaged);
+  reads = ap (filter_map (message_to e)) t.pieces ∙ reads-nothing e t.cut (first_frames m.nad m.bytes (suc k)) (to-none e m k t.meant t.more) ∙ t.reads ∙ sym (sent-lost ps m Damaged);
 }
 
 -- a first frame that was good
@@ -159,7 +159,7 @@ idle-part e signs ps m meant more t = record {
 }
 
 pub goods-more : (n : ℕ) (m : List ℕ) (k : ℕ) → goods n m (suc k) ≡ goods n m k ++ good_sign (frame n m k) ∷ []
-goods-more n m k = ap (map good_sign) (first-more n m k) ∙ map-append good_sign (first n m k) (frame n m k ∷ [])
+goods-more n m k = ap (map good_sign) (first-more n m k) ∙ map-append good_sign (first_frames n m k) (frame n m k ∷ [])
 
 -- a later one
 pub busy-part : (e : Ear) (signs : List Sign) (ps : List (Addressed × Fate)) (m : Addressed) (k : ℕ) → suc (suc k) < frame_count (length m.bytes) → Busy e signs ps m k → Busy e (good_sign (frame m.nad m.bytes (suc k)) ∷ signs) ps m (suc k)
@@ -170,16 +170,16 @@ busy-part e signs ps m k more t = record {
   blocks = rw (frame-continues m.nad m.bytes k, t.blocks, in_last-append t.earlier (goods m.nad m.bytes (suc k)) (good_sign (frame m.nad m.bytes (suc k))), goods-more m.nad m.bytes (suc k));
   settled = t.settled;
   cut = t.cut;
-  pieces = rw (frame-continues m.nad m.bytes k, t.pieces, with_last-append (λ (p : List (List ℕ)). p ++ frame m.nad m.bytes (suc k) ∷ []) t.cut (first m.nad m.bytes (suc k)), first-more m.nad m.bytes (suc k));
+  pieces = rw (frame-continues m.nad m.bytes k, t.pieces, with_last-append (λ (p : List (List ℕ)). p ++ frame m.nad m.bytes (suc k) ∷ []) t.cut (first_frames m.nad m.bytes (suc k)), first-more m.nad m.bytes (suc k));
   reads = t.reads;
 }
 
 pub busy-whole : (e : Ear) (signs : List Sign) (ps : List (Addressed × Fate)) (m : Addressed) (k : ℕ) → frame_count (length m.bytes) ≡ suc (suc k) → Busy e signs ps m k → Idle e (good_sign (frame m.nad m.bytes (suc k)) ∷ signs) (ps ++ (m, Sent) ∷ [])
 busy-whole e signs ps m k last t =
     let all : IsSettled (m, Sent) (goods m.nad m.bytes (suc (suc k))) = rw last at (sent-settled m)
-    in let read : message_to e (first m.nad m.bytes (suc (suc k))) ≡ Some m.bytes = rw last at (to-all e m t.meant)
+    in let read : message_to e (first_frames m.nad m.bytes (suc (suc k))) ≡ Some m.bytes = rw last at (to-all e m t.meant)
     in record {
       settled = rw (frame-continues m.nad m.bytes k, t.blocks, in_last-append t.earlier (goods m.nad m.bytes (suc k)) (good_sign (frame m.nad m.bytes (suc k))), ← goods-more m.nad m.bytes (suc k)) (settled-more ps t.earlier (m, Sent) (goods m.nad m.bytes (suc (suc k))) t.settled all);
-      reads = rw (frame-continues m.nad m.bytes k, t.pieces, with_last-append (λ (p : List (List ℕ)). p ++ frame m.nad m.bytes (suc k) ∷ []) t.cut (first m.nad m.bytes (suc k)), ← first-more m.nad m.bytes (suc k))
-          (reads-more e t.cut (first m.nad m.bytes (suc (suc k))) (Some m.bytes) read ∙ ap (λ (x : List (List ℕ)). x ++ m.bytes ∷ []) t.reads ∙ sym (sent-sent ps m));
+      reads = rw (frame-continues m.nad m.bytes k, t.pieces, with_last-append (λ (p : List (List ℕ)). p ++ frame m.nad m.bytes (suc k) ∷ []) t.cut (first_frames m.nad m.bytes (suc k)), ← first-more m.nad m.bytes (suc k))
+          (reads-more e t.cut (first_frames m.nad m.bytes (suc (suc k))) (Some m.bytes) read ∙ ap (λ (x : List (List ℕ)). x ++ m.bytes ∷ []) t.reads ∙ sym (sent-sent ps m));
     }

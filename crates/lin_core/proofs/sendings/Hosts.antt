@@ -6,10 +6,10 @@ use Rattle.std.proofs.lemmas.List.{append-nil, map-append, length-append, get_or
 use Rattle.std.proofs.lemmas.List.Elements.{filter-append}
 use Rattle.std.specs.Option.{option_map_or}
 use Rattle.lin_transport.specs.Law.{Addressed, IsFor}
-use Rattle.lin_transport.specs.Transport.{frame, frame_count, Ear, Heard, CanSend, first}
+use Rattle.lin_transport.specs.Transport.{frame, frame_count, Ear, Heard, CanSend, first_frames}
 use Rattle.lin_parts.specs.Cluster.{nad}
 use Rattle.lin_parts.specs.declared.parts.Parts.{Parts}
-use Rattle.lin_core.specs.Links.{Link, same_dir, same_link, Message, host_of, Sign, Fate, fate, is_waiting, frames_of, begins_good, blocks_of, Sending, address, ear_on, frames_to, goes_over, home, is_to_all, sendings_from, fate_of, waits, is_begun}
+use Rattle.lin_core.specs.Links.{Link, same_dir, same_link, Message, host_of, Sign, Fate, fate, is_waiting, block_frames, begins_good, blocks_of, Sending, link_address, ear_on, frames_to, goes_over, home, is_to_all, sendings_from, fate_of, waits, is_begun}
 use Rattle.lin_core.specs.declared.link.Direction.{Direction}
 use Rattle.lin_core.specs.declared.link.Direction.TheVariants.{Down, Up}
 use Rattle.lin_core.specs.Slots.{frame_at}
@@ -28,7 +28,7 @@ on l m = goes_over m.link l
 
 -- a message with the address of its frames
 abbrev pub addressed : Parts → Message → Addressed
-addressed c m = record { nad = address c m.link; bytes = m.bytes }
+addressed c m = record { nad = link_address c m.link; bytes = m.bytes }
 
 abbrev pub outcome_on : Parts → Message × Fate → Addressed × Fate
 outcome_on c p = (addressed c p.0, p.1)
@@ -212,7 +212,7 @@ all-fresh c h blocks before (m ∷ ms) f g = (
 
 -- the message that comes first of those that wait, with its block
 abbrev pub sending_of : Parts → List Message → Message → ℕ → Sending
-sending_of c before m k = record { number = suc (length before); message = m; block = goods (address c m.link) m.bytes k }
+sending_of c before m k = record { number = suc (length before); message = m; block = goods (link_address c m.link) m.bytes k }
 
 abbrev pub tails_of : Parts → List Message → ℕ → Link → List (List Sign)
 tails_of c rest k l = tail_of (part c rest k l)
@@ -227,7 +227,7 @@ block-after c h blocks tails done l b i =
     let hb = b.at l i
     in rw (hb.is, count-on c l done, ← settled-length (on_link c l done) hb.front hb.settled) (index-after hb.front (tails l) [])
 
-pub tail-there : (c : Parts) (m : Message) (ms : List Message) (k : ℕ) (l : Link) → on l m ≡ true → slice_index_or (tails_of c (m ∷ ms) k l) 0 [] ≡ goods (address c m.link) m.bytes k
+pub tail-there : (c : Parts) (m : Message) (ms : List Message) (k : ℕ) (l : Link) → on l m ≡ true → slice_index_or (tails_of c (m ∷ ms) k l) 0 [] ≡ goods (link_address c m.link) m.bytes k
 tail-there c m ms zero l over = refl
 tail-there c m ms (suc j) l over = rw over
 
@@ -293,7 +293,7 @@ pub sendings-split : (c : Parts) (h : ℕ) (blocks : Link → List (List Sign)) 
     → sendings_from c blocks [] accepted ≡ settled_ones c blocks done ++ sending_of c (map message_of done) m k ∷ sendings_from c blocks (map message_of done ++ m ∷ []) ms
 sendings-split c h blocks accepted done m ms k t =
     let l : Link = home c m.link
-    in let e : slice_index_or (blocks l) (length (filter (on l) (map message_of done))) [] ≡ goods (address c m.link) m.bytes k
+    in let e : slice_index_or (blocks l) (length (filter (on l) (map message_of done))) [] ≡ goods (link_address c m.link) m.bytes k
     = block-after c h blocks (tails_of c (m ∷ ms) k) done l t.links t.can_go.0.home_is ∙ tail-there c m ms k l t.can_go.0.over
     in rw (t.accepted_is, sendings-append c blocks [] (map message_of done) (m ∷ ms), e)
 
@@ -309,7 +309,7 @@ pub first-begun : (c : Parts) (h : ℕ) (blocks : Link → List (List Sign)) (ac
     → Stands c h blocks accepted (record { done = done; rest = m ∷ ms; count = suc j }) → is_begun c (sending_of c (map message_of done) m (suc j)) ≡ true
 first-begun c h blocks accepted done m ms j t =
     let more : suc j < frame_count (length m.bytes) = t.more (home c m.link) (addressed c m, j) t.can_go.0.home_is (part-there c m ms j (home c m.link) t.can_go.0.over)
-    in rw (goods-wait (address c m.link) m.bytes (suc j) more) (goods-begin (address c m.link) m.bytes j)
+    in rw (goods-wait (link_address c m.link) m.bytes (suc j) more) (goods-begin (link_address c m.link) m.bytes j)
 
 pub begun-first : (c : Parts) (h : ℕ) (blocks : Link → List (List Sign)) (accepted : List Message) (done : List (Message × Fate)) (m : Message) (ms : List Message) (j : ℕ)
     → Stands c h blocks accepted (record { done = done; rest = m ∷ ms; count = suc j })
@@ -337,7 +337,7 @@ waiting-fresh c h blocks accepted done m ms t =
       sendings-split c h blocks accepted done m ms 0 t,
       filter-append (waits c) (settled_ones c blocks done) (sending_of c (map message_of done) m 0 ∷ sendings_from c blocks (map message_of done ++ m ∷ []) ms),
       none-wait c h (settled_ones c blocks done) (ones-done c h blocks accepted (record { done = done; rest = m ∷ ms; count = 0 }) t),
-      goods-wait (address c m.link) m.bytes 0 (count-some m.bytes),
+      goods-wait (link_address c m.link) m.bytes 0 (count-some m.bytes),
     )
 
 -- a host stands so while no frame is put on its links
@@ -357,6 +357,6 @@ host-stands c h blocks accepted heard signs s e t = record {
 -- the frame that comes next
 pub next-begun : (c : Parts) (h : ℕ) (blocks : Link → List (List Sign)) (accepted : List Message) (done : List (Message × Fate)) (m : Message) (ms : List Message) (j : ℕ) (rest : List ℕ)
     → Stands c h blocks accepted (record { done = done; rest = m ∷ ms; count = suc j })
-    → option_map_or (λ s. frame_at c s (length (frames_of s.block))) (find (is_begun c) (sendings_from c blocks [] accepted)) rest ≡ frame (address c m.link) m.bytes (suc j)
+    → option_map_or (λ s. frame_at c s (length (block_frames s.block))) (find (is_begun c) (sendings_from c blocks [] accepted)) rest ≡ frame (link_address c m.link) m.bytes (suc j)
 next-begun c h blocks accepted done m ms j rest t =
-    rw (begun-first c h blocks accepted done m ms j t, goods-frames (first (address c m.link) m.bytes (suc j)), length-first (address c m.link) m.bytes (suc j))
+    rw (begun-first c h blocks accepted done m ms j t, goods-frames (first_frames (link_address c m.link) m.bytes (suc j)), length-first (link_address c m.link) m.bytes (suc j))

@@ -7,7 +7,7 @@ use Rattle.lin_transport.specs.Law.{Addressed, IsFor}
 use Rattle.lin_transport.specs.Transport.{frame, frame_count, functional, Ear, Heard}
 use Rattle.lin_transport.specs.Transport.Heard.{Frame, Reset}
 use Rattle.lin_parts.specs.declared.parts.Parts.{Parts}
-use Rattle.lin_core.specs.Links.{Link, same_dir, same_link, Message, Sign, Fate, address, ear_on, goes_over, home, host_of, is_down, is_to_all, reaches}
+use Rattle.lin_core.specs.Links.{Link, same_dir, same_link, Message, Sign, Fate, link_address, ear_on, goes_over, home, host_of, is_down, is_to_all, reaches}
 use Rattle.lin_core.specs.Links.Sign.{Mark}
 use Rattle.lin_core.specs.Links.Fate.{Sent, Lost}
 use Rattle.lin_core.specs.declared.link.Cause.{Cause}
@@ -151,7 +151,7 @@ idle-if e heard signs ps m (suc j) t = t
 
 -- one link after the frame
 pub link-put : (c : Parts) (ear : Ear) (heard heard' : List Heard) (signs signs' : List Sign) (done : List (Message × Fate)) (m : Message) (ms : List Message) (k : ℕ) (l : Link) (b hurt last : Bool)
-    → (on l m ≡ true → IsFor ear (addressed c m)) → k < frame_count (length m.bytes) → on l m ≡ b → is_last m.bytes k ≡ last → Puts b hurt (frame (address c m.link) m.bytes k) heard heard' signs signs'
+    → (on l m ≡ true → IsFor ear (addressed c m)) → k < frame_count (length m.bytes) → on l m ≡ b → is_last m.bytes k ≡ last → Puts b hurt (frame (link_address c m.link) m.bytes k) heard heard' signs signs'
     → LinkIs ear heard signs (on_link c l done) (busy_if b (addressed c m) k)
     → LinkIs ear heard' signs' (on_link c l (advanced hurt last done m ms k).done) (part c (advanced hurt last done m ms k).rest (advanced hurt last done m ms k).count l)
 link-put c ear heard heard' signs signs' done m ms k l true true last meant less e x p t = rw (p.heard_is, p.signs_is, on-more c l done m (Lost Damaged) true e) (link-hurt ear heard signs (on_link c l done) (addressed c m) k (meant e) t)
@@ -190,7 +190,7 @@ advanced-counts c h false false done m ms k g less x = let more : suc k < frame_
 -- a host whose next frame was put and seen
 pub host-put : (c : Parts) (h : ℕ) (accepted : List Message) (heard heard' : Link → List Heard) (signs signs' : Link → List Sign) (done : List (Message × Fate)) (m : Message) (ms : List Message) (k : ℕ) (hurt : Bool)
     → HostIs c h accepted heard signs (record { done = done; rest = m ∷ ms; count = k })
-    → ((l : Link) → IsLink c h l → Puts (on l m) hurt (frame (address c m.link) m.bytes k) (heard l) (heard' l) (signs l) (signs' l))
+    → ((l : Link) → IsLink c h l → Puts (on l m) hurt (frame (link_address c m.link) m.bytes k) (heard l) (heard' l) (signs l) (signs' l))
     → HostIs c h accepted heard' signs' (advanced hurt (is_last m.bytes k) done m ms k)
 host-put c h accepted heard heard' signs signs' done m ms k hurt t p = record {
   accepted_is = t.accepted_is ∙ advanced-accepted hurt (is_last m.bytes k) done m ms k;

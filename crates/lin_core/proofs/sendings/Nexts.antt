@@ -2,12 +2,12 @@
 use Rattle.std.proofs.Common.{◌≡◌, ℕ, zero, suc, ◌≤◌, ◌<◌, Bool, true, false, List, [], ◌∷◌, map, length, refl, ap, sym, ◌∙◌, inl, inr}
 use Rattle.std.specs.Prelude.{Option, Some, None, ◌||◌, ◌⊎◌, is_some, slice_get}
 use Rattle.lin_transport.specs.Transport.{frame_count}
-use Rattle.lin_transport.specs.Sender.{Sending as Sender}
+use Rattle.lin_transport.specs.Sender.{SenderData as Sender}
 use Rattle.lin_parts.specs.Cluster.{nodes}
 use Rattle.lin_parts.specs.declared.parts.Parts.{Parts}
 use Rattle.lin_core.specs.kept.Hosts.{KeepsHost, message_at, HasNext, KeepsSender, bytes_next}
 use Rattle.lin_core.specs.Links.{Message, accepted_from, heard_on, is_to_all, signs}
-use Rattle.lin_core.specs.kept.State.{IsKept, Stage}
+use Rattle.lin_core.specs.kept.State.{IsConsistent, Stage}
 use Rattle.lin_core.specs.declared.host.Host.{Host}
 use Rattle.lin_core.specs.declared.log.LogEntry.{LogEntry}
 use Rattle.lin_core.proofs.sendings.Hosts.{CanGo, HostIs, IsCount}
@@ -54,7 +54,7 @@ next-has c h o sender (m ∷ ms) zero false i n w = let g = n.can m ms refl in r
 next-has c h o sender (m ∷ ms) (suc j) sleeping i n w = let g = n.can m ms refl in rw n.sender_is (m, n.message_is m ms refl, refl, g.3)
 
 -- so it is inside, of a host of this number
-pub next-inside : (a : Stage) (h : ℕ) (host : Host) (place : ℕ) → IsKept a → (k : Known a.cluster (past_in a)) → slice_get a.state.hosts.items h ≡ Some host → ((p : ℕ) → slice_get host.queue.items 0 ≡ Some p → place ≡ p)
+pub next-inside : (a : Stage) (h : ℕ) (host : Host) (place : ℕ) → IsConsistent a → (k : Known a.cluster (past_in a)) → slice_get a.state.hosts.items h ≡ Some host → ((p : ℕ) → slice_get host.queue.items 0 ≡ Some p → place ≡ p)
     → IsNext a.cluster h (message_at a.log place) host.sender (k.states h).rest (k.states h).count
 next-inside a h host place w k here at =
     let c : Parts = a.cluster
@@ -79,7 +79,7 @@ first-of-begun c k o sender [] zero n h = absurd (let bad : false ≡ true = rw 
 first-of-begun c k o sender [] (suc j) n h = absurd (let bad : false ≡ true = rw n.sender_is at h in cc)
 first-of-begun c k o sender (m ∷ ms) count n h = ap is_some (n.message_is m ms refl)
 
-pub begun-there : (a : Stage) (n place : ℕ) (begun : Bool) → IsKept a → ((host : Host) → slice_get a.state.hosts.items n ≡ Some host → begun ≡ is_some host.sender) → (slice_get a.state.hosts.items n ≡ None → begun ≡ false)
+pub begun-there : (a : Stage) (n place : ℕ) (begun : Bool) → IsConsistent a → ((host : Host) → slice_get a.state.hosts.items n ≡ Some host → begun ≡ is_some host.sender) → (slice_get a.state.hosts.items n ≡ None → begun ≡ false)
     → ((host : Host) (p : ℕ) → slice_get a.state.hosts.items n ≡ Some host → slice_get host.queue.items 0 ≡ Some p → place ≡ p) → begun ≡ true → is_some (message_at a.log place) ≡ true
 begun-there a n place begun w some none next h = by-host (slice_get a.state.hosts.items n) refl
   where

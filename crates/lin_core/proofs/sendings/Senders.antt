@@ -3,14 +3,14 @@ use Rattle.std.proofs.Common.{◌≡◌, ℕ, zero, suc, true, false, List, [], 
 use Rattle.std.specs.Prelude.{Option, Some, None, filter, find, option_map, slice_index_or}
 use Rattle.std.proofs.lemmas.Bool.Decides.{eqb_tells}
 use Rattle.std.proofs.lemmas.List.{append-nil}
-use Rattle.lin_transport.specs.Transport.{first, frame}
-use Rattle.lin_transport.specs.Sender.{Sending as Sender}
+use Rattle.lin_transport.specs.Transport.{first_frames, frame}
+use Rattle.lin_transport.specs.Sender.{SenderData as Sender}
 use Rattle.lin_transport.proofs.Frames.{length-first}
 use Rattle.lin_parts.specs.declared.parts.Parts.{Parts}
 use Rattle.lin_parts.specs.Sound.{IsSound}
 use Rattle.lin_core.specs.History.{Slot, is_sleep_asked, open_slot}
 use Rattle.lin_core.specs.kept.Hosts.{sender_now, sender_of}
-use Rattle.lin_core.specs.Links.{Link, Message, Sending, Sign, Fate, accepted_from, address, begins_good, blocks, blocks_of, fate_of, heard_on, is_begun, goes_over, home, is_good, is_waiting, sendings_from, signs}
+use Rattle.lin_core.specs.Links.{Link, Message, Sending, Sign, Fate, accepted_from, link_address, begins_good, blocks, blocks_of, fate_of, heard_on, is_begun, goes_over, home, is_good_sign, is_waiting, sendings_from, signs}
 use Rattle.lin_core.specs.Links.Sign.{Put}
 use Rattle.lin_core.specs.declared.log.LogEntry.{LogEntry}
 use Rattle.lin_core.proofs.laws.Ends.{begun_block, blocks-carried, carried-held, plain-held, put-no, put-other, put-served, put-sleep, put_block, sign-none}
@@ -26,19 +26,19 @@ use Rattle.lin_core.proofs.steps.Steps.{blocks-closed, blocks-empty}
 abbrev pub sender_for : Parts → List Message → ℕ → Option Sender
 sender_for c rest zero = None
 sender_for c [] (suc j) = None
-sender_for c (m ∷ ms) (suc j) = Some (record { nad = address c m.link; size = length m.bytes; sent = suc j })
+sender_for c (m ∷ ms) (suc j) = Some (record { nad = link_address c m.link; size = length m.bytes; sent = suc j })
 
 -- a block of so many good frames, and perhaps one more that is in the open slot
 pub record HasGood (b : List Sign) (k : ℕ) : Type 0 where
-  pub count : length (filter is_good b) ≡ k
+  pub count : length (filter is_good_sign b) ≡ k
   pub begins : (j : ℕ) → k ≡ suc j → begins_good b ≡ true
   pub none : k ≡ zero → begins_good b ≡ false
 
-all-good : (fs : List (List ℕ)) → length (filter is_good (map good_sign fs)) ≡ length fs
+all-good : (fs : List (List ℕ)) → length (filter is_good_sign (map good_sign fs)) ≡ length fs
 all-good [] = refl
 all-good (f ∷ fs) = ap suc (all-good fs)
 
-all-but-one : (fs : List (List ℕ)) (f : List ℕ) → length (filter is_good (map good_sign fs ++ Put f None ∷ [])) ≡ length fs
+all-but-one : (fs : List (List ℕ)) (f : List ℕ) → length (filter is_good_sign (map good_sign fs ++ Put f None ∷ [])) ≡ length fs
 all-but-one [] f = refl
 all-but-one (x ∷ fs) f = ap suc (all-but-one fs f)
 
@@ -52,20 +52,20 @@ none-by (f ∷ fs) more e b = cc
 
 good-plain : (n : ℕ) (m : List ℕ) (k : ℕ) → HasGood (goods n m k) k
 good-plain n m k =
-    let l : length (first n m k) ≡ k = length-first n m k
+    let l : length (first_frames n m k) ≡ k = length-first n m k
     in record {
-      count = all-good (first n m k) ∙ l;
-      begins = λ j e. subst (λ (b : List Sign). begins_good b ≡ true) (append-nil (goods n m k)) (begins-by (first n m k) [] j (l ∙ e));
-      none = λ e. subst (λ (b : List Sign). begins_good b ≡ false) (append-nil (goods n m k)) (none-by (first n m k) [] (l ∙ e) refl);
+      count = all-good (first_frames n m k) ∙ l;
+      begins = λ j e. subst (λ (b : List Sign). begins_good b ≡ true) (append-nil (goods n m k)) (begins-by (first_frames n m k) [] j (l ∙ e));
+      none = λ e. subst (λ (b : List Sign). begins_good b ≡ false) (append-nil (goods n m k)) (none-by (first_frames n m k) [] (l ∙ e) refl);
     }
 
 good-more : (n : ℕ) (m : List ℕ) (k : ℕ) (f : List ℕ) → HasGood (goods n m k ++ Put f None ∷ []) k
 good-more n m k f =
-    let l : length (first n m k) ≡ k = length-first n m k
+    let l : length (first_frames n m k) ≡ k = length-first n m k
     in record {
-      count = all-but-one (first n m k) f ∙ l;
-      begins = λ j e. begins-by (first n m k) (Put f None ∷ []) j (l ∙ e);
-      none = λ e. none-by (first n m k) (Put f None ∷ []) (l ∙ e) refl;
+      count = all-but-one (first_frames n m k) f ∙ l;
+      begins = λ j e. begins-by (first_frames n m k) (Put f None ∷ []) j (l ∙ e);
+      none = λ e. none-by (first_frames n m k) (Put f None ∷ []) (l ∙ e) refl;
     }
 
 -- the sender by the block of what waits first
@@ -99,7 +99,7 @@ held-sender c h blocks accepted done (m ∷ ms) k b i t g =
 plain-good : (c : Parts) (rest : List Message) (k : ℕ) → IsCount rest k → HasGood (begun_block c rest k) k
 plain-good c [] zero i = record { count = refl; begins = λ j e. cc; none = λ e. refl }
 plain-good c [] (suc j) i = absurd i
-plain-good c (m ∷ ms) k i = good-plain (address c m.link) m.bytes k
+plain-good c (m ∷ ms) k i = good-plain (link_address c m.link) m.bytes k
 
 plain-sender : (c : Parts) (past : List LogEntry) (h : ℕ) (k : Known c past) → ((l : Link) → IsLink c h l → blocks c past l ≡ blocks_of (signs c past l)) → sender_now c past h ≡ sender_for c (k.states h).rest (k.states h).count
 plain-sender c past h k e =
@@ -116,14 +116,14 @@ sender-by c past h sound k (Some _) is (slave table entry due left hurt x line o
 sender-by c past h sound k (Some _) is (sleep table entry due left hurt only) = plain-sender c past h k (λ l i. put-no c past l _ is (put-sleep c table entry due left hurt l.node l.dir sound (has-nad c l.node i.address)))
 sender-by c past h sound k (Some _) is (carries table entry due left hurt x m ms j only host r n) =
     let own : HostIs c x (accepted_from past x) (heard_on c past) (signs c past) (record { done = (k.states x).done; rest = m ∷ ms; count = j }) = as-state c x (accepted_from past x) (heard_on c past) (signs c past) (k.states x) (m ∷ ms) j r n (k.hosts x)
-    in let f : List ℕ = frame (address c m.link) m.bytes j
+    in let f : List ℕ = frame (link_address c m.link) m.bytes j
     in elim (eqb_tells x h) [
       | inl same ↦
           subst (λ (y : ℕ). sender_now c past y ≡ sender_for c (k.states y).rest (k.states y).count) same.1
           (rw (r, n) (held-sender c x (blocks c past) (accepted_from past x) (k.states x).done (m ∷ ms) j (put_block c m j) own.counts
-          (carried-held c past table entry due left hurt x m ms j (k.states x).done sound own is) (good-more (address c m.link) m.bytes j f)))
+          (carried-held c past table entry due left hurt x m ms j (k.states x).done sound own is) (good-more (link_address c m.link) m.bytes j f)))
       | inr differ ↦ plain-sender c past h k (λ l i.
-          blocks-carried c past table entry due left hurt m.link l f sound (place-of c x m own.can_go.0) (has-nad c l.node i.address) (frame-is (address c m.link) m.bytes j) is
+          blocks-carried c past table entry due left hurt m.link l f sound (place-of c x m own.can_go.0) (has-nad c l.node i.address) (frame-is (link_address c m.link) m.bytes j) is
           ∙ ap blocks_of (sign-none (goes_over m.link l) f (signs c past l) (other-host m.link l (goes_over m.link l) refl (λ e. differ.1 (sym host ∙ e ∙ i.host)))))
     ]
 

@@ -11,9 +11,9 @@ use Rattle.lin_parts.specs.Cluster.{line_of}
 use Rattle.lin_parts.specs.Sound.{IsSound}
 use Rattle.lin_parts.specs.declared.parts.Parts.{Parts}
 use Rattle.lin_core.specs.History.{Slot, good_bytes, is_sleep_asked, has_decided, header_is, is_in, is_sleep_slot, open_slot, seen_by}
-use Rattle.lin_core.specs.Links.{Fate, Link, Message, Sending, Sign, accepted_from, begun_sending, blocks, heard_on, diagnostic_header, host_of, is_begun, address, same_link, sendings, sendings_from, signs, waiting}
+use Rattle.lin_core.specs.Links.{Fate, Link, Message, Sending, Sign, accepted_from, begun_sending, blocks, heard_on, diagnostic_header, host_of, is_begun, link_address, same_link, sendings, sendings_from, signs, waiting}
 use Rattle.lin_core.specs.Replies.{begun_on, in_slot, link_at, refusal}
-use Rattle.lin_core.specs.Slots.{next_frame, put, sleep_frame, with_classic}
+use Rattle.lin_core.specs.Slots.{next_frame, put_bytes, sleep_frame, with_classic}
 use Rattle.lin_core.specs.kept.Slots.{pdu_of}
 use Rattle.lin_core.specs.declared.pdu.Pdu.TheVariants.{OfMessage, Nothing, Sleep}
 use Rattle.lin_core.specs.declared.event.Event.{Event}
@@ -35,8 +35,8 @@ use Rattle.lin_core.proofs.steps.Steps.{IsQuietNow, answer-allowed, any-of, bloc
 -- what waits first
 abbrev pub next_of : Parts → List Message → ℕ → Bool → List ℕ
 next_of c [] k sleeping = if sleeping then sleep_frame else []
-next_of c (m ∷ ms) zero sleeping = if sleeping then sleep_frame else frame (address c m.link) m.bytes 0
-next_of c (m ∷ ms) (suc j) sleeping = frame (address c m.link) m.bytes (suc j)
+next_of c (m ∷ ms) zero sleeping = if sleeping then sleep_frame else frame (link_address c m.link) m.bytes 0
+next_of c (m ∷ ms) (suc j) sleeping = frame (link_address c m.link) m.bytes (suc j)
 
 pub next-of : (c : Parts) (past : List LogEntry) (h : ℕ) (done : List (Message × Fate)) (rest : List Message) (k : ℕ) (sleeping : Bool) → IsQuietNow c past
     → HostIs c h (accepted_from past h) (heard_on c past) (signs c past) (record { done = done; rest = rest; count = k }) → next_frame c past h sleeping ≡ next_of c rest k sleeping
@@ -115,9 +115,9 @@ pub data AnswerIs (c : Parts) (past : List LogEntry) (states : ℕ → HostState
   serves : (s : Slot) → s.service ≡ true → AnswerIs c past states node s
   signals : (s : Slot) → header_is 0x3C s.header ≡ false → header_is 0x7D s.header ≡ false → AnswerIs c past states node s
   request : (s : Slot) → s.header ≡ Some 0x3C → s.puts ≡ [] → node ≡ 0 → (has_rest (states 0).rest || is_sleep_asked past) ≡ true
-      → put c past (line_of c s.table s.entry).entry 0x3C node ≡ with_classic (next_of c (states 0).rest (states 0).count (is_sleep_asked past)) → AnswerIs c past states node s
+      → put_bytes c past (line_of c s.table s.entry).entry 0x3C node ≡ with_classic (next_of c (states 0).rest (states 0).count (is_sleep_asked past)) → AnswerIs c past states node s
   response : (s : Slot) → s.header ≡ Some 0x7D → s.puts ≡ [] → node ≢ 0 → has_rest (states node).rest ≡ true
-      → put c past (line_of c s.table s.entry).entry 0x7D node ≡ with_classic (next_of c (states node).rest (states node).count false) → AnswerIs c past states node s
+      → put_bytes c past (line_of c s.table s.entry).entry 0x7D node ≡ with_classic (next_of c (states node).rest (states node).count false) → AnswerIs c past states node s
 
 answer-by : (c : Parts) (past : List LogEntry) (node : ℕ) → (k : Known c past) → (o : Option Slot) → open_slot past ≡ o → SlotIs c (is_sleep_asked past) k.states o
     → in_slot past (λ s. is_in s.due node) ≡ true → in_slot past (λ s. has_decided s node) ≡ false → (s : Slot) → o ≡ Some s → AnswerIs c past k.states node s
@@ -128,7 +128,7 @@ answer-by c past node k (Some _) is (master table entry due left hurt line only 
     let t : Slot = slot_of table entry (Some 0x3C) due [] left hurt
     in let z : node ≡ 0 = only node (rw is at d)
     in let quiet : IsQuietNow c past = record { blocks = λ l. blocks-empty c past l table entry (Some 0x3C) due left hurt is }
-    in let bytes : put c past (line_of c table entry).entry 0x3C node ≡ with_classic (next_of c (k.states 0).rest (k.states 0).count (is_sleep_asked past))
+    in let bytes : put_bytes c past (line_of c table entry).entry 0x3C node ≡ with_classic (next_of c (k.states 0).rest (k.states 0).count (is_sleep_asked past))
     = rw line (ap with_classic (next-of c past 0 (k.states 0).done (k.states 0).rest (k.states 0).count (is_sleep_asked past) quiet (k.hosts 0)))
     in subst (AnswerIs c past k.states node) (let same : t ≡ s = cc in same) (request t refl refl z w bytes)
 answer-by c past node k (Some _) is (slave table entry due left hurt h line only w) d decided s e =
@@ -139,7 +139,7 @@ answer-by c past node k (Some _) is (slave table entry due left hurt h line only
     in let some : node ≢ 0 = subst (λ (n : ℕ). n ≢ 0) (sym z) own.0
     in let left_some : has_rest (k.states node).rest ≡ true = subst (λ (n : ℕ). has_rest (k.states n).rest ≡ true) (sym z) own.1
     in let quiet : IsQuietNow c past = record { blocks = λ l. blocks-empty c past l table entry (Some 0x7D) due left hurt is }
-    in let bytes : put c past (line_of c table entry).entry 0x7D node ≡ with_classic (next_of c (k.states node).rest (k.states node).count false)
+    in let bytes : put_bytes c past (line_of c table entry).entry 0x7D node ≡ with_classic (next_of c (k.states node).rest (k.states node).count false)
     = rw line (ap with_classic (next-of c past node (k.states node).done (k.states node).rest (k.states node).count false quiet (k.hosts node)))
     in subst (AnswerIs c past k.states node) (let same : t ≡ s = cc in same) (response t refl refl some left_some bytes)
 answer-by c past node k (Some _) is (sleep table entry due left hurt only) d decided s e =
@@ -147,7 +147,7 @@ answer-by c past node k (Some _) is (sleep table entry due left hurt only) d dec
     in let no : (list_any (λ (p : ℕ × List ℕ). p.0 == node) ((0, with_classic sleep_frame) ∷ []) || is_in left node) ≡ false = rw is at decided
     in absurd (let yes = any-of left 0 node (with_classic sleep_frame) z in let bad : true ≡ false = sym yes ∙ no in cc)
 answer-by c past node k (Some _) is (carries table entry due left hurt h m ms j only host r n) d decided s e =
-    let f : List ℕ = frame (address c m.link) m.bytes j
+    let f : List ℕ = frame (link_address c m.link) m.bytes j
     in let z : node ≡ host_of m.link = only node (rw is at d) ∙ sym host
     in let no : (list_any (λ (p : ℕ × List ℕ). p.0 == node) ((host_of m.link, with_classic f) ∷ []) || is_in left node) ≡ false = rw is at decided
     in absurd (let yes = any-of left (host_of m.link) node (with_classic f) z in let bad : true ≡ false = sym yes ∙ no in cc)
@@ -171,7 +171,7 @@ pub data FinishIs (c : Parts) (states states' : ℕ → HostState) : Option Slot
   asleep : (s : Slot) → pdu_of s ≡ Sleep → s.hurt ≡ false → is_sleep_slot s ≡ true
       → ((x : ℕ) → states' x ≡ marked (λ l. true) Slept (states x).done (states x).rest (states x).count) → FinishIs c states states' (Some s)
   carried : (s : Slot) (h : ℕ) (m : Message) (ms : List Message) (k : ℕ) → pdu_of s ≡ OfMessage h → is_sleep_slot s ≡ false → s.header ≡ Some (diagnostic_header m.link.dir)
-      → s.puts ≡ (h, with_classic (frame (address c m.link) m.bytes k)) ∷ [] → (states h).rest ≡ m ∷ ms → (states h).count ≡ k → CanGo c h m
+      → s.puts ≡ (h, with_classic (frame (link_address c m.link) m.bytes k)) ∷ [] → (states h).rest ≡ m ∷ ms → (states h).count ≡ k → CanGo c h m
       → ((x : ℕ) → states' x ≡ (if h == x then advanced s.hurt (is_last m.bytes k) (states h).done m ms k else states x)) → FinishIs c states states' (Some s)
 
 pub other-pdu : (s : Slot) → header_is 0x3C s.header ≡ false → header_is 0x7D s.header ≡ false → pdu_of s ≡ Nothing
@@ -208,10 +208,10 @@ finish-is c past port es sound k (Some _) is (slave table entry due left hurt h 
 finish-is c past port es sound k (Some _) is (sleep table entry due left true only) = awake _ refl refl refl (λ x. refl)
 finish-is c past port es sound k (Some _) is (sleep table entry due left false only) = asleep _ refl refl refl (λ x. refl)
 finish-is c past port es sound k (Some _) is (carries table entry due left hurt h m ms j only host r n) =
-    let f : List ℕ = frame (address c m.link) m.bytes j
+    let f : List ℕ = frame (link_address c m.link) m.bytes j
     in let s : Slot = frame_slot table entry due left hurt m.link f
     in let go : CanGo c h m = first-go c h (accepted_from past h) (heard_on c past) (signs c past) (k.states h) m ms r (k.hosts h)
-    in let some : 1 ≤ address c m.link = some-address c m.link sound (place-of c h m go)
-    in let frame_of_it : IsFrameOf (address c m.link) f = frame-is (address c m.link) m.bytes j
-    in carried s h m ms j (pdu-frame table entry due left hurt m.link.node m.link.dir f (address c m.link) some frame_of_it ∙ ap OfMessage host)
-    (frame-awake table entry due left hurt m.link.node m.link.dir f (address c m.link) some frame_of_it) refl (ap (λ (x : ℕ). (x, with_classic f) ∷ []) host) r n go (λ x. refl)
+    in let some : 1 ≤ link_address c m.link = some-address c m.link sound (place-of c h m go)
+    in let frame_of_it : IsFrameOf (link_address c m.link) f = frame-is (link_address c m.link) m.bytes j
+    in carried s h m ms j (pdu-frame table entry due left hurt m.link.node m.link.dir f (link_address c m.link) some frame_of_it ∙ ap OfMessage host)
+    (frame-awake table entry due left hurt m.link.node m.link.dir f (link_address c m.link) some frame_of_it) refl (ap (λ (x : ℕ). (x, with_classic f) ∷ []) host) r n go (λ x. refl)

@@ -9,7 +9,7 @@ use Rattle.lin_core.specs.History.{Slot, finished_slot, good_under, is_sleep_mar
 use Rattle.lin_core.proofs.slots.Opening.{responder_now}
 use Rattle.lin_core.specs.Links.{waiting}
 use Rattle.lin_core.specs.Slots.{addressee, node_with, selected_node}
-use Rattle.lin_core.specs.kept.State.{IsKept, Stage}
+use Rattle.lin_core.specs.kept.State.{IsConsistent, Stage}
 use Rattle.lin_core.specs.declared.host.Host.{Host}
 use Rattle.lin_core.specs.declared.log.LogEntry.{LogEntry}
 use Rattle.lin_core.proofs.kept.Keeping.{queue-length}
@@ -50,7 +50,7 @@ selected-below c [] k e = cc
 selected-below c (e ∷ past) k h =
     chosen-below c (is_sleep_mark e past) (option_map_or (addressee c) (finished_slot e past) None) (selected_node c past) k (λ x. slot-below c (finished_slot e past) k x) (selected-below c past k) h
 
-responder-by : (a : Stage) (hosts : List Host) (result o : Option ℕ) → IsKept a → hosts ≡ a.state.hosts.items → a.state.bus.selected ≡ o → ((k : ℕ) → o ≡ Some k → k < nodes a.cluster)
+responder-by : (a : Stage) (hosts : List Host) (result o : Option ℕ) → IsConsistent a → hosts ≡ a.state.hosts.items → a.state.bus.selected ≡ o → ((k : ℕ) → o ≡ Some k → k < nodes a.cluster)
     → (a.state.bus.selected ≡ None → result ≡ None) → ((node : ℕ) (kept : Host) → a.state.bus.selected ≡ Some node → slice_get hosts node ≡ Some kept → result ≡ (if nat_lt 0 (length kept.queue.items) then Some node else None))
     → result ≡ option_map_or (λ k. if nat_lt 0 (length (waiting a.cluster (past_in a) k)) then Some k else None) o None
 responder-by a hosts result None w e is below none some = none is
@@ -61,7 +61,7 @@ responder-by a hosts result (Some k) w e is below none some =
     in let at : slice_get hosts k ≡ Some x.0 = rw e x.1
     in some k x.0 is at ∙ ap (λ (n : ℕ). if nat_lt 0 n then Some k else None) (queue-length a.cluster a.capacity a.log (past_in a) k x.0 (w.kept.each_host k x.0 x.1))
 
-pub responder-inside : (a : Stage) (hosts : List Host) (result : Option ℕ) → IsKept a → hosts ≡ a.state.hosts.items
+pub responder-inside : (a : Stage) (hosts : List Host) (result : Option ℕ) → IsConsistent a → hosts ≡ a.state.hosts.items
     → (a.state.bus.selected ≡ None → result ≡ None) → ((node : ℕ) (kept : Host) → a.state.bus.selected ≡ Some node → slice_get hosts node ≡ Some kept → result ≡ (if nat_lt 0 (length kept.queue.items) then Some node else None))
     → result ≡ responder_now a.cluster (past_in a)
 responder-inside a hosts result w e none some =

@@ -5,9 +5,9 @@ use Rattle.std.proofs.lemmas.Bool.Decides.{nat_tests}
 use Rattle.std.proofs.lemmas.List.{length-append}
 use Rattle.std.proofs.lemmas.Option.{slice_get_read}
 use Rattle.lin_parts.specs.Cluster.{nodes}
-use Rattle.lin_core.specs.Core.{answered}
+use Rattle.lin_core.specs.Core.{entry_with_reply}
 use Rattle.lin_core.specs.History.{is_host_closed, has_decided, is_in, open_slot}
-use Rattle.lin_core.specs.kept.State.{Keeps, stage_data, done_of, IsKept, IsMade, IsReady, Stage}
+use Rattle.lin_core.specs.kept.State.{Keeps, stage_data, done_of, IsConsistent, IsExecuted, IsStepReady, Stage}
 use Rattle.lin_core.specs.kept.Slots.{slot_in}
 use Rattle.lin_core.specs.Replies.{done_events, is_open, refusals}
 use Rattle.lin_core.specs.declared.event.Event.{Event}
@@ -26,18 +26,18 @@ use Rattle.lin_core.proofs.kept.Places.{get-there}
 use Rattle.lin_core.proofs.steps.Steps.{none-of, not-false}
 
 -- a host of this number
-pub host-of : (a : Stage) (h : ℕ) (host : Host) → IsKept a → h < nodes a.cluster → host ≡ slice_index_or a.state.hosts.items h host → slice_get a.state.hosts.items h ≡ Some host
+pub host-of : (a : Stage) (h : ℕ) (host : Host) → IsConsistent a → h < nodes a.cluster → host ≡ slice_index_or a.state.hosts.items h host → slice_get a.state.hosts.items h ≡ Some host
 host-of a h host w there e = slice_get_read a.state.hosts.items (nodes a.cluster) h host (sym w.kept.hosts_count) there e
 
-pub closed-host : (a : Stage) (by : PortId) (h : ℕ) (host : Host) → IsKept a → Allowed a by (Close h) → host ≡ slice_index_or a.state.hosts.items h host → slice_get a.state.hosts.items h ≡ Some host
+pub closed-host : (a : Stage) (by : PortId) (h : ℕ) (host : Host) → IsConsistent a → Allowed a by (Close h) → host ≡ slice_index_or a.state.hosts.items h host → slice_get a.state.hosts.items h ≡ Some host
 closed-host a by h host w n e =
     let far : nat_le (nodes a.cluster) h ≡ false = (none-of (refusals a.cluster a.capacity (past_in a) by (Close h)) n.allowed).0
     in host-of a h host w (grind (arith, nat_tests, far)) e
 
 -- what is kept once the entry of a step that was made is pushed
-pub made-kept : (a : Stage) (by : PortId) (step : Step) (es : List Event) (new : State) (log : List LogEntry) → IsReady a by step → IsMade a by step es new → log ≡ a.log ++ done_entry by step es ∷ [] → IsKept (record a { log = log; state = new })
+pub made-kept : (a : Stage) (by : PortId) (step : Step) (es : List Event) (new : State) (log : List LogEntry) → IsStepReady a by step → IsExecuted a by step es new → log ≡ a.log ++ done_entry by step es ∷ [] → IsConsistent (record a { log = log; state = new })
 made-kept a by step es new log r m e =
-    let whole : IsKept (record a { log = a.log ++ done_of a by step ∷ []; state = new }) = record {
+    let whole : IsConsistent (record a { log = a.log ++ done_of a by step ∷ []; state = new }) = record {
       few = let few = r.few in rw length-append (omega arith);
       rules = r.whole.rules;
       sound = r.whole.sound;
@@ -50,7 +50,7 @@ made-kept a by step es new log r m e =
     }
     in rw (e, m.told) whole
 
-pub made-answered : (a : Stage) (by : PortId) (step : Step) (es : List Event) (new : State) → IsReady a by step → IsMade a by step es new → done_entry by step es ≡ answered (stage_data a) by step
+pub made-answered : (a : Stage) (by : PortId) (step : Step) (es : List Event) (new : State) → IsStepReady a by step → IsExecuted a by step es new → done_entry by step es ≡ entry_with_reply (stage_data a) by step
 made-answered a by step es new r m = done-answered (stage_data a) by step es r.allowed m.told
 
 -- == steps in the open slot
@@ -60,7 +60,7 @@ pub record OpenNow (a : Stage) : Type 0 where
   pub is : open_slot (past_in a) ≡ Some (slot_in slot)
   pub kept : Keeps a.cluster a.opening a.capacity a.log (past_in a) (Some slot) a.state.time a.state.walker a.state.hosts.items a.state.signals
 
-pub open-now : (a : Stage) → IsKept a → not (is_open (past_in a)) ≡ false → OpenNow a
+pub open-now : (a : Stage) → IsConsistent a → not (is_open (past_in a)) ≡ false → OpenNow a
 open-now a w some =
     let k = open-some a.state.slot (open_slot (past_in a)) w.kept.slot_is (not-false (is_open (past_in a)) some)
     in record {
@@ -70,10 +70,10 @@ open-now a w some =
       kept = subst (λ (o : Option OpenSlot). Keeps a.cluster a.opening a.capacity a.log (past_in a) o a.state.time a.state.walker a.state.hosts.items a.state.signals) k.1 w.kept;
     }
 
-pub leave-inside : (a : Stage) (by : PortId) (node : ℕ) → IsKept a → Allowed a by (Leave node) → OpenNow a
+pub leave-inside : (a : Stage) (by : PortId) (node : ℕ) → IsConsistent a → Allowed a by (Leave node) → OpenNow a
 leave-inside a by node w n = open-now a w (none-of (refusals a.cluster a.capacity (past_in a) by (Leave node)) n.allowed).1.0
 
-pub hurt-inside : (a : Stage) (by : PortId) (bytes : List ℕ) → IsKept a → Allowed a by (Hurt bytes) → OpenNow a
+pub hurt-inside : (a : Stage) (by : PortId) (bytes : List ℕ) → IsConsistent a → Allowed a by (Hurt bytes) → OpenNow a
 hurt-inside a by bytes w n = open-now a w (none-of (refusals a.cluster a.capacity (past_in a) by (Hurt bytes)) n.allowed).0
 
 -- a node that leaves its response out has room to
@@ -88,7 +88,7 @@ leave-room a by node o n =
     in omega arith
 
 -- == a refusal
-pub closed-inside : (a : Stage) (hosts : List Host) (h : ℕ) (shut : Bool) → IsKept a → hosts ≡ a.state.hosts.items → ((host : Host) → slice_get hosts h ≡ Some host → shut ≡ host.closed) → h < nodes a.cluster → is_host_closed (past_in a) h ≡ shut
+pub closed-inside : (a : Stage) (hosts : List Host) (h : ℕ) (shut : Bool) → IsConsistent a → hosts ≡ a.state.hosts.items → ((host : Host) → slice_get hosts h ≡ Some host → shut ≡ host.closed) → h < nodes a.cluster → is_host_closed (past_in a) h ≡ shut
 closed-inside a hosts h shut w e is below =
     let count = w.kept.hosts_count
     in let x = get-there a.state.hosts.items h (omega arith)

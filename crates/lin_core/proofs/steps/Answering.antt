@@ -9,13 +9,13 @@ use Rattle.lin_parts.specs.Cluster.{frame_of, line_of}
 use Rattle.lin_parts.specs.declared.parts.Parts.{Parts}
 use Rattle.lin_parts.specs.declared.parts.Entry.{Entry}
 use Rattle.lin_parts.specs.declared.parts.Entry.TheVariants.{Frame, Sporadic, Event as EventEntry, MasterReq, SlaveResp, Fixed, Quiet}
-use Rattle.lin_core.specs.kept.Slots.{frame_answered, frame_by, frame_model, CanAnswer, IsOpen, IsThere, put_in, slot_in}
+use Rattle.lin_core.specs.kept.Slots.{frame_answered, frame_by, response_model, CanAnswer, IsOpen, IsThere, put_in, slot_in}
 use Rattle.lin_core.specs.History.{Slot, header_is, is_in, has_decided, open_slot}
 use Rattle.lin_core.specs.kept.Signals.{KeepsSignals}
 use Rattle.lin_core.specs.Replies.{put_event}
 use Rattle.lin_core.specs.Signals.{carried_frame, signal_bytes}
-use Rattle.lin_core.specs.Slots.{put, ready_responses, service_bytes, with_classic}
-use Rattle.lin_core.specs.kept.State.{IsKept, Stage}
+use Rattle.lin_core.specs.Slots.{put_bytes, ready_responses, service_bytes, with_classic}
+use Rattle.lin_core.specs.kept.State.{IsConsistent, Stage}
 use Rattle.lin_core.specs.declared.event.Event.TheVariants.{Put as PutEvent}
 use Rattle.lin_core.specs.declared.log.LogEntry.{LogEntry}
 use Rattle.lin_core.specs.declared.port.PortId.{PortId}
@@ -51,7 +51,7 @@ pub record DueSlot (a : Stage) (node : ℕ) : Type 0 where
   pub is_open : IsOpen a.cluster slot
   pub free : Free slot node
 
-pub due-slot : (a : Stage) (by : PortId) (node : ℕ) → IsKept a → Allowed a by (Answer node) → DueSlot a node
+pub due-slot : (a : Stage) (by : PortId) (node : ℕ) → IsConsistent a → Allowed a by (Answer node) → DueSlot a node
 due-slot a by node w s =
     let both = answer-allowed a.cluster a.capacity (past_in a) by node s.allowed
     in let k = open-some a.state.slot (open_slot (past_in a)) w.kept.slot_is (in-some (open_slot (past_in a)) (λ o. is_in o.due node) both.0)
@@ -64,7 +64,7 @@ due-slot a by node w s =
 abbrev pub IsPlain : Stage → Type 0
 IsPlain a = (s : Slot) → open_slot (past_in a) ≡ Some s → s.service ≡ false
 
-pub answer-slot : (a : Stage) (by : PortId) (node : ℕ) → IsKept a → Allowed a by (Answer node) → IsPlain a → AnswerSlot a node
+pub answer-slot : (a : Stage) (by : PortId) (node : ℕ) → IsConsistent a → Allowed a by (Answer node) → IsPlain a → AnswerSlot a node
 answer-slot a by node w s plain =
     let d = due-slot a by node w s
     in let none : d.slot.service ≡ false = plain (slot_in d.slot) d.is
@@ -77,8 +77,8 @@ same-slot a node s o at = let both : Some o ≡ Some s.slot = sym at ∙ s.at in
 pub same-header : (a : Stage) (node : ℕ) (s : AnswerSlot a node) (o : OpenSlot) (h : ℕ) → a.state.slot ≡ Some o → Some h ≡ o.header → h ≡ s.can.0
 same-header a node s o h at e = let both : Some h ≡ Some s.can.0 = e ∙ ap (λ (x : OpenSlot). x.header) (same-slot a node s o at) ∙ s.can.1 in cc
 
-pub same-model : (a : Stage) (node : ℕ) (s : AnswerSlot a node) (o : OpenSlot) (frame : ℕ) → a.state.slot ≡ Some o → frame_model a.cluster o.kind frame ≡ frame_model a.cluster (line_of a.cluster s.slot.table s.slot.entry).entry frame
-same-model a node s o frame at = ap (λ (x : OpenSlot). frame_model a.cluster x.kind frame) (same-slot a node s o at) ∙ ap (λ (k : Entry). frame_model a.cluster k frame) s.is_open.kind_is
+pub same-model : (a : Stage) (node : ℕ) (s : AnswerSlot a node) (o : OpenSlot) (frame : ℕ) → a.state.slot ≡ Some o → response_model a.cluster o.kind frame ≡ response_model a.cluster (line_of a.cluster s.slot.table s.slot.entry).entry frame
+same-model a node s o frame at = ap (λ (x : OpenSlot). response_model a.cluster x.kind frame) (same-slot a node s o at) ∙ ap (λ (k : Entry). response_model a.cluster k frame) s.is_open.kind_is
 
 -- it is open, and has a header
 pub header-there : (a : Stage) (node : ℕ) (s : AnswerSlot a node) (o : OpenSlot) → a.state.slot ≡ Some o → is_some o.header ≡ true
@@ -105,7 +105,7 @@ pub transport-head : (a : Stage) (node : ℕ) → (s : AnswerSlot a node) → fr
 transport-head a node s none = transport-by a.cluster (past_in a) node s.slot s.is s.can none
 
 -- == its bytes
-pub put-is : (c : Parts) (past : List LogEntry) (entry : Entry) (h n frame : ℕ) → frame_by c entry h n ≡ Some frame → put c past entry h n ≡ answer_of (frame_model c entry frame) h (signal_bytes c past frame)
+pub put-is : (c : Parts) (past : List LogEntry) (entry : Entry) (h n frame : ℕ) → frame_by c entry h n ≡ Some frame → put_bytes c past entry h n ≡ answer_of (response_model c entry frame) h (signal_bytes c past frame)
 put-is c past (Frame f) h n frame e = let same : f ≡ frame = cc in rw same refl
 put-is c past (Sporadic k) h n frame e = rw e refl
 put-is c past (EventEntry v) h n frame e = rw e refl
@@ -115,7 +115,7 @@ put-is c past (Fixed request) h n frame e = cc
 put-is c past Quiet h n frame e = cc
 
 pub put-told : (c : Parts) (past : List LogEntry) (slot : OpenSlot) (h n frame : ℕ) (bytes : List ℕ) → slot.service ≡ false → open_slot past ≡ Some (slot_in slot) → slot.header ≡ Some h → frame_by c (line_of c slot.table slot.entry).entry h n ≡ Some frame
-    → bytes ≡ answer_of (frame_model c (line_of c slot.table slot.entry).entry frame) h (signal_bytes c past frame) → PutEvent n bytes ∷ [] ≡ option_map_or (put_event c past n) (open_slot past) []
+    → bytes ≡ answer_of (response_model c (line_of c slot.table slot.entry).entry frame) h (signal_bytes c past frame) → PutEvent n bytes ∷ [] ≡ option_map_or (put_event c past n) (open_slot past) []
 put-told c past slot h n frame bytes plain is e by made =
     rw (is, e, plain) (ap (λ (xs : List ℕ). PutEvent n xs ∷ []) (made ∙ sym (put-is c past (line_of c slot.table slot.entry).entry h n frame by)))
 
@@ -125,7 +125,7 @@ pub service-told : (c : Parts) (past : List LogEntry) (slot : OpenSlot) (pid n :
 service-told c past slot pid n bytes is e served made = rw (is, e, served) (ap (λ (xs : List ℕ). PutEvent n xs ∷ []) made)
 
 -- what the kept slot says of the open one
-pub same-service : (a : Stage) (o : OpenSlot) (b : Bool) → IsKept a → a.state.slot ≡ Some o → o.service ≡ b → (s : Slot) → open_slot (past_in a) ≡ Some s → s.service ≡ b
+pub same-service : (a : Stage) (o : OpenSlot) (b : Bool) → IsConsistent a → a.state.slot ≡ Some o → o.service ≡ b → (s : Slot) → open_slot (past_in a) ≡ Some s → s.service ≡ b
 same-service a o b w at e s is =
     let t : Some (slot_in o) ≡ Some s = sym (ap (option_map slot_in) at) ∙ w.kept.slot_is ∙ is
     in let same : slot_in o ≡ s = cc

@@ -12,19 +12,19 @@ use Rattle.lin_core.specs.Links.{waiting}
 use Rattle.lin_core.specs.Next.{next_slot, slot_at}
 use Rattle.lin_core.specs.Slots.{header, next_due}
 use Rattle.lin_core.specs.kept.Slots.{HasDue, header_of, slot_in}
-use Rattle.lin_core.specs.kept.State.{IsKept, Stage}
+use Rattle.lin_core.specs.kept.State.{IsConsistent, Stage}
 use Rattle.lin_core.specs.declared.host.Host.{Host}
 use Rattle.lin_core.proofs.kept.Keeping.{queue-length}
 use Rattle.lin_core.proofs.slots.Opening.{has-due, header-due}
 use Rattle.lin_core.proofs.steps.Making.{commander-at, flags-inside, past_in, waits-by}
 
 -- what is due is there
-pub due-there : (a : Stage) (flags : List Bool) (due : Due) → IsKept a → due ≡ due_for a.cluster flags (line_of a.cluster a.state.walker.place.0 a.state.walker.place.1).entry → HasDue a.cluster due
+pub due-there : (a : Stage) (flags : List Bool) (due : Due) → IsConsistent a → due ≡ due_for a.cluster flags (line_of a.cluster a.state.walker.place.0 a.state.walker.place.1).entry → HasDue a.cluster due
 due-there a flags due w e =
     subst (HasDue a.cluster) (sym e)
     (has-due a.cluster flags (line_of a.cluster a.state.walker.place.0 a.state.walker.place.1).entry w.rules (line-entry a.cluster w.rules a.state.walker.place w.kept.walks.place))
 
-pub next-kept : (a : Stage) (host : Host) (waits : Bool) (place : ℕ × ℕ) (due : Due) → IsKept a → a.state.slot ≡ None → host ≡ slice_index_or a.state.hosts.items 0 host
+pub next-kept : (a : Stage) (host : Host) (waits : Bool) (place : ℕ × ℕ) (due : Due) → IsConsistent a → a.state.slot ≡ None → host ≡ slice_index_or a.state.hosts.items 0 host
     → waits ≡ (not (length host.queue.items == 0) || a.state.bus.asked) → place ≡ a.state.walker.place
     → due ≡ due_for a.cluster a.state.signals.pending.items (line_of a.cluster a.state.walker.place.0 a.state.walker.place.1).entry
     → Some (place.0, place.1, header_of a.cluster waits due) ≡ next_slot a.cluster a.opening (past_in a)

@@ -3,14 +3,14 @@ use Rattle.std.proofs.Common.{◌≡◌, ℕ, zero, suc, ◌+◌, ◌<◌, ◌�
 use Rattle.std.specs.Prelude.{Option, Some, None, ◌==◌, IsTrue, slice_get, slice_index_or}
 use Rattle.std.proofs.lemmas.Bool.Decides.{nat_tests}
 use Rattle.lin_transport.specs.Transport.{frame_count}
-use Rattle.lin_transport.specs.Sender.{Sending as Sender}
+use Rattle.lin_transport.specs.Sender.{SenderData as Sender}
 use Rattle.lin_parts.specs.Cluster.{nodes}
 use Rattle.lin_parts.specs.declared.parts.Parts.{Parts}
 use Rattle.lin_core.specs.History.{Slot, open_slot}
-use Rattle.lin_core.specs.kept.Hosts.{sent_of, size_of, message_at}
+use Rattle.lin_core.specs.kept.Hosts.{sent_of, sending_size, message_at}
 use Rattle.lin_core.specs.Links.{Message}
 use Rattle.lin_core.specs.kept.Slots.{IsCarried, pdu_of}
-use Rattle.lin_core.specs.kept.State.{IsKept, Stage}
+use Rattle.lin_core.specs.kept.State.{IsConsistent, Stage}
 use Rattle.lin_core.specs.declared.host.Host.{Host}
 use Rattle.lin_core.specs.declared.pdu.Pdu.TheVariants.{OfMessage}
 use Rattle.lin_core.specs.declared.log.LogEntry.{LogEntry}
@@ -38,10 +38,10 @@ pub record GoodIs (a : Stage) (k : Known a.cluster (past_in a)) (h : ℕ) (host 
   pub more : (k.states h).count < frame_count (length message.bytes)
   pub sender_is : host.sender ≡ sender_for a.cluster (message ∷ later) (k.states h).count
 
-pub host-there : (a : Stage) (h : ℕ) (hurt : Bool) (w : IsKept a) (k : Known a.cluster (past_in a)) → IsCarried (past_in a) h hurt → HostCarried a.cluster k.states h
+pub host-there : (a : Stage) (h : ℕ) (hurt : Bool) (w : IsConsistent a) (k : Known a.cluster (past_in a)) → IsCarried (past_in a) h hurt → HostCarried a.cluster k.states h
 host-there a h hurt w k carried = host-carried a.cluster (past_in a) Bus carried.0 w.sound k h carried.1 carried.2
 
-pub good-inside : (a : Stage) (h : ℕ) (hurt : Bool) (host : Host) (place : ℕ) (w : IsKept a) (k : Known a.cluster (past_in a)) → IsCarried (past_in a) h hurt → host ≡ slice_index_or a.state.hosts.items h host
+pub good-inside : (a : Stage) (h : ℕ) (hurt : Bool) (host : Host) (place : ℕ) (w : IsConsistent a) (k : Known a.cluster (past_in a)) → IsCarried (past_in a) h hurt → host ≡ slice_index_or a.state.hosts.items h host
     → ((p : ℕ) → slice_get host.queue.items 0 ≡ Some p → place ≡ p) → GoodIs a k h host place
 good-inside a h hurt host place w k carried e at =
     let i : HostCarried a.cluster k.states h = host-there a h hurt w k carried
@@ -63,7 +63,7 @@ good-inside a h hurt host place w k carried e at =
     }
 
 -- two looks at a host's place find the same host
-pub same-host : (a : Stage) (h : ℕ) (host other : Host) → IsKept a → h < nodes a.cluster → host ≡ slice_index_or a.state.hosts.items h host → other ≡ slice_index_or a.state.hosts.items h other → host ≡ other
+pub same-host : (a : Stage) (h : ℕ) (host other : Host) → IsConsistent a → h < nodes a.cluster → host ≡ slice_index_or a.state.hosts.items h host → other ≡ slice_index_or a.state.hosts.items h other → host ≡ other
 same-host a h host other w below e o =
     let both : Some host ≡ Some other = sym (host-of a h host w below e) ∙ host-of a h other w below o
     in cc
@@ -79,7 +79,7 @@ sent-by : (c : Parts) (m : Message) (ms : List Message) (count : ℕ) (host : Ho
 sent-by c m ms zero host e = rw e refl
 sent-by c m ms (suc j) host e = rw e refl
 
-size-by : (c : Parts) (m : Message) (ms : List Message) (count : ℕ) (host : Host) → host.sender ≡ sender_for c (m ∷ ms) count → size_of host (length m.bytes) ≡ length m.bytes
+size-by : (c : Parts) (m : Message) (ms : List Message) (count : ℕ) (host : Host) → host.sender ≡ sender_for c (m ∷ ms) count → sending_size host (length m.bytes) ≡ length m.bytes
 size-by c m ms zero host e = rw e refl
 size-by c m ms (suc j) host e = rw e refl
 
@@ -101,7 +101,7 @@ tells-by false n f h = by-test (suc n == f) refl
     by-test true e = absurd (let same : suc n ≡ f = grind (arith, nat_tests, e) in let bad : false ≡ true = h.1 (omega arith) in cc)
 
 pub last-inside : (a : Stage) (h : ℕ) (host : Host) (place len : ℕ) (b : Bool) (k : Known a.cluster (past_in a)) (g : GoodIs a k h host place) → len ≡ length g.message.bytes
-    → (IsTrue b ↔ (sent_of host + 1 ≡ frame_count (size_of host len))) → is_last g.message.bytes (k.states h).count ≡ b
+    → (IsTrue b ↔ (sent_of host + 1 ≡ frame_count (sending_size host len))) → is_last g.message.bytes (k.states h).count ≡ b
 last-inside a h host place len b k g l tells =
     let sent = sent-by a.cluster g.message g.later (k.states h).count host g.sender_is
     in let size = size-by a.cluster g.message g.later (k.states h).count host g.sender_is

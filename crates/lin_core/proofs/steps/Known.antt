@@ -7,7 +7,7 @@ use Rattle.lin_transport.specs.Transport.{frame, Heard}
 use Rattle.lin_parts.specs.declared.parts.Parts.{Parts}
 use Rattle.lin_parts.specs.Cluster.{nad, line_of}
 use Rattle.lin_core.specs.History.{Slot, open_slot, leave, slot_after_hurt, header_is, is_sleep_asked, is_sleep_slot, is_in}
-use Rattle.lin_core.specs.Links.{Link, Message, host_of, accepted_from, Sign, address, goes_over, signs, heard_on}
+use Rattle.lin_core.specs.Links.{Link, Message, host_of, accepted_from, Sign, link_address, goes_over, signs, heard_on}
 use Rattle.lin_parts.specs.Sound.{IsSound}
 use Rattle.lin_core.specs.declared.log.LogEntry.{LogEntry}
 use Rattle.lin_core.specs.declared.port.PortId.{PortId}
@@ -41,7 +41,7 @@ pub data SlotIs (c : Parts) (asked : Bool) (states : ℕ → HostState) : Option
       → SlotIs c asked states (Some (slot_of table entry (Some 0x7D) due [] left hurt))
   sleep : (table entry : ℕ) (due left : List ℕ) (hurt : Bool) → OnlyDue due 0 → SlotIs c asked states (Some (sleep_slot table entry due left hurt))
   carries : (table entry : ℕ) (due left : List ℕ) (hurt : Bool) (h : ℕ) (m : Message) (ms : List Message) (k : ℕ) → OnlyDue due h → host_of m.link ≡ h → (states h).rest ≡ m ∷ ms → (states h).count ≡ k
-      → SlotIs c asked states (Some (frame_slot table entry due left hurt m.link (frame (address c m.link) m.bytes k)))
+      → SlotIs c asked states (Some (frame_slot table entry due left hurt m.link (frame (link_address c m.link) m.bytes k)))
 
 pub record Known (c : Parts) (past : List LogEntry) : Type 0 where
   pub states : ℕ → HostState
@@ -181,23 +181,23 @@ puts-none false hurt f heard heard' signs signs' e p = (p.heard_is, p.signs_is)
 
 pub host-frame : (c : Parts) (past : List LogEntry) (port : PortId) (es : List Event) (table entry : ℕ) (due left : List ℕ) (hurt : Bool) (h : ℕ) (m : Message) (ms : List Message) (j x : ℕ)
     → IsSound c → host_of m.link ≡ h → (states : ℕ → HostState) → (states h).rest ≡ m ∷ ms → (states h).count ≡ j
-    → open_slot past ≡ Some (frame_slot table entry due left hurt m.link (frame (address c m.link) m.bytes j))
+    → open_slot past ≡ Some (frame_slot table entry due left hurt m.link (frame (link_address c m.link) m.bytes j))
     → ((y : ℕ) → HostIs c y (accepted_from past y) (heard_on c past) (signs c past) (states y))
     → HostIs c x (accepted_from past x) (heard_on c (finish_entry port es ∷ past)) (signs c (finish_entry port es ∷ past)) (if h == x then advanced hurt (is_last m.bytes j) (states h).done m ms j else states x)
 host-frame c past port es table entry due left hurt h m ms j x sound host states r n is k =
-    let f : List ℕ = frame (address c m.link) m.bytes j
+    let f : List ℕ = frame (link_address c m.link) m.bytes j
     in let own : HostIs c h (accepted_from past h) (heard_on c past) (signs c past) (record { done = (states h).done; rest = m ∷ ms; count = j }) = as-state c h (accepted_from past h) (heard_on c past) (signs c past) (states h) (m ∷ ms) j r n (k h)
     in let place : IsPlace c m.link = place-of c h m own.can_go.0
     in elim (eqb_tells h x) [
       | inl same ↦
           rw same.0 (subst (λ (y : ℕ). HostIs c y (accepted_from past y) (heard_on c (finish_entry port es ∷ past)) (signs c (finish_entry port es ∷ past)) (advanced hurt (is_last m.bytes j) (states h).done m ms j)) same.1
           (host-put c h (accepted_from past h) (heard_on c past) (heard_on c (finish_entry port es ∷ past)) (signs c past) (signs c (finish_entry port es ∷ past)) (states h).done m ms j hurt own
-          (λ l i. puts-by c past port es table entry due left hurt m.link l f is (frame-adds c table entry due left hurt m.link l f sound place (has-nad c l.node i.address) (frame-is (address c m.link) m.bytes j)))))
+          (λ l i. puts-by c past port es table entry due left hurt m.link l f is (frame-adds c table entry due left hurt m.link l f sound place (has-nad c l.node i.address) (frame-is (link_address c m.link) m.bytes j)))))
       | inr differ ↦
           rw differ.0 (host-same c x (accepted_from past x) (heard_on c past) (heard_on c (finish_entry port es ∷ past)) (signs c past) (signs c (finish_entry port es ∷ past)) (states x) (k x)
           (λ l i. puts-none (goes_over m.link l) hurt f (heard_on c past l) (heard_on c (finish_entry port es ∷ past) l) (signs c past l) (signs c (finish_entry port es ∷ past) l)
           (other-host m.link l (goes_over m.link l) refl (λ e. differ.1 (sym host ∙ e ∙ i.host)))
-          (puts-by c past port es table entry due left hurt m.link l f is (frame-adds c table entry due left hurt m.link l f sound place (has-nad c l.node i.address) (frame-is (address c m.link) m.bytes j)))))
+          (puts-by c past port es table entry due left hurt m.link l f is (frame-adds c table entry due left hurt m.link l f sound place (has-nad c l.node i.address) (frame-is (link_address c m.link) m.bytes j)))))
     ]
 
 abbrev pub finish-known : (c : Parts) (past : List LogEntry) (port : PortId) (es : List Event) → IsSound c → (k : Known c past) → (o : Option Slot) → open_slot past ≡ o → SlotIs c (is_sleep_asked past) k.states o → Known c (finish_entry port es ∷ past)

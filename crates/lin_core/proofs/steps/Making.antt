@@ -11,7 +11,7 @@ use Rattle.lin_core.specs.kept.Signals.{is_cleared_in}
 use Rattle.lin_core.specs.Links.{waiting}
 use Rattle.lin_core.specs.Replies.{refusal, refusals}
 use Rattle.lin_core.specs.Runs.{steps_of}
-use Rattle.lin_core.specs.kept.State.{IsKept, IsReady, Stage}
+use Rattle.lin_core.specs.kept.State.{IsConsistent, IsStepReady, Stage}
 use Rattle.lin_core.specs.declared.host.Host.{Host}
 use Rattle.lin_core.specs.declared.log.LogEntry.{LogEntry}
 use Rattle.lin_core.specs.declared.port.PortId.{PortId}
@@ -38,7 +38,7 @@ use Rattle.lin_core.proofs.steps.Steps.{not-false, none-of, history-known}
 abbrev pub past_in : Stage → List LogEntry
 past_in a = reverse a.log
 
-pub known-inside : (a : Stage) → IsKept a → Known a.cluster (past_in a)
+pub known-inside : (a : Stage) → IsConsistent a → Known a.cluster (past_in a)
 known-inside a w = subst (λ (past : List LogEntry). Known a.cluster past) (sym w.history) (history-known a.cluster a.opening a.capacity (steps_of (past_in a)) w.sound)
 
 -- what is known inside, of a step that is allowed
@@ -47,7 +47,7 @@ pub record Allowed (a : Stage) (by : PortId) (step : Step) : Type 0 where
   pub allowed : refusal a.cluster a.capacity (past_in a) by step ≡ None
   pub few : length a.log < 2 ^ 32 - 1
 
-pub allowed-ready : (a : Stage) (by : PortId) (step : Step) → IsReady a by step → Allowed a by step
+pub allowed-ready : (a : Stage) (by : PortId) (step : Step) → IsStepReady a by step → Allowed a by step
 allowed-ready a by step r = record { known = known-inside a r.whole; allowed = r.allowed; few = r.few }
 
 -- the sender of a send that is allowed
@@ -56,7 +56,7 @@ pub record Sender (a : Stage) (from : ℕ) (host : Host) : Type 0 where
   pub number : host.settled + length host.queue.items + 1 < 2 ^ 32
   pub room : length host.queue.items < host.queue.capacity
 
-pub sender-inside : (a : Stage) (by : PortId) (from to : ℕ) (message : List ℕ) (host : Host) → IsKept a → Allowed a by (Send from to message) → host ≡ slice_index_or a.state.hosts.items from host → Sender a from host
+pub sender-inside : (a : Stage) (by : PortId) (from to : ℕ) (message : List ℕ) (host : Host) → IsConsistent a → Allowed a by (Send from to message) → host ≡ slice_index_or a.state.hosts.items from host → Sender a from host
 sender-inside a by from to message host w s e =
     let at : slice_get a.state.hosts.items from ≡ Some host = host-at a.cluster a.capacity (past_in a) a.state.hosts.items host by from to message s.allowed w.kept.hosts_count e
     in let k : KeepsHost a.cluster a.capacity a.log (past_in a) from host = w.kept.each_host from host at
@@ -72,11 +72,11 @@ pub waits-by : (n k : ℕ) → n ≡ k → nat_lt 0 k ≡ not (n == 0)
 waits-by zero k e = rw (← e) refl
 waits-by (suc n) k e = rw (← e) (grind (arith, nat_tests))
 
-pub commander-at : (a : Stage) (host : Host) → IsKept a → host ≡ slice_index_or a.state.hosts.items 0 host → slice_get a.state.hosts.items 0 ≡ Some host
+pub commander-at : (a : Stage) (host : Host) → IsConsistent a → host ≡ slice_index_or a.state.hosts.items 0 host → slice_get a.state.hosts.items 0 ≡ Some host
 commander-at a host w e = let n = w.rules.nodes.number.0 in slice_get_read a.state.hosts.items (nodes a.cluster) 0 host (sym w.kept.hosts_count) (omega arith) e
 
 -- where no slot is open, the frames that are kept as pending are those that are
-pub flags-inside : (a : Stage) → IsKept a → a.state.slot ≡ None → (f : ℕ) → slice_index_or a.state.signals.pending.items f false ≡ is_pending a.cluster (past_in a) f
+pub flags-inside : (a : Stage) → IsConsistent a → a.state.slot ≡ None → (f : ℕ) → slice_index_or a.state.signals.pending.items f false ≡ is_pending a.cluster (past_in a) f
 flags-inside a w shut f =
     sym (or-false (slice_index_or a.state.signals.pending.items f false))
     ∙ (let t : (slice_index_or a.state.signals.pending.items f false || is_cleared_in None f) ≡ is_pending a.cluster (past_in a) f = subst (λ (o : Option OpenSlot). (slice_index_or a.state.signals.pending.items f false || is_cleared_in o f) ≡ is_pending a.cluster (past_in a) f) shut (w.kept.signals_are.each_pending f) in t)
@@ -85,7 +85,7 @@ nodes-ready : (ready : List Response) → map node_in ready ≡ map (λ (x : ℕ
 nodes-ready [] = refl
 nodes-ready (r ∷ rs) = ap (λ (ns : List ℕ). r.node ∷ ns) (nodes-ready rs)
 
-pub opens-inside : (a : Stage) (by : PortId) (host : Host) (slot : OpenSlot) (served : List ℕ) (waits : Bool) (responder : Option ℕ) (place : ℕ × ℕ) (due : Due) → IsKept a → Allowed a by Open → host ≡ slice_index_or a.state.hosts.items 0 host
+pub opens-inside : (a : Stage) (by : PortId) (host : Host) (slot : OpenSlot) (served : List ℕ) (waits : Bool) (responder : Option ℕ) (place : ℕ × ℕ) (due : Due) → IsConsistent a → Allowed a by Open → host ≡ slice_index_or a.state.hosts.items 0 host
     → waits ≡ (not (length host.queue.items == 0) || a.state.bus.asked) → responder ≡ responder_now a.cluster (past_in a) → place ≡ a.state.walker.place → due ≡ due_for a.cluster a.state.signals.pending.items (line_of a.cluster a.state.walker.place.0 a.state.walker.place.1).entry
     → served ≡ served_by due (map node_in a.state.ready.items)
     → slot_in slot ≡ opening_slot place.0 place.1 (header_of a.cluster waits due) (nat_lt 0 (length served)) (if nat_lt 0 (length served) then served else filter (is_due_of a.cluster a.state.signals.pending.items waits responder due) (numbers (nodes a.cluster)))
@@ -134,7 +134,7 @@ pub record OpenIs (a : Stage) (by : PortId) : Type 0 where
   pub at : a.state.slot ≡ Some slot
   pub is : open_slot (past_in a) ≡ Some (slot_in slot)
 
-pub open-ready : (a : Stage) (by : PortId) → IsReady a by Finish → OpenIs a by
+pub open-ready : (a : Stage) (by : PortId) → IsStepReady a by Finish → OpenIs a by
 open-ready a by r =
     let s : Allowed a by Finish = allowed-ready a by Finish r
     in let open_is : is_some (open_slot (past_in a)) ≡ true = not-false (is_some (open_slot (past_in a))) (none-of (refusals a.cluster a.capacity (past_in a) by Finish) s.allowed).0
@@ -142,7 +142,7 @@ open-ready a by r =
     in record { step = s; slot = k.0; at = k.1; is = k.2 }
 
 -- == a refusal
-pub queued-inside : (a : Stage) (hosts : List Host) (from n : ℕ) → IsKept a → hosts ≡ a.state.hosts.items → ((host : Host) → slice_get hosts from ≡ Some host → n ≡ length host.queue.items) → from < nodes a.cluster → length (waiting a.cluster (past_in a) from) ≡ n
+pub queued-inside : (a : Stage) (hosts : List Host) (from n : ℕ) → IsConsistent a → hosts ≡ a.state.hosts.items → ((host : Host) → slice_get hosts from ≡ Some host → n ≡ length host.queue.items) → from < nodes a.cluster → length (waiting a.cluster (past_in a) from) ≡ n
 queued-inside a hosts from n w e counts below =
     let count = w.kept.hosts_count
     in let x = get-there a.state.hosts.items from (omega arith)

@@ -7,7 +7,7 @@ use Rattle.lin_transport.proofs.Frames.{length-frame}
 use Rattle.lin_parts.specs.declared.parts.Parts.{Parts}
 use Rattle.lin_core.specs.kept.Slots.{put_in, slot_in, IsCarried}
 use Rattle.lin_core.specs.kept.Receivers.{HearsOn}
-use Rattle.lin_core.specs.Links.{Link, Message, address, is_to_all}
+use Rattle.lin_core.specs.Links.{Link, Message, link_address, is_to_all}
 use Rattle.lin_core.specs.Replies.{finish_events}
 use Rattle.lin_core.specs.Slots.{with_classic}
 use Rattle.lin_core.specs.declared.log.LogEntry.{LogEntry}
@@ -17,7 +17,7 @@ use Rattle.lin_core.specs.declared.slot.OpenSlot.{OpenSlot}
 use Rattle.lin_core.specs.declared.slot.Put.{Put}
 use Rattle.lin_core.proofs.links.Finishes.{frame-is}
 use Rattle.lin_core.proofs.steps.Known.{Known}
-use Rattle.lin_core.specs.kept.State.{IsKept, Stage}
+use Rattle.lin_core.specs.kept.State.{IsConsistent, Stage}
 use Rattle.lin_core.specs.declared.host.Host.{Host}
 use Rattle.lin_core.proofs.steps.Goods.{GoodIs, carried-slot}
 use Rattle.lin_core.proofs.steps.Making.{OpenIs, past_in}
@@ -32,9 +32,9 @@ one-put (p ∷ q ∷ ps) h bytes e = cc
 
 -- the frame that is looked for in the slot is the message's
 pub frame-there : (c : Parts) (past : List LogEntry) (by : PortId) (k : Known c past) (slot : OpenSlot) (h : ℕ) (i : CarriesFrame c past by k (slot_in slot) h) (o : OpenSlot) (f : List ℕ) → o ≡ slot
-    → ((put : Put) → o.puts.items ≡ put ∷ [] → 8 ≤ length put.answer → f ≡ take 8 put.answer) → f ≡ frame (address c i.message.link) i.message.bytes (k.states h).count
+    → ((put : Put) → o.puts.items ≡ put ∷ [] → 8 ≤ length put.answer → f ≡ take 8 put.answer) → f ≡ frame (link_address c i.message.link) i.message.bytes (k.states h).count
 frame-there c past by k slot h i o f at is =
-    let n : ℕ = address c i.message.link
+    let n : ℕ = link_address c i.message.link
     in let g : List ℕ = frame n i.message.bytes (k.states h).count
     in let one = one-put slot.puts.items h (with_classic g) i.puts
     in let eight : length g ≡ 8 = length-frame n i.message.bytes (k.states h).count
@@ -50,7 +50,7 @@ hears-message m m' l f f' given old new p e g on =
     (subst (λ (x : Link). HearsOn x f given old new) p on))
 
 -- a good frame of a host's message, inside a core: the receiver of its link hears it
-pub heard-inside : (a : Stage) (by : PortId) (o : OpenIs a by) (h : ℕ) (host : Host) (place : ℕ) (w : IsKept a) (g : GoodIs a o.step.known h host place) → IsCarried (past_in a) h false
+pub heard-inside : (a : Stage) (by : PortId) (o : OpenIs a by) (h : ℕ) (host : Host) (place : ℕ) (w : IsConsistent a) (g : GoodIs a o.step.known h host place) → IsCarried (past_in a) h false
     → is_to_all g.message.link ≡ false → (l : Link) (f : List ℕ) (given : Option (List ℕ)) (rs : List Receivers) → l ≡ g.message.link
     → (own : OpenSlot) → a.state.slot ≡ Some own → ((put : Put) → own.puts.items ≡ put ∷ [] → 8 ≤ length put.answer → f ≡ take 8 put.answer)
     → HearsOn l f given a.state.receivers.items rs → HeardFrame a.cluster (past_in a) (finish_of a by ∷ past_in a) g.message.link given rs
@@ -63,8 +63,8 @@ heard-inside a by o h host place w g carried alone l f given rs link own at fram
     in let both : g.message ∷ g.later ≡ i.message ∷ i.later = sym g.first ∙ i.first
     in let one : g.message ≡ i.message = cc
     in let same : own ≡ o.slot = (let two : Some own ≡ Some o.slot = sym at ∙ o.at in cc)
-    in let there : f ≡ frame (address c i.message.link) i.message.bytes (k.states h).count = frame-there c past by k o.slot h i own f same frame_is
-    in let hears : HearsOn i.message.link (frame (address c i.message.link) i.message.bytes (k.states h).count) given a.state.receivers.items rs
+    in let there : f ≡ frame (link_address c i.message.link) i.message.bytes (k.states h).count = frame-there c past by k o.slot h i own f same frame_is
+    in let hears : HearsOn i.message.link (frame (link_address c i.message.link) i.message.bytes (k.states h).count) given a.state.receivers.items rs
     = hears-message g.message i.message l f _ given a.state.receivers.items rs link one there on
     in subst (λ (m : Message). HeardFrame c past (finish_of a by ∷ past) m.link given rs) (sym one)
     (heard-frame c past by (finish_events c by past) k (slot_in o.slot) h i given a.state.receivers.items rs q.1 (subst (λ (m : Message). is_to_all m.link ≡ false) one alone) hears w.heard)

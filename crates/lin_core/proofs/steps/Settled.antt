@@ -6,7 +6,7 @@ use Rattle.lin_parts.specs.Cluster.{nodes}
 use Rattle.lin_core.specs.kept.Hosts.{KeepsHost, message_of}
 use Rattle.lin_core.specs.kept.Slots.{slot_in, pdu_of}
 use Rattle.lin_core.specs.Links.{Message, waiting}
-use Rattle.lin_core.specs.kept.State.{IsKept, Stage}
+use Rattle.lin_core.specs.kept.State.{IsConsistent, Stage}
 use Rattle.lin_core.specs.declared.event.Event.TheVariants.{Lost}
 use Rattle.lin_core.specs.declared.host.Host.{Host}
 use Rattle.lin_core.specs.declared.link.Cause.TheVariants.{Damaged}
@@ -24,7 +24,7 @@ pub record SettlesHost (a : Stage) (by : PortId) (o : OpenIs a by) (h : ℕ) (ho
   pub number : host.settled + 1 ≡ suc (length (o.step.known.states h).done)
   pub small : host.settled + 1 < 2 ^ 32
 
-pub settles-host : (a : Stage) (by : PortId) (o : OpenIs a by) (h : ℕ) (host : Host) (m : Message) (ms : List Message) → IsKept a → h < nodes a.cluster → (o.step.known.states h).rest ≡ m ∷ ms → host ≡ slice_index_or a.state.hosts.items h host → SettlesHost a by o h host
+pub settles-host : (a : Stage) (by : PortId) (o : OpenIs a by) (h : ℕ) (host : Host) (m : Message) (ms : List Message) → IsConsistent a → h < nodes a.cluster → (o.step.known.states h).rest ≡ m ∷ ms → host ≡ slice_index_or a.state.hosts.items h host → SettlesHost a by o h host
 settles-host a by o h host m ms w there first e =
     let here : slice_get a.state.hosts.items h ≡ Some host = host-of a h host w there e
     in let past = past_in a
@@ -39,11 +39,11 @@ settles-host a by o h host m ms w there first e =
     in record { here = here; number = omega arith; small = omega arith }
 
 -- a damaged frame
-pub record DamagedIs (a : Stage) (by : PortId) (o : OpenIs a by) (w : IsKept a) (h : ℕ) (host : Host) : Type 0 where
+pub record DamagedIs (a : Stage) (by : PortId) (o : OpenIs a by) (w : IsConsistent a) (h : ℕ) (host : Host) : Type 0 where
   pub done : Done a.cluster (past_in a) by (slot_in o.slot) w.sound o.step.known h (Lost h (host.settled + 1) Damaged ∷ [])
   pub own : SettlesHost a by o h host
 
-pub damaged-inside : (a : Stage) (by : PortId) (o : OpenIs a by) (h : ℕ) (host : Host) (w : IsKept a) → pdu_of (slot_in o.slot) ≡ OfMessage h → (slot_in o.slot).hurt ≡ true → host ≡ slice_index_or a.state.hosts.items h host → DamagedIs a by o w h host
+pub damaged-inside : (a : Stage) (by : PortId) (o : OpenIs a by) (h : ℕ) (host : Host) (w : IsConsistent a) → pdu_of (slot_in o.slot) ≡ OfMessage h → (slot_in o.slot).hurt ≡ true → host ≡ slice_index_or a.state.hosts.items h host → DamagedIs a by o w h host
 damaged-inside a by o h host w pdu hurt e =
     let i = host-carried a.cluster (past_in a) by (slot_in o.slot) w.sound o.step.known h o.is pdu
     in let own : SettlesHost a by o h host = settles-host a by o h host i.message i.later w i.below i.first e

@@ -14,10 +14,10 @@ use Rattle.lin_transport.specs.Transport.Heard.{Reset}
 use Rattle.lin_parts.specs.declared.parts.Parts.{Parts}
 use Rattle.lin_core.specs.History.{finished_slot, is_sleep_mark, Slot, open_slot, slot_after_events, header_is, is_sleep_asked, good_under, is_in, has_decided}
 use Rattle.lin_core.specs.Signals.{is_pending}
-use Rattle.lin_core.specs.Links.{Link, same_link, link_of, Message, host_of, accepted_from, Sign, Fate, address, ear_on, goes_over, home, is_down, is_to_all, nad_on, put_on, signs, heard_on, blocks, blocks_of, waiting, begun_sending}
+use Rattle.lin_core.specs.Links.{Link, same_link, link_of, Message, host_of, accepted_from, Sign, Fate, link_address, ear_on, goes_over, home, is_down, is_to_all, nad_on, put_on, signs, heard_on, blocks, blocks_of, waiting, begun_sending}
 use Rattle.lin_core.specs.Links.Sign.{Mark}
 use Rattle.lin_core.specs.Slots.{with_classic, sleep_frame, next_frame, first_frame, put_by, header, is_due, due_nodes, is_service, plain_nodes, served_nodes, selected_node, addressee, node_with, next_due}
-use Rattle.lin_core.specs.Replies.{refusal, refusals, in_slot, has_address, is_addressed, longest, put_event, opening_events, service_events, done_events, reply}
+use Rattle.lin_core.specs.Replies.{refusal, refusals, in_slot, has_route, has_responder_address, most_message_bytes, put_event, opening_events, service_events, done_events, reply}
 use Rattle.lin_core.specs.kept.Slots.{opening_slot}
 use Rattle.lin_parts.specs.Sound.{IsSound, IsSignalPid}
 use Rattle.lin_core.specs.declared.log.LogEntry.{LogEntry}
@@ -95,7 +95,7 @@ counts-more [] m (suc j) i = absurd i
 counts-more (x ∷ xs) m (suc j) i = i
 
 -- the receiver of a message's link is meant by its frames
-meant-own : (c : Parts) (to : Link) (bytes : List ℕ) → IsSound c → HasNad c to.node → is_to_all to ≡ false → CanSend bytes → IsFor (ear_on c to) (record { nad = address c to; bytes = bytes })
+meant-own : (c : Parts) (to : Link) (bytes : List ℕ) → IsSound c → HasNad c to.node → is_to_all to ≡ false → CanSend bytes → IsFor (ear_on c to) (record { nad = link_address c to; bytes = bytes })
 meant-own c to bytes sound at one can = record {
   heard = rw (one, eqb-self (nad_on c to)) (or-true (is_down to.dir && nad_on c to == functional));
   can = can;
@@ -106,9 +106,9 @@ meant-own c to bytes sound at one can = record {
       in absurd (omega arith);
 }
 
-meant-by : (c : Parts) (to l : Link) (bytes : List ℕ) → IsSound c → HasNad c to.node → is_to_all to ≡ false → CanSend bytes → goes_over to l ≡ true → IsFor (ear_on c l) (record { nad = address c to; bytes = bytes })
+meant-by : (c : Parts) (to l : Link) (bytes : List ℕ) → IsSound c → HasNad c to.node → is_to_all to ≡ false → CanSend bytes → goes_over to l ≡ true → IsFor (ear_on c l) (record { nad = link_address c to; bytes = bytes })
 meant-by c to l bytes sound at one can over =
-    subst (λ (x : Link). IsFor (ear_on c x) (record { nad = address c to; bytes = bytes })) (over-is to l one over) (meant-own c to bytes sound at one can)
+    subst (λ (x : Link). IsFor (ear_on c x) (record { nad = link_address c to; bytes = bytes })) (over-is to l one over) (meant-own c to bytes sound at one can)
 
 pub home-own : (c : Parts) (to : Link) → is_to_all to ≡ false → home c to ≡ to
 home-own c to one = rw one
@@ -146,7 +146,7 @@ all-meant c b Up bytes can few over = absurd (let bad : false ≡ true = sym (ov
 one-frame : (bytes : List ℕ) → length bytes ≤ 6 → frame_count (length bytes) ≡ 1
 one-frame bytes few = grind (arith, nat_tests)
 
-pub can-go-all : (c : Parts) (bytes : List ℕ) → is_addressed c ≡ true → CanSend bytes → length bytes ≤ 6 → CanGo c 0 (record { link = record_of functional Down; bytes = bytes })
+pub can-go-all : (c : Parts) (bytes : List ℕ) → has_responder_address c ≡ true → CanSend bytes → length bytes ≤ 6 → CanGo c 0 (record { link = record_of functional Down; bytes = bytes })
 can-go-all c bytes some can few = record {
   host = refl;
   home_is = record { host = refl; address = any-found (λ n. is_some (nad c n)) (numbers (nodes c)) some };
@@ -234,11 +234,11 @@ link-is c from to true e h =
 link-is c from to false e h = record { host = refl; address = address-other c from to (rw e at h) }
 
 -- where it can be sent, it can go
-pub goes-by : (c : Parts) (from to : ℕ) (message : List ℕ) (b : Bool) → (to == functional) ≡ b → IsSound c → has_address c from to ≡ true → 1 ≤ length message → length message ≤ longest to
+pub goes-by : (c : Parts) (from to : ℕ) (message : List ℕ) (b : Bool) → (to == functional) ≡ b → IsSound c → has_route c from to ≡ true → 1 ≤ length message → length message ≤ most_message_bytes to
     → CanGo c from (record { link = link_of from to; bytes = message })
 goes-by c from to message true is sound h some few =
-    let parts : (from == 0 && is_addressed c) ≡ true = rw is at h
-    in let both = and-parts (from == 0) (is_addressed c) parts
+    let parts : (from == 0 && has_responder_address c) ≡ true = rw is at h
+    in let both = and-parts (from == 0) (has_responder_address c) parts
     in let z : from ≡ 0 = grind (arith, nat_tests, both.0)
     in let all : to ≡ functional = grind (arith, nat_tests, is)
     in let short : length message ≤ 6 = rw is at few
@@ -253,10 +253,10 @@ abbrev pub send-known : (c : Parts) (capacity : ℕ) (past : List LogEntry) (por
 send-known c capacity past port from to message es sound h k =
     let all : AllFalse (refusals c capacity past port (Send from to message)) = none-of (refusals c capacity past port (Send from to message)) h
     in let m : Message = record { link = link_of from to; bytes = message }
-    in let size = both-false (length message == 0) (nat_lt (longest to) (length message)) all.1.1.0
+    in let size = both-false (length message == 0) (nat_lt (most_message_bytes to) (length message)) all.1.1.0
     in let some : 1 ≤ length message = let e : (length message == 0) ≡ false = size.0 in grind (arith, nat_tests)
-    in let few : length message ≤ longest to = let e : nat_lt (longest to) (length message) ≡ false = size.1 in grind (arith, nat_tests)
-    in let go : CanGo c from m = goes-by c from to message (to == functional) refl sound (not-false (has_address c from to) all.1.0) some few
+    in let few : length message ≤ most_message_bytes to = let e : nat_lt (most_message_bytes to) (length message) ≡ false = size.1 in grind (arith, nat_tests)
+    in let go : CanGo c from m = goes-by c from to message (to == functional) refl sound (not-false (has_route c from to) all.1.0) some few
     in record {
       states = λ x. more_if (from == x) m (k.states x);
       hosts = λ x. host-send-if c x (from == x) (accepted_from past x) (heard_on c past) (signs c past) (k.states x) m
@@ -301,7 +301,7 @@ rest-some c past h s q i w = rest-by c past h s (has_rest s.rest) q i refl w
 -- the next frame of a host
 pub data NextIs (c : Parts) (bytes : List ℕ) (s : HostState) : Type 0 where
   is_sleep : bytes ≡ sleep_frame → NextIs c bytes s
-  is_frame : (m : Message) (ms : List Message) (k : ℕ) → s.rest ≡ m ∷ ms → s.count ≡ k → bytes ≡ frame (address c m.link) m.bytes k → NextIs c bytes s
+  is_frame : (m : Message) (ms : List Message) (k : ℕ) → s.rest ≡ m ∷ ms → s.count ≡ k → bytes ≡ frame (link_address c m.link) m.bytes k → NextIs c bytes s
 
 pub next-is : (c : Parts) (past : List LogEntry) (h : ℕ) (done : List (Message × Fate)) (rest : List Message) (k : ℕ) (sleeping : Bool) → IsQuietNow c past
     → HostIs c h (accepted_from past h) (heard_on c past) (signs c past) (record { done = done; rest = rest; count = k }) → (has_rest rest || sleeping) ≡ true
@@ -323,7 +323,7 @@ next-is c past h done (m ∷ ms) (suc j) sleeping q i w =
 -- without an ask for sleep it is a frame
 pub next-frame : (c : Parts) (past : List LogEntry) (h : ℕ) (done : List (Message × Fate)) (rest : List Message) (k : ℕ) → IsQuietNow c past
     → HostIs c h (accepted_from past h) (heard_on c past) (signs c past) (record { done = done; rest = rest; count = k }) → has_rest rest ≡ true
-    → (m : Message) × (ms : List Message) × (rest ≡ m ∷ ms) × (next_frame c past h false ≡ frame (address c m.link) m.bytes k)
+    → (m : Message) × (ms : List Message) × (rest ≡ m ∷ ms) × (next_frame c past h false ≡ frame (link_address c m.link) m.bytes k)
 next-frame c past h done [] k q i w = cc
 next-frame c past h done (m ∷ ms) zero q i w =
     let st : Stands c h (blocks c past) (accepted_from past h) (record { done = done; rest = m ∷ ms; count = 0 }) = stands c past h (record { done = done; rest = m ∷ ms; count = 0 }) q i
@@ -388,8 +388,8 @@ master-slot c past port node table entry due left hurt sound k is line only z (i
 master-slot c past port node table entry due left hurt sound k is line only z (is_frame m ms j r n e) =
     let go : CanGo c 0 m = first-go c 0 (accepted_from past 0) (heard_on c past) (signs c past) (k.states 0) m ms r (k.hosts 0)
     in let down : m.link.dir ≡ Down = goes-down c m.link.node m.link.dir m.bytes sound go
-    in let shape : SlotIs c (is_sleep_asked past) k.states (Some (frame_slot table entry due left hurt m.link (frame (address c m.link) m.bytes j))) = carries table entry due left hurt 0 m ms j only go.host r n
-    in rw (is, line, z, e) (subst (λ (s : Slot). SlotIs c (is_sleep_asked past) k.states (Some s)) (slot-down c table entry due left hurt m.link.node m.link.dir (frame (address c m.link) m.bytes j) down) shape)
+    in let shape : SlotIs c (is_sleep_asked past) k.states (Some (frame_slot table entry due left hurt m.link (frame (link_address c m.link) m.bytes j))) = carries table entry due left hurt 0 m ms j only go.host r n
+    in rw (is, line, z, e) (subst (λ (s : Slot). SlotIs c (is_sleep_asked past) k.states (Some s)) (slot-down c table entry due left hurt m.link.node m.link.dir (frame (link_address c m.link) m.bytes j) down) shape)
 
 pub slave-slot : (c : Parts) (past : List LogEntry) (port : PortId) (node table entry : ℕ) (due left : List ℕ) (hurt : Bool) (h : ℕ) → (k : Known c past) → open_slot past ≡ Some (slot_of table entry (Some 0x7D) due [] left hurt)
     → (line_of c table entry).entry ≡ SlaveResp → OnlyDue due h → node ≡ h → h ≢ 0 → IsQuietNow c past → has_rest (k.states h).rest ≡ true → SlotIs c (is_sleep_asked past) k.states (open_slot (answer_entry c past port node ∷ past))
@@ -397,7 +397,7 @@ slave-slot c past port node table entry due left hurt h k is line only z some q 
     let next = next-frame c past h (k.states h).done (k.states h).rest (k.states h).count q (k.hosts h) w
     in let m : Message = next.0
     in let j : ℕ = (k.states h).count
-    in let f : List ℕ = frame (address c m.link) m.bytes j
+    in let f : List ℕ = frame (link_address c m.link) m.bytes j
     in let go : CanGo c h m = first-go c h (accepted_from past h) (heard_on c past) (signs c past) (k.states h) m next.1 next.2 (k.hosts h)
     in let up : m.link.dir ≡ Up = goes-up h m.link.node m.link.dir some go.host
     in let own : m.link.node ≡ h = host-up m.link.node m.link.dir h up go.host
@@ -432,7 +432,7 @@ answer-slot c past port node sound k (Some _) is (sleep table entry due left hur
     in let no : (list_any (λ (p : ℕ × List ℕ). p.0 == node) ((0, with_classic sleep_frame) ∷ []) || is_in left node) ≡ false = rw is at decided
     in absurd (let yes = any-of left 0 node (with_classic sleep_frame) z in let bad : true ≡ false = sym yes ∙ no in cc)
 answer-slot c past port node sound k (Some _) is (carries table entry due left hurt h m ms j only host r n) d decided =
-    let f : List ℕ = frame (address c m.link) m.bytes j
+    let f : List ℕ = frame (link_address c m.link) m.bytes j
     in let z : node ≡ host_of m.link = only node (rw is at d) ∙ sym host
     in let no : (list_any (λ (p : ℕ × List ℕ). p.0 == node) ((host_of m.link, with_classic f) ∷ []) || is_in left node) ≡ false = rw is at decided
     in absurd (let yes = any-of left (host_of m.link) node (with_classic f) z in let bad : true ≡ false = sym yes ∙ no in cc)

@@ -3,11 +3,11 @@ use Rattle.std.proofs.Common.{◌≡◌, ℕ, zero, suc, ◌+◌, ◌^◌, ◌<�
 use Rattle.std.specs.Prelude.{Option, Some, None, is_none, is_some, ◌&&◌, nat_le, slice_get, slice_index_or, slice_set}
 use Rattle.std.proofs.lemmas.Bool.Decides.{nat_tests}
 use Rattle.std.proofs.lemmas.List.{length-map}
-use Rattle.lin_transport.specs.Sender.{Sending as Sender}
+use Rattle.lin_transport.specs.Sender.{SenderData as Sender}
 use Rattle.lin_parts.specs.Cluster.{nad, nodes}
 use Rattle.lin_parts.specs.declared.parts.Parts.{Parts}
 use Rattle.lin_core.specs.History.{open_slot}
-use Rattle.lin_core.specs.kept.State.{Keeps, KeepsLate, IsKept, Stage}
+use Rattle.lin_core.specs.kept.State.{Keeps, KeepsLate, IsConsistent, Stage}
 use Rattle.lin_core.specs.kept.Hosts.{KeepsHost, message_at, message_of, host_after_settling}
 use Rattle.lin_core.specs.Links.{Link, Message, accepted_from, heard_on, host_of, is_to_all, same_link, signs, waiting}
 use Rattle.lin_core.specs.Replies.{all_reports, begun_on, link_at, quiet_entry, refusals}
@@ -52,7 +52,7 @@ begun-by c rest zero sender l over s at = rw s refl
 begun-by c [] (suc j) sender l over s at = rw s refl
 begun-by c (m ∷ ms) (suc j) sender l over s at = rw (s, at m ms refl) refl
 
-pub begun-inside : (a : Stage) (node : ℕ) (dir : Direction) (host : Host) (place : ℕ) (over : Bool) → IsKept a → open_slot (past_in a) ≡ None → slice_get a.state.hosts.items (host_of (link_at node dir)) ≡ Some host
+pub begun-inside : (a : Stage) (node : ℕ) (dir : Direction) (host : Host) (place : ℕ) (over : Bool) → IsConsistent a → open_slot (past_in a) ≡ None → slice_get a.state.hosts.items (host_of (link_at node dir)) ≡ Some host
     → ((p : ℕ) → slice_get host.queue.items 0 ≡ Some p → place ≡ p) → ((m : Message) → message_at a.log place ≡ Some m → over ≡ same_link m.link (link_at node dir))
     → is_some (begun_on a.cluster (past_in a) node dir) ≡ (is_some host.sender && over)
 begun-inside a node dir host place over w none here at goes =
@@ -74,7 +74,7 @@ not-begun c rest zero sender l s e = refl
 not-begun c [] (suc j) sender l s e = refl
 not-begun c (m ∷ ms) (suc j) sender l s e = absurd (let bad : true ≡ false = rw s at e in cc)
 
-pub none-inside : (a : Stage) (node : ℕ) (dir : Direction) (host : Host) → IsKept a → open_slot (past_in a) ≡ None → slice_get a.state.hosts.items (host_of (link_at node dir)) ≡ Some host → is_some host.sender ≡ false
+pub none-inside : (a : Stage) (node : ℕ) (dir : Direction) (host : Host) → IsConsistent a → open_slot (past_in a) ≡ None → slice_get a.state.hosts.items (host_of (link_at node dir)) ≡ Some host → is_some host.sender ≡ false
     → is_some (begun_on a.cluster (past_in a) node dir) ≡ false
 none-inside a node dir host w none here e =
     let c : Parts = a.cluster
@@ -117,7 +117,7 @@ pub over-node : (c : Parts) (node : ℕ) (dir : Direction) → node < nodes c �
 over-node c node Down l = omega arith
 over-node c node Up l = l
 
-pub times-out : (a : Stage) (by : PortId) (node : ℕ) (dir : Direction) (host : Host) → IsKept a → Allowed a by (Timeout node dir) → host ≡ slice_index_or a.state.hosts.items (host_of (link_at node dir)) host → TimesOut a by node dir host
+pub times-out : (a : Stage) (by : PortId) (node : ℕ) (dir : Direction) (host : Host) → IsConsistent a → Allowed a by (Timeout node dir) → host ≡ slice_index_or a.state.hosts.items (host_of (link_at node dir)) host → TimesOut a by node dir host
 times-out a by node dir host w n e =
     let c : Parts = a.cluster
     in let past : List LogEntry = past_in a

@@ -10,10 +10,10 @@ use Rattle.lin_parts.specs.Cluster.{nad}
 use Rattle.lin_parts.specs.declared.parts.Parts.{Parts}
 use Rattle.lin_core.specs.History.{open_slot}
 use Rattle.lin_core.specs.kept.Hosts.{is_next_to_all, message_of}
-use Rattle.lin_core.specs.kept.Receivers.{AreAlike, Completes, HearAll, KeepsHeard, KeepsReceiver}
+use Rattle.lin_core.specs.kept.Receivers.{HaveHeardAlike, Completes, HearAll, KeepsHeard, KeepsReceiver}
 use Rattle.lin_core.specs.kept.Slots.{pdu_of, slot_in, IsCarried}
-use Rattle.lin_core.specs.kept.State.{IsKept, Stage}
-use Rattle.lin_core.specs.Links.{Link, Message, Sending, address, ear_on, heard_on, host_of, is_to_all, reading, waiting}
+use Rattle.lin_core.specs.kept.State.{IsConsistent, Stage}
+use Rattle.lin_core.specs.Links.{Link, Message, Sending, link_address, ear_on, heard_on, host_of, is_to_all, reading, waiting}
 use Rattle.lin_core.specs.Replies.{finish_events, link_at}
 use Rattle.lin_core.specs.declared.event.Event.{Event}
 use Rattle.lin_core.specs.declared.link.Direction.TheVariants.{Down}
@@ -75,7 +75,7 @@ is-short c h m go all =
 last-one : (bytes : List ℕ) (k : ℕ) → nat_le (length bytes) 6 ≡ true → k ≡ 0 → is_last bytes k ≡ true
 last-one bytes k e none = rw (none, count-short bytes e) refl
 
-pub to-all-inside : (a : Stage) (by : PortId) (o : OpenIs a by) → IsKept a → IsCarried (past_in a) 0 false → is_next_to_all a.cluster (past_in a) 0 ≡ true → ToAllIs a by o
+pub to-all-inside : (a : Stage) (by : PortId) (o : OpenIs a by) → IsConsistent a → IsCarried (past_in a) 0 false → is_next_to_all a.cluster (past_in a) 0 ≡ true → ToAllIs a by o
 to-all-inside a by o w carried next =
     let c : Parts = a.cluster
     in let past : List LogEntry = past_in a
@@ -90,7 +90,7 @@ to-all-inside a by o w carried next =
 
 -- its frame
 abbrev pub frame_of : (a : Stage) (by : PortId) (o : OpenIs a by) → ToAllIs a by o → List ℕ
-frame_of a by o t = frame (address a.cluster t.carries.message.link) t.carries.message.bytes (o.step.known.states 0).count
+frame_of a by o t = frame (link_address a.cluster t.carries.message.link) t.carries.message.bytes (o.step.known.states 0).count
 
 -- the frame that is looked for in the slot
 pub frame-inside : (a : Stage) (by : PortId) (o : OpenIs a by) (t : ToAllIs a by o) (own : OpenSlot) (f : List ℕ) → a.state.slot ≡ Some own
@@ -106,7 +106,7 @@ single-frame n m k none few = rw (none, few) refl
 pub single-inside : (a : Stage) (by : PortId) (o : OpenIs a by) (t : ToAllIs a by o) → slice_index (frame_of a by o t) 1 < 16
 single-inside a by o t =
     let m : Message = t.carries.message
-    in let is = single-frame (address a.cluster m.link) m.bytes (o.step.known.states 0).count t.none t.short
+    in let is = single-frame (link_address a.cluster m.link) m.bytes (o.step.known.states 0).count t.none t.short
     in let few = t.few
     in omega arith
 
@@ -117,7 +117,7 @@ all-inside a by o t f rs new is hears kept =
     to-all-heard a.cluster (past_in a) by (finish_events a.cluster by (past_in a)) o.step.known (slot_in o.slot) 0 t.carries rs new t.calm t.all (subst (λ (g : List ℕ). HearAll a.cluster g rs new) is hears) kept
 
 -- which completes the message for it
-pub completes-inside : (a : Stage) (by : PortId) (o : OpenIs a by) (t : ToAllIs a by o) (w : IsKept a) (f : List ℕ) (rs : List Receivers) → f ≡ frame_of a by o t → KeepsHeard a.cluster (past_in a) rs
+pub completes-inside : (a : Stage) (by : PortId) (o : OpenIs a by) (t : ToAllIs a by o) (w : IsConsistent a) (f : List ℕ) (rs : List Receivers) → f ≡ frame_of a by o t → KeepsHeard a.cluster (past_in a) rs
     → (n : ℕ) (r : Receivers) → slice_get rs n ≡ Some r → is_some (nad a.cluster n) ≡ true → Completes f t.carries.message.bytes r.down (heard_on a.cluster (past_in a) (link_at n Down))
 completes-inside a by o t w f rs is kept n r at own =
     let c : Parts = a.cluster
@@ -140,7 +140,7 @@ completes-inside a by o t w f rs is kept n r at own =
     }
 
 -- where room alone was made, all that is kept stays
-pub alike-inside : (a : Stage) (rs : Vec Receivers) → AreAlike a.state.receivers.items rs.items → IsKept a → IsKept (record a { state = record a.state { receivers = rs } })
+pub alike-inside : (a : Stage) (rs : Vec Receivers) → HaveHeardAlike a.state.receivers.items rs.items → IsConsistent a → IsConsistent (record a { state = record a.state { receivers = rs } })
 alike-inside a rs alike w = record {
   few = w.few;
   rules = w.rules;

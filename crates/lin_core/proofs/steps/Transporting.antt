@@ -5,9 +5,9 @@ use Rattle.lin_core.specs.kept.Slots.{frame_answered, slot_in}
 use Rattle.lin_core.specs.History.{Slot, is_sleep_asked, header_is, open_slot}
 use Rattle.lin_core.specs.kept.Hosts.{message_at, HasNext, bytes_next}
 use Rattle.lin_core.specs.Replies.{put_event, refusals}
-use Rattle.lin_core.specs.Slots.{put, with_classic}
+use Rattle.lin_core.specs.Slots.{put_bytes, with_classic}
 use Rattle.lin_parts.specs.Cluster.{line_of, nodes}
-use Rattle.lin_core.specs.kept.State.{IsKept, IsReady, Stage}
+use Rattle.lin_core.specs.kept.State.{IsConsistent, IsStepReady, Stage}
 use Rattle.lin_core.specs.declared.event.Event.TheVariants.{Put as PutEvent}
 use Rattle.lin_core.specs.declared.host.Host.{Host}
 use Rattle.lin_core.specs.declared.port.PortId.{PortId}
@@ -32,7 +32,7 @@ record TurnIs (c : Parts) (past : List LogEntry) (states : ℕ → HostState) (n
   header : ℕ
   header_is : s.header ≡ Some header
   some : (has_rest (states node).rest || (header == 0x3C && is_sleep_asked past)) ≡ true
-  bytes : put c past (line_of c s.table s.entry).entry header node ≡ with_classic (next_of c (states node).rest (states node).count (header == 0x3C && is_sleep_asked past))
+  bytes : put_bytes c past (line_of c s.table s.entry).entry header node ≡ with_classic (next_of c (states node).rest (states node).count (header == 0x3C && is_sleep_asked past))
 
 or-more : (a b : Bool) → a ≡ true → (a || b) ≡ true
 or-more true b e = refl
@@ -45,12 +45,12 @@ turn-is c past states node s (request t h empty z some bytes) plain head = recor
   header = 0x3C;
   header_is = h;
   some = subst (λ (n : ℕ). (has_rest (states n).rest || is_sleep_asked past) ≡ true) (sym z) some;
-  bytes = subst (λ (n : ℕ). put c past (line_of c t.table t.entry).entry 0x3C node ≡ with_classic (next_of c (states n).rest (states n).count (is_sleep_asked past))) (sym z) bytes;
+  bytes = subst (λ (n : ℕ). put_bytes c past (line_of c t.table t.entry).entry 0x3C node ≡ with_classic (next_of c (states n).rest (states n).count (is_sleep_asked past))) (sym z) bytes;
 }
 turn-is c past states node s (response t h empty some rest bytes) plain head = record { header = 0x7D; header_is = h; some = or-more (has_rest (states node).rest) false rest; bytes = bytes }
 
 plain-told : (c : Parts) (past : List LogEntry) (slot : OpenSlot) (h n : ℕ) (bytes : List ℕ) → slot.service ≡ false → open_slot past ≡ Some (slot_in slot) → slot.header ≡ Some h
-    → put c past (line_of c slot.table slot.entry).entry h n ≡ bytes → option_map_or (put_event c past n) (open_slot past) [] ≡ PutEvent n bytes ∷ []
+    → put_bytes c past (line_of c slot.table slot.entry).entry h n ≡ bytes → option_map_or (put_event c past n) (open_slot past) [] ≡ PutEvent n bytes ∷ []
 plain-told c past slot h n bytes plain is e p = rw (is, e, plain) (ap (λ (xs : List ℕ). PutEvent n xs ∷ []) p)
 
 -- an answer without a frame of signals, of a node whose host is kept so
@@ -60,14 +60,14 @@ pub record AnswersNext (a : Stage) (by : PortId) (node : ℕ) (host : Host) (pla
   pub has : HasNext a.cluster (message_at a.log place) host.sender sleeping
   pub told : PutEvent node (with_classic (bytes_next a.cluster (message_at a.log place) host.sender sleeping)) ∷ [] ≡ option_map_or (put_event a.cluster (past_in a) node) (open_slot (past_in a)) []
 
-pub answers-next : (a : Stage) (by : PortId) (node : ℕ) (host : Host) (place header : ℕ) (sleeping : Bool) → IsReady a by (Answer node) → IsPlain a
+pub answers-next : (a : Stage) (by : PortId) (node : ℕ) (host : Host) (place header : ℕ) (sleeping : Bool) → IsStepReady a by (Answer node) → IsPlain a
     → frame_answered a.cluster (past_in a) node ≡ None → host ≡ slice_index_or a.state.hosts.items node host → ((p : ℕ) → slice_get host.queue.items 0 ≡ Some p → place ≡ p)
     → (own : OpenSlot) → a.state.slot ≡ Some own → Some header ≡ own.header → sleeping ≡ (header == 0x3C && a.state.bus.asked) → AnswersNext a by node host place header sleeping
 answers-next a by node host place header sleeping r plain none e at own is head sleeps =
     let c : Parts = a.cluster
     in let past : List LogEntry = past_in a
     in let s : Allowed a by (Answer node) = allowed-ready a by (Answer node) r
-    in let w : IsKept a = r.whole
+    in let w : IsConsistent a = r.whole
     in let o : AnswerSlot a node = answer-slot a by node w s plain
     in let there = (none-of (refusals c a.capacity past by (Answer node)) s.allowed).0
     in let below : node < nodes c = (let far : nat_le (nodes c) node ≡ false = there in grind (arith, nat_tests, far))

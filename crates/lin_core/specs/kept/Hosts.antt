@@ -7,11 +7,11 @@ use Rattle.std.specs.Option.{option_map_or}
 use Rattle.lin_frame.specs.Words.{numbers}
 use Rattle.circular_buffer.specs.Buffer.{buffer}
 use Rattle.lin_transport.specs.Transport.{frame, frame_count}
-use Rattle.lin_transport.specs.Sender.{Sending as Sender}
+use Rattle.lin_transport.specs.Sender.{SenderData as Sender}
 use Rattle.lin_parts.specs.Cluster.{nad, nodes}
 use Rattle.lin_core.specs.History.{is_host_closed, LogEntry, Step, Parts}
-use Rattle.lin_core.specs.Links.{Message, Sending, accepted_from, begun_sending, is_good, link_of}
-use Rattle.lin_core.specs.Links.{address, is_to_all, waiting}
+use Rattle.lin_core.specs.Links.{Message, Sending, accepted_from, begun_sending, is_good_sign, link_of}
+use Rattle.lin_core.specs.Links.{link_address, is_to_all, waiting}
 use Rattle.lin_core.specs.Slots.{sleep_frame}
 use Rattle.lin_core.specs.declared.event.Event.{Event}
 use Rattle.lin_core.specs.declared.event.Event.TheVariants.{Lost, Message as MessageEvent}
@@ -40,9 +40,9 @@ pub record KeepsHost (c : Parts) (capacity : ℕ) (log past : List LogEntry) (h 
 -- the sender of the message that is begun
 abbrev pub sender_of : Parts → Sending → Sender
 sender_of c s = record {
-  nad = address c s.message.link;
+  nad = link_address c s.message.link;
   size = length s.message.bytes;
-  sent = length (filter is_good s.block);
+  sent = length (filter is_good_sign s.block);
 }
 
 abbrev pub sender_now : Parts → List LogEntry → ℕ → Option Sender
@@ -53,8 +53,8 @@ pub record KeepsSender (c : Parts) (past : List LogEntry) (h : ℕ) (host : Host
   pub sender_is : host.sender ≡ sender_now c past h
 
 -- a host that has sent nothing
-abbrev pub fresh : ℕ → Host
-fresh capacity = record { settled = 0; queue = buffer [] capacity; sender = None; closed = false }
+abbrev pub new_host : ℕ → Host
+new_host capacity = record { settled = 0; queue = buffer [] capacity; sender = None; closed = false }
 
 -- one more message waits, whose step stands at this place in the log
 abbrev pub host_after_send : Host → ℕ → Host
@@ -74,8 +74,8 @@ host_after_settling host = record host {
 abbrev pub sent_of : Host → ℕ
 sent_of host = option_map_or (λ s. s.sent) host.sender 0
 
-abbrev pub size_of : Host → ℕ → ℕ
-size_of host len = option_map_or (λ s. s.size) host.sender len
+abbrev pub sending_size : Host → ℕ → ℕ
+sending_size host len = option_map_or (λ s. s.size) host.sender len
 
 -- one more frame of the next message is seen good, to this address and of this length
 abbrev pub host_after_frame : Host → ℕ → ℕ → Host
@@ -106,7 +106,7 @@ bytes_next c None (Some s) sleeping = []
 bytes_next c (Some m) (Some s) sleeping = frame s.nad m.bytes s.sent
 bytes_next c o None true = sleep_frame
 bytes_next c None None false = []
-bytes_next c (Some m) None false = frame (address c m.link) m.bytes 0
+bytes_next c (Some m) None false = frame (link_address c m.link) m.bytes 0
 
 -- there is such a frame
 abbrev pub HasNext : Parts → Option Message → Option Sender → Bool → Type 0

@@ -54,7 +54,7 @@ pub record AreReset (old new : Receivers) : Type 0 where
   pub up : IsReset old.up new.up
 
 -- what was heard is as before: the room that was made alone may differ
-pub record AreAlike (old new : List Receivers) : Type 0 where
+pub record HaveHeardAlike (old new : List Receivers) : Type 0 where
   pub count : length new ≡ length old
   pub each : (h : ℕ) (d : Direction) (was is : Receivers) → slice_get old h ≡ Some was
       → slice_get new h ≡ Some is

@@ -55,7 +55,7 @@ pub record KeepsSignals (c : Parts) (past : List LogEntry) (slot : Option OpenSl
       → length (frame_of c f).signals ≤ vec_capacity signals.room
 
 -- the end of a slot: a good one is heard, and the frames that another one carried are pending again
-pub record Ends (c : Parts) (slot : OpenSlot) (signals signals' : Signals) : Type 0 where
+pub record EndsSlot (c : Parts) (slot : OpenSlot) (signals signals' : Signals) : Type 0 where
   pub values : signals'.values ≡ signals.values
   pub room : signals'.room ≡ signals.room
   pub heard_count : length signals'.heard.items ≡ length signals.heard.items

@@ -119,9 +119,9 @@ frame_answered c past n =
     (open_slot past) None
 
 -- the checksum model of that response
-abbrev pub frame_model : Parts → Entry → ℕ → SumKind
-frame_model c (Event e) f = (event_of c e).model
-frame_model c entry f = (frame_of c f).model
+abbrev pub response_model : Parts → Entry → ℕ → SumKind
+response_model c (Event e) f = (event_of c e).model
+response_model c entry f = (frame_of c f).model
 
 -- a node's response is a frame of signals, or one of a message
 abbrev pub CanAnswer : Parts → Entry → Option ℕ → ℕ → Type 0

@@ -14,7 +14,7 @@ use Rattle.lin_core.specs.Logs.{LogData}
 use Rattle.lin_core.specs.Replies.{done_events}
 use Rattle.lin_core.specs.Slots.{moves, responses_after}
 use Rattle.lin_core.specs.kept.Slots.{slot_in, IsThere}
-use Rattle.lin_core.specs.kept.Signals.{Ends, KeepsSignals}
+use Rattle.lin_core.specs.kept.Signals.{EndsSlot, KeepsSignals}
 use Rattle.lin_core.specs.kept.Hosts.{KeepsHost, KeepsSender}
 use Rattle.lin_core.specs.kept.Receivers.{KeepsHeard}
 use Rattle.lin_core.specs.kept.Bus.{KeepsBus, bus_after}
@@ -54,14 +54,14 @@ pub record KeepsLate (c : Parts) (past : List LogEntry) (bus : BusState)
       → KeepsSender c past h host
 
 -- the end of a slot: it is closed, its delay is over, and the schedule and the bus go on
-pub record Passes (c : Parts) (slot : OpenSlot) (old new : State) : Type 0 where
+pub record ClosesSlot (c : Parts) (slot : OpenSlot) (old new : State) : Type 0 where
   pub shut : new.slot ≡ None
   pub clock : new.time ≡ old.time + (line_of c slot.table slot.entry).delay_us
   pub few : (line_of c slot.table slot.entry).delay_us ≤ 1000000000
   pub stands : (opening : ℕ) (moves : List Move) → Stands c opening old.walker moves
       → Stands c opening new.walker (SlotMove (is_clash (slot_in slot)) ∷ moves)
   pub walks : Walks c new.walker
-  pub signals : Ends c slot old.signals new.signals
+  pub signals : EndsSlot c slot old.signals new.signals
   pub bus : new.bus ≡ bus_after c (slot_in slot) old.bus
   pub ready : map response_in new.ready.items
       ≡ responses_after c (slot_in slot) (map response_in old.ready.items)
@@ -95,7 +95,7 @@ stage_data a = record {
 }
 
 -- the log is the history of its steps, and the state is that of the log
-pub record IsKept (a : Stage) : Type 0 where
+pub record IsConsistent (a : Stage) : Type 0 where
   pub few : length a.log < 2 ^ 32
   pub rules : IsCluster a.cluster
   pub sound : IsSound a.cluster
@@ -108,11 +108,11 @@ pub record IsKept (a : Stage) : Type 0 where
   pub history : IsHistory (stage_data a)
 
 abbrev pub IsWhole : Inside → Type 0
-IsWhole a = IsKept (stage a.setup a.log a.state)
+IsWhole a = IsConsistent (stage a.setup a.log a.state)
 
 -- there is a place in the log for the step, which isn't refused
-pub record IsReady (a : Stage) (by : PortId) (step : Step) : Type 0 where
-  pub whole : IsKept a
+pub record IsStepReady (a : Stage) (by : PortId) (step : Step) : Type 0 where
+  pub whole : IsConsistent a
   pub allowed : IsAllowed (stage_data a) by step
   pub few : length a.log < 2 ^ 32 - 1
 
@@ -126,7 +126,7 @@ done_of a by step = record {
 
 -- a step was made: its events are those that are due, and the state is that of the log with one
 -- more entry
-pub record IsMade (a : Stage) (by : PortId) (step : Step) (events : List Event)
+pub record IsExecuted (a : Stage) (by : PortId) (step : Step) (events : List Event)
     (new : State) : Type 0 where
   pub told : events ≡ done_events a.cluster a.opening (reverse a.log) by step
   pub kept : Keeps a.cluster a.opening a.capacity (a.log ++ done_of a by step ∷ [])
@@ -136,7 +136,7 @@ pub record IsMade (a : Stage) (by : PortId) (step : Step) (events : List Event)
   pub ready : KeepsReady a.cluster (done_of a by step ∷ reverse a.log) new.ready.items
 
 -- a step was made, or there was no memory, and what is kept is still that of the log
-abbrev pub Makes : {E : Type 0} → Stage → PortId → Step → Result (List Event) E → State → Type 0
-Makes a by step result new =
-    MatchResult result (λ events. IsMade a by step events new)
-    (λ e. IsKept (record a { state = new }))
+abbrev pub ExecutesStep : {E : Type 0} → Stage → PortId → Step → Result (List Event) E → State → Type 0
+ExecutesStep a by step result new =
+    MatchResult result (λ events. IsExecuted a by step events new)
+    (λ e. IsConsistent (record a { state = new }))

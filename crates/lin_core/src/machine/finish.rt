@@ -7,6 +7,7 @@ use crate::link::Cause;
 use crate::log::Log;
 use crate::machine::{three_events, two_events};
 use crate::messages::message_at;
+use crate::messages_to_all::events_to_all;
 use crate::payload::{Events, Payload};
 use crate::pdu::Pdu;
 use crate::port::PortId;
@@ -15,7 +16,6 @@ use crate::setup::Setup;
 use crate::sleep_losses::sleep_events;
 use crate::state::State;
 use crate::step::Step;
-use crate::told::events_to_all;
 use std::alloc::{AllocError, Global};
 
 /// The bytes of a message as they are told where its last frame is heard; before, none.
@@ -26,7 +26,7 @@ fn told_bytes(alloc: Global, last: bool, bytes: &[u8]) -> Result<Payload, AllocE
 }
 
 impl State {
-    ghost use Rattle.lin_core.specs.kept.State.{stage, IsMade, IsReady, Makes};
+    ghost use Rattle.lin_core.specs.kept.State.{stage, IsExecuted, IsStepReady, ExecutesStep};
     ghost use Rattle.lin_core.specs.History.{open_slot, Slot as OpenedSlot};
     ghost use Rattle.lin_core.specs.kept.Hosts.{is_next_to_all};
     ghost use Rattle.lin_core.specs.kept.Slots.{is_still, pdu_of, IsCarried};
@@ -34,10 +34,10 @@ impl State {
 
     /// A finish of a slot by which no message moves on, and the cluster stays awake.
     pub(super) fn finish_plain(&mut self, setup: &Setup, log: &Log, by: PortId) -> Events
-        requires ready { IsReady (stage setup.now log.now self.old) by Step.Finish }
+        requires ready { IsStepReady (stage setup.now log.now self.old) by Step.Finish }
         requires still { (s : OpenedSlot) → open_slot (reverse log.now.entries) ≡ Some s
             → is_still (pdu_of s) s.hurt ≡ true }
-        ensures { IsMade (stage setup.now log.now self.old) by Step.Finish result self.new }
+        ensures { IsExecuted (stage setup.now log.now self.old) by Step.Finish result self.new }
     {
         let seen = self.pass_slot(&setup.cluster);
         Events::one(Event::Seen(seen))
@@ -51,10 +51,10 @@ impl State {
         by: PortId,
         sender: u8,
     ) -> Result<Events, AllocError>
-        requires ready { IsReady (stage setup.now log.now self.old) by Step.Finish }
+        requires ready { IsStepReady (stage setup.now log.now self.old) by Step.Finish }
         requires carried { (s : OpenedSlot) → open_slot (reverse log.now.entries) ≡ Some s
             → (pdu_of s ≡ OfMessage sender) × (s.hurt ≡ true) }
-        ensures { Makes (stage setup.now log.now self.old) by Step.Finish result self.new }
+        ensures { ExecutesStep (stage setup.now log.now self.old) by Step.Finish result self.new }
     {
         let room = Vec::with_capacity(setup.alloc, 2)?;
         let seen = self.pass_slot(&setup.cluster);
@@ -72,10 +72,10 @@ impl State {
     /// A finish of a slot with a good frame to all responders: each of them that has an address is
     /// told of the message.
     fn finish_to_all(&mut self, setup: &Setup, log: &Log, by: PortId) -> Result<Events, AllocError>
-        requires ready { IsReady (stage setup.now log.now self.old) by Step.Finish }
+        requires ready { IsStepReady (stage setup.now log.now self.old) by Step.Finish }
         requires carried { IsCarried (reverse log.now.entries) 0 false }
         requires all { is_next_to_all setup.now.cluster (reverse log.now.entries) 0 ≡ true }
-        ensures { Makes (stage setup.now log.now self.old) by Step.Finish result self.new }
+        ensures { ExecutesStep (stage setup.now log.now self.old) by Step.Finish result self.new }
     {
         let room = Vec::with_capacity(setup.alloc, 2 + self.receivers.len())?;
         make_room_in_all(&mut self.receivers)?;
@@ -97,9 +97,9 @@ impl State {
         by: PortId,
         sender: u8,
     ) -> Result<Events, AllocError>
-        requires ready { IsReady (stage setup.now log.now self.old) by Step.Finish }
+        requires ready { IsStepReady (stage setup.now log.now self.old) by Step.Finish }
         requires carried { IsCarried (reverse log.now.entries) sender false }
-        ensures { Makes (stage setup.now log.now self.old) by Step.Finish result self.new }
+        ensures { ExecutesStep (stage setup.now log.now self.old) by Step.Finish result self.new }
     {
         let host = &self.hosts[sender as usize];
         let message = message_at(&setup.cluster, log, host.next() as usize);
@@ -142,10 +142,10 @@ impl State {
         log: &Log,
         by: PortId,
     ) -> Result<Events, AllocError>
-        requires ready { IsReady (stage setup.now log.now self.old) by Step.Finish }
+        requires ready { IsStepReady (stage setup.now log.now self.old) by Step.Finish }
         requires asleep { (s : OpenedSlot) → open_slot (reverse log.now.entries) ≡ Some s
             → (pdu_of s ≡ Sleep) × (s.hurt ≡ false) }
-        ensures { Makes (stage setup.now log.now self.old) by Step.Finish result self.new }
+        ensures { ExecutesStep (stage setup.now log.now self.old) by Step.Finish result self.new }
     {
         let room = Vec::with_capacity(setup.alloc, 2 + self.hosts.len())?;
         let seen = self.pass_slot(&setup.cluster);
@@ -160,8 +160,8 @@ impl State {
         log: &Log,
         by: PortId,
     ) -> Result<Events, AllocError>
-        requires ready { IsReady (stage setup.now log.now self.old) by Step.Finish }
-        ensures { Makes (stage setup.now log.now self.old) by Step.Finish result self.new }
+        requires ready { IsStepReady (stage setup.now log.now self.old) by Step.Finish }
+        ensures { ExecutesStep (stage setup.now log.now self.old) by Step.Finish result self.new }
     {
         let slot = self.slot.open();
         let hurt = slot.hurt;

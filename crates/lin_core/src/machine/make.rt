@@ -24,7 +24,7 @@ impl State {
     ghost use Rattle.lin_core.specs.kept.Slots.{frame_answered};
     ghost use Rattle.lin_core.specs.Core.{IsSmall};
     ghost use Rattle.lin_core.specs.History.{open_slot, Slot as OpenedSlot};
-    ghost use Rattle.lin_core.specs.kept.State.{stage, IsMade, IsReady, Makes};
+    ghost use Rattle.lin_core.specs.kept.State.{stage, IsExecuted, IsStepReady, ExecutesStep};
 
     /// A send that is accepted: its place in the log joins the sender's queue.
     fn send(
@@ -36,8 +36,8 @@ impl State {
         to: u8,
         message: &Payload,
     ) -> Events
-        requires { IsReady (stage setup.now log.now self.old) by (Step.Send from to message.now) }
-        ensures { IsMade (stage setup.now log.now self.old) by
+        requires { IsStepReady (stage setup.now log.now self.old) by (Step.Send from to message.now) }
+        ensures { IsExecuted (stage setup.now log.now self.old) by
             (Step.Send from to message.now) result self.new }
     {
         let place = log.len() as u32;
@@ -57,9 +57,9 @@ impl State {
         signal: u16,
         value: &Value,
     ) -> Events
-        requires { IsReady (stage setup.now log.now self.old) by
+        requires { IsStepReady (stage setup.now log.now self.old) by
             (Step.Write node signal value.now) }
-        ensures { IsMade (stage setup.now log.now self.old) by
+        ensures { IsExecuted (stage setup.now log.now self.old) by
             (Step.Write node signal value.now) result self.new }
     {
         self.signals.write(&setup.cluster, signal, *value);
@@ -68,8 +68,8 @@ impl State {
 
     /// A switch: the schedule goes on with a table.
     fn switch(&mut self, setup: &Setup, log: &Log, by: PortId, table: u16) -> Events
-        requires { IsReady (stage setup.now log.now self.old) by (Step.Switch table) }
-        ensures { IsMade (stage setup.now log.now self.old) by (Step.Switch table) result self.new }
+        requires { IsStepReady (stage setup.now log.now self.old) by (Step.Switch table) }
+        ensures { IsExecuted (stage setup.now log.now self.old) by (Step.Switch table) result self.new }
     {
         self.walker.switch(table);
         no_events(setup)
@@ -77,8 +77,8 @@ impl State {
 
     /// An open: the slot that the schedule names begins.
     fn open(&mut self, setup: &Setup, log: &Log, by: PortId) -> Result<Events, AllocError>
-        requires ready { IsReady (stage setup.now log.now self.old) by Step.Open }
-        ensures { Makes (stage setup.now log.now self.old) by Step.Open result self.new }
+        requires ready { IsStepReady (stage setup.now log.now self.old) by Step.Open }
+        ensures { ExecutesStep (stage setup.now log.now self.old) by Step.Open result self.new }
     {
         let place = self.walker.place();
         let waits = !self.hosts[0].queue.is_empty();
@@ -98,8 +98,8 @@ impl State {
 
     /// An answer.
     fn answer(&mut self, setup: &Setup, log: &Log, by: PortId, node: u8) -> Events
-        requires ready { IsReady (stage setup.now log.now self.old) by (Step.Answer node) }
-        ensures { IsMade (stage setup.now log.now self.old) by (Step.Answer node) result self.new }
+        requires ready { IsStepReady (stage setup.now log.now self.old) by (Step.Answer node) }
+        ensures { IsExecuted (stage setup.now log.now self.old) by (Step.Answer node) result self.new }
     {
         let slot = self.slot.open();
         if slot.service {
@@ -114,12 +114,12 @@ impl State {
     /// An answer with a frame of signals: the node puts it as the values stand, and the frame is
     /// pending no longer, unless the slot is then seen otherwise than good.
     fn answer_frame(&mut self, setup: &Setup, log: &Log, by: PortId, node: u8, frame: u16) -> Events
-        requires ready { IsReady (stage setup.now log.now self.old) by (Step.Answer node) }
+        requires ready { IsStepReady (stage setup.now log.now self.old) by (Step.Answer node) }
         requires plain { (s : OpenedSlot) → open_slot (reverse log.now.entries) ≡ Some s
             → s.service ≡ false }
         requires carried { frame_answered setup.now.cluster (reverse log.now.entries) node ≡ Some frame }
         requires frame { frame < length setup.now.cluster.frames }
-        ensures { IsMade (stage setup.now log.now self.old) by (Step.Answer node) result self.new }
+        ensures { IsExecuted (stage setup.now log.now self.old) by (Step.Answer node) result self.new }
     {
         let slot = self.slot.open();
         let header = slot.header();
@@ -143,11 +143,11 @@ impl State {
     /// An answer in a diagnostic slot: the node puts what comes next of its host's messages, or the
     /// commander the sleep frame.
     fn answer_message(&mut self, setup: &Setup, log: &Log, by: PortId, node: u8) -> Events
-        requires ready { IsReady (stage setup.now log.now self.old) by (Step.Answer node) }
+        requires ready { IsStepReady (stage setup.now log.now self.old) by (Step.Answer node) }
         requires plain { (s : OpenedSlot) → open_slot (reverse log.now.entries) ≡ Some s
             → s.service ≡ false }
         requires none { frame_answered setup.now.cluster (reverse log.now.entries) node ≡ None }
-        ensures { IsMade (stage setup.now log.now self.old) by (Step.Answer node) result self.new }
+        ensures { IsExecuted (stage setup.now log.now self.old) by (Step.Answer node) result self.new }
     {
         let header = self.slot.open().header();
         let sleeping = is_sleep_asked(header, self.bus.asked);
@@ -165,10 +165,10 @@ impl State {
 
     /// An answer in a slot for a service: the commander puts the request, a responder its response.
     fn answer_service(&mut self, setup: &Setup, log: &Log, by: PortId, node: u8) -> Events
-        requires ready { IsReady (stage setup.now log.now self.old) by (Step.Answer node) }
+        requires ready { IsStepReady (stage setup.now log.now self.old) by (Step.Answer node) }
         requires service { (s : OpenedSlot) → open_slot (reverse log.now.entries) ≡ Some s
             → s.service ≡ true }
-        ensures { IsMade (stage setup.now log.now self.old) by (Step.Answer node) result self.new }
+        ensures { IsExecuted (stage setup.now log.now self.old) by (Step.Answer node) result self.new }
     {
         let slot = self.slot.open();
         let header = slot.header();
@@ -187,8 +187,8 @@ impl State {
 
     /// A node leaves its response out.
     fn leave(&mut self, setup: &Setup, log: &Log, by: PortId, node: u8) -> Events
-        requires { IsReady (stage setup.now log.now self.old) by (Step.Leave node) }
-        ensures { IsMade (stage setup.now log.now self.old) by (Step.Leave node) result self.new }
+        requires { IsStepReady (stage setup.now log.now self.old) by (Step.Leave node) }
+        ensures { IsExecuted (stage setup.now log.now self.old) by (Step.Leave node) result self.new }
     {
         self.slot.leave(node);
         no_events(setup)
@@ -196,8 +196,8 @@ impl State {
 
     /// The one response in the slot is disturbed.
     fn hurt(&mut self, setup: &Setup, log: &Log, by: PortId, bytes: &Payload) -> Events
-        requires { IsReady (stage setup.now log.now self.old) by (Step.Hurt bytes.now) }
-        ensures { IsMade (stage setup.now log.now self.old) by
+        requires { IsStepReady (stage setup.now log.now self.old) by (Step.Hurt bytes.now) }
+        ensures { IsExecuted (stage setup.now log.now self.old) by
             (Step.Hurt bytes.now) result self.new }
     {
         self.slot.hurt();
@@ -206,8 +206,8 @@ impl State {
 
     /// An ask for sleep: the next frame of a message that isn't begun gives way to the sleep frame.
     fn ask_sleep(&mut self, setup: &Setup, log: &Log, by: PortId) -> Events
-        requires { IsReady (stage setup.now log.now self.old) by Step.AskSleep }
-        ensures { IsMade (stage setup.now log.now self.old) by Step.AskSleep result self.new }
+        requires { IsStepReady (stage setup.now log.now self.old) by Step.AskSleep }
+        ensures { IsExecuted (stage setup.now log.now self.old) by Step.AskSleep result self.new }
     {
         self.bus.asked = true;
         no_events(setup)
@@ -215,8 +215,8 @@ impl State {
 
     /// A wake: the schedule's table starts again.
     fn wake(&mut self, setup: &Setup, log: &Log, by: PortId) -> Events
-        requires { IsReady (stage setup.now log.now self.old) by Step.Wake }
-        ensures { IsMade (stage setup.now log.now self.old) by Step.Wake result self.new }
+        requires { IsStepReady (stage setup.now log.now self.old) by Step.Wake }
+        ensures { IsExecuted (stage setup.now log.now self.old) by Step.Wake result self.new }
     {
         self.walker.restart();
         self.bus.asleep = false;
@@ -225,8 +225,8 @@ impl State {
 
     /// A close: the host sends no more messages.
     fn close(&mut self, setup: &Setup, log: &Log, by: PortId, host: u8) -> Events
-        requires { IsReady (stage setup.now log.now self.old) by (Step.Close host) }
-        ensures { IsMade (stage setup.now log.now self.old) by (Step.Close host) result self.new }
+        requires { IsStepReady (stage setup.now log.now self.old) by (Step.Close host) }
+        ensures { IsExecuted (stage setup.now log.now self.old) by (Step.Close host) result self.new }
     {
         self.hosts[host as usize].closed = true;
         no_events(setup)
@@ -242,8 +242,8 @@ impl State {
         by: PortId,
         step: &Step,
     ) -> Result<Events, AllocError>
-        requires ready { IsReady (stage setup.now log.now self.old) by step.now }
-        ensures makes { Makes (stage setup.now log.now self.old) by step.now result self.new }
+        requires ready { IsStepReady (stage setup.now log.now self.old) by step.now }
+        ensures makes { ExecutesStep (stage setup.now log.now self.old) by step.now result self.new }
         ensures small { IsSmall step.now → IsOk result }
     {
         match step {

@@ -36,13 +36,13 @@ impl Core {
 }
 
 impl State {
-    ghost use Rattle.lin_core.specs.kept.State.{stage, IsMade, IsReady};
+    ghost use Rattle.lin_core.specs.kept.State.{stage, IsExecuted, IsStepReady};
 
     /// A timeout: the message that is begun there is lost, and its receiver forgets what it heard
     /// of it.
     pub(super) fn time_out(&mut self, setup: &Setup, log: &Log, by: PortId, link: Link) -> Events
-        requires { IsReady (stage setup.now log.now self.old) by (Step.Timeout link.node link.dir) }
-        ensures { IsMade (stage setup.now log.now self.old) by
+        requires { IsStepReady (stage setup.now log.now self.old) by (Step.Timeout link.node link.dir) }
+        ensures { IsExecuted (stage setup.now log.now self.old) by
             (Step.Timeout link.node link.dir) result self.new }
     {
         let host = link.sender();

@@ -5,7 +5,7 @@ ghost use Rattle.lin_parts.specs.Cluster.{nodes};
 ghost use Rattle.lin_core.specs.History.{is_host_closed, open_slot};
 ghost use Rattle.lin_core.specs.kept.Slots.{slot_in};
 ghost use Rattle.lin_core.specs.Links.{waiting};
-ghost use Rattle.lin_core.specs.Replies.{begun_on, has_address, is_addressed, longest, refusal};
+ghost use Rattle.lin_core.specs.Replies.{begun_on, has_route, has_responder_address, most_message_bytes, refusal};
 ghost use Rattle.lin_transport.specs.Transport.{functional};
 ghost use Rattle.lin_core.specs.declared.log.LogEntry.{LogEntry};
 
@@ -27,7 +27,7 @@ const TO_ALL_BYTES: usize = 6;
 
 /// The most bytes of a message to a receiver.
 fn longest(to: u8) -> usize
-    ensures { result ≡ longest to }
+    ensures { result ≡ most_message_bytes to }
 {
     if to == FUNCTIONAL {
         return TO_ALL_BYTES;
@@ -44,7 +44,7 @@ fn either(one: bool, other: bool) -> bool
 
 /// Whether a responder has an address.
 fn is_addressed(cluster: &Cluster) -> bool
-    ensures { result ≡ is_addressed cluster.now }
+    ensures { result ≡ has_responder_address cluster.now }
 {
     let mut found = false;
     for node in 0..cluster.nodes() as u8 {
@@ -58,7 +58,7 @@ fn is_addressed(cluster: &Cluster) -> bool
 fn has_address(cluster: &Cluster, from: u8, to: u8) -> bool
     requires from { from < nodes cluster.now }
     requires to { to ≢ functional → to < nodes cluster.now }
-    ensures { result ≡ has_address cluster.now from to }
+    ensures { result ≡ has_route cluster.now from to }
 {
     if to == FUNCTIONAL {
         return from == 0 && is_addressed(cluster);

@@ -5,7 +5,7 @@ ghost use Rattle.lin_frame.specs.Words.{numbers};
 ghost use Rattle.lin_log.specs.Words.{line_tail};
 ghost use Rattle.lin_parts.specs.Cluster.{frame_name, frame_of};
 ghost use Rattle.lin_text.specs.Written.{Grows, WritesText};
-ghost use Rattle.lin_export.specs.ListedFrames.{event_line, frame_line, frame_lines, frames, model_word};
+ghost use Rattle.lin_export.specs.ListedFrames.{event_line, frame_line, frame_lines, frame_listing, model_word};
 ghost use Rattle.lin_export.specs.ListedFrames.{place_line, places, sporadic_line};
 
 use lin_frame::{Place, SumKind};
@@ -167,7 +167,7 @@ fn put_events<W: Write>(out: &mut TextWriter<'_, W>, cluster: &Cluster)
 }
 
 fn put_frames<W: Write>(out: &mut TextWriter<'_, W>, cluster: &Cluster)
-    ensures { Grows W.contents out.old out.new (frames cluster.now) }
+    ensures { Grows W.contents out.old out.new (frame_listing cluster.now) }
 {
     put_unconditional(out, cluster);
     put_sporadics(out, cluster);
@@ -185,7 +185,7 @@ fn put_frames<W: Write>(out: &mut TextWriter<'_, W>, cluster: &Cluster)
 /// of 0 bytes. What was written then is the beginning of the lines.
 pub fn write_frames<W: Write>(cluster: &Cluster, writer: &mut W) -> Result<(), WriteFailed>
     ensures { WritesText (W.contents writer.old) (W.contents writer.new) result
-        (frames cluster.now) }
+        (frame_listing cluster.now) }
 {
     let mut buffer = TextBuffer::empty();
     let mut out = TextWriter::new(writer, &mut buffer);

@@ -9,7 +9,7 @@ ghost use Rattle.lin_text.specs.Written.{Grows, WritesText};
 ghost use Rattle.lin_export.specs.ListedFrames.{places};
 ghost use Rattle.lin_export.specs.ListedMaps.{bits_line, map_line, map_lines, maps, mark_line};
 ghost use Rattle.lin_export.specs.Listing.{numbered_lines};
-ghost use Rattle.lin_export.specs.Marks.{bit_mark, free_bits, mark};
+ghost use Rattle.lin_export.specs.Marks.{bit_mark, free_bits, signal_mark};
 
 use lin_frame::{Layout, Place};
 use lin_log::{Word, put_head, put_line, put_spaced, put_words};
@@ -19,7 +19,7 @@ use std::io::Write;
 
 /// The mark of a signal by its number among the places of its frame, which has at most 64.
 fn mark(number: usize) -> u8
-    ensures { result ≡ mark number }
+    ensures { result ≡ signal_mark number }
 {
     if number < 26 {
         b'A' + number as u8

@@ -4,14 +4,14 @@ ghost use Rattle.std.specs.Prelude.{◌≡◌, ◌<◌, ◌≤◌, length};
 ghost use Rattle.lin_log.specs.Shown.{word_shown};
 ghost use Rattle.lin_parts.specs.Cluster.{line_of, table_of};
 ghost use Rattle.lin_text.specs.Written.{Grows};
-ghost use Rattle.lin_export.specs.ListedTiming.{WritesTimings, frame_text, signal_text, slot_times};
+ghost use Rattle.lin_export.specs.ListedTiming.{WritesTimings, frame_timing_text, signal_timing_text, slot_times};
 ghost use Rattle.lin_export.specs.ListedTiming.{table_line, table_text, tightest_slot, time_word};
 ghost use Rattle.lin_export.specs.ListedTiming.{timing_text, transfer_text};
 ghost use Rattle.lin_export.specs.Listing.{numbered_lines};
 ghost use Rattle.lin_export.specs.Timings.{AreTimings};
 
 use crate::fault::ExportFault;
-use crate::listing::slots::{bits_of, permille, put_slack, slot_bytes};
+use crate::listing::slot_times::{bits_of, permille, put_slack, slot_bytes};
 use crate::listing::timings::{
     FrameTiming, Latency, TableTiming, frames_of_message, table_timings,
 };
@@ -97,7 +97,7 @@ fn put_frame<'a, W: Write>(
     timing: FrameTiming,
 )
     requires { frame < length cluster.now.frames }
-    ensures { Grows W.contents out.old out.new (frame_text cluster.now table frame timing) }
+    ensures { Grows W.contents out.old out.new (frame_timing_text cluster.now table frame timing) }
 {
     if !timing.occurs() {
         return;
@@ -124,7 +124,7 @@ fn put_frames<W: Write>(
 )
     requires { length timings.now ≡ length cluster.now.frames }
     ensures { Grows W.contents out.old out.new
-        (numbered_lines (frame_text cluster.now table) 0 timings.now) }
+        (numbered_lines (frame_timing_text cluster.now table) 0 timings.now) }
 {
     cluster.sound();
     for frame in 0..cluster.frames() as u16 {
@@ -141,7 +141,7 @@ fn put_signal<'a, W: Write>(
     latency: Option<Latency>,
 )
     requires { signal < length cluster.now.signals }
-    ensures { Grows W.contents out.old out.new (signal_text cluster.now table signal latency) }
+    ensures { Grows W.contents out.old out.new (signal_timing_text cluster.now table signal latency) }
 {
     if let Some(latency) = latency {
         put_line(
@@ -165,7 +165,7 @@ fn put_signals<W: Write>(
 )
     requires { length latencies.now ≡ length cluster.now.signals }
     ensures { Grows W.contents out.old out.new
-        (numbered_lines (signal_text cluster.now table) 0 latencies.now) }
+        (numbered_lines (signal_timing_text cluster.now table) 0 latencies.now) }
 {
     for signal in 0..cluster.signals() as u16 {
         put_signal(out, cluster, table, signal, latencies[signal as usize]);

@@ -3,7 +3,7 @@
 ghost use Rattle.std.specs.Prelude.{◌≡◌, ◌<◌, ◌≤◌, IfOk, length};
 ghost use Rattle.std.specs.List.{list_any};
 ghost use Rattle.lin_parts.specs.Cluster.{frames_with};
-ghost use Rattle.lin_export.specs.Timings.{AreAlike, AreFrameTimings, AreLatencies, AreTimings, IsFrameTiming};
+ghost use Rattle.lin_export.specs.Timings.{HaveSameFrames, AreFrameTimings, AreLatencies, AreTimings, IsFrameTiming};
 ghost use Rattle.lin_export.specs.Timings.{IsLatency, IsSignalLatency, IsTiming, frames_of_message, occurs, occurs_by};
 
 use lin_parts::Cluster;
@@ -107,7 +107,7 @@ fn first_alike(cluster: &Cluster, signal: u16) -> u16
 
 /// The first signal that the same frames have, for each signal.
 fn all_first_alike(alloc: Global, cluster: &Cluster) -> Result<Vec<u16>, AllocError>
-    ensures { IfOk result (λ all. AreAlike cluster.now all.items) }
+    ensures { IfOk result (λ all. HaveSameFrames cluster.now all.items) }
 {
     let mut all = Vec::new(alloc);
     for signal in 0..cluster.signals() as u16 {
@@ -204,7 +204,7 @@ fn latencies(
 ) -> Result<Vec<Option<Latency>>, AllocError>
     requires table { table < length cluster.now.tables }
     requires timings { AreFrameTimings cluster.now table timings.now }
-    requires alike { AreAlike cluster.now alike.now }
+    requires alike { HaveSameFrames cluster.now alike.now }
     ensures number { IfOk result (λ all. length all.items ≡ length cluster.now.signals) }
     ensures each { IfOk result (λ all. AreLatencies cluster.now table all.items) }
 {
@@ -228,7 +228,7 @@ impl TableTiming {
     ) -> Result<TableTiming, AllocError>
         requires table { table < length cluster.now.tables }
         requires bytes { bytes ≤ 4095 }
-        requires alike { AreAlike cluster.now alike.now }
+        requires alike { HaveSameFrames cluster.now alike.now }
         ensures { IfOk result (λ timing. IsTiming cluster.now table bytes timing) }
     {
         let frames = frame_timings(alloc, cluster, table)?;

@@ -4,12 +4,12 @@ ghost use Rattle.std.specs.Prelude.{◌≡◌, codes, map, option_map};
 ghost use Rattle.lin_text.specs.Written.{Grows};
 ghost use Rattle.lin_export.specs.CheckObject.{encodings_member, list_member};
 ghost use Rattle.lin_export.specs.ClusterObject.{encoding_object, item_object};
-ghost use Rattle.lin_export.specs.Csv.{comma};
-ghost use Rattle.lin_export.specs.Json.{joined, member, quoted};
-ghost use Rattle.lin_values.specs.declared.items.Item.TheVariants.{Logical, Physical};
+ghost use Rattle.lin_export.specs.Csv.{after_comma};
+ghost use Rattle.lin_export.specs.Json.{with_commas, member, quoted_text};
+ghost use Rattle.lin_values.specs.declared.codings.Item.TheVariants.{Logical, Physical};
 ghost use Rattle.lin_values.specs.Shown.{decimal_shown};
 
-use super::places::put_place;
+use super::positions::put_place;
 use crate::json::{Member, put_first, put_key, put_list, put_member, put_members, put_separator};
 use lin_text::TextWriter;
 use lin_values::{CodingType, Coefficient, Item, PlacedItem, put_decimal};
@@ -18,7 +18,7 @@ use std::io::Write;
 /// A scale or an offset as a text.
 fn put_coefficient<W: Write>(out: &mut TextWriter<'_, W>, key: &str, coefficient: &Coefficient)
     ensures { Grows W.contents out.old out.new
-        (comma (member key.now (quoted (decimal_shown coefficient.now)))) }
+        (after_comma (member key.now (quoted_text (decimal_shown coefficient.now)))) }
 {
     put_key(out, key);
     out.put_byte(b'"');
@@ -86,7 +86,7 @@ fn put_item<W: Write>(out: &mut TextWriter<'_, W>, item: &Item)
 
 fn put_all_items<W: Write>(out: &mut TextWriter<'_, W>, items: &[PlacedItem])
     ensures { Grows W.contents out.old out.new
-        (joined (map (λ p. item_object p.item) items.now)) }
+        (with_commas (map (λ p. item_object p.item) items.now)) }
 {
     for place in 0..items.len() {
         put_separator(out, place);
@@ -106,7 +106,7 @@ fn put_encoding<W: Write>(out: &mut TextWriter<'_, W>, encoding: &CodingType)
 }
 
 fn put_all_encodings<W: Write>(out: &mut TextWriter<'_, W>, encodings: &[CodingType])
-    ensures { Grows W.contents out.old out.new (joined (map encoding_object encodings.now)) }
+    ensures { Grows W.contents out.old out.new (with_commas (map encoding_object encodings.now)) }
 {
     for place in 0..encodings.len() {
         put_separator(out, place);
@@ -117,7 +117,7 @@ fn put_all_encodings<W: Write>(out: &mut TextWriter<'_, W>, encodings: &[CodingT
 /// The encodings, if they are read.
 pub(super) fn put_encodings<W: Write>(out: &mut TextWriter<'_, W>, encodings: Option<&[CodingType]>)
     ensures { Grows W.contents out.old out.new
-        (comma (encodings_member (option_map (λ e. e.now) encodings.entry))) }
+        (after_comma (encodings_member (option_map (λ e. e.now) encodings.entry))) }
 {
     match encodings {
         Some(encodings) => {

@@ -5,13 +5,13 @@ ghost use Rattle.lin_frame.specs.Words.{numbers};
 ghost use Rattle.lin_parts.specs.Cluster.{frame_name, frame_of};
 ghost use Rattle.lin_text.specs.Written.{Grows};
 ghost use Rattle.lin_export.specs.CheckObject.{list_member};
-ghost use Rattle.lin_export.specs.ClusterObject.{event_object, frame_object, frames_member, numbered};
+ghost use Rattle.lin_export.specs.ClusterObject.{event_object, frame_object, frames_member, numbered_values};
 ghost use Rattle.lin_export.specs.ClusterObject.{placed_declared, placed_object, sporadic_object};
-ghost use Rattle.lin_export.specs.Csv.{comma};
-ghost use Rattle.lin_export.specs.Json.{joined, quoted};
+ghost use Rattle.lin_export.specs.Csv.{after_comma};
+ghost use Rattle.lin_export.specs.Json.{with_commas, quoted_text};
 ghost use Rattle.lin_export.specs.ListedFrames.{places};
 
-use super::places::put_place;
+use super::positions::put_place;
 use crate::json::{
     Member, put_first, put_list, put_member, put_members, put_numbered_first, put_quoted,
     put_separator,
@@ -69,7 +69,7 @@ fn put_all_placed<W: Write>(
 )
     requires { frame < length cluster.now.frames }
     ensures { Grows W.contents out.old out.new
-        (joined (numbered (placed_object cluster.now description.now frame) 0
+        (with_commas (numbered_values (placed_object cluster.now description.now frame) 0
         (places (frame_of cluster.now frame)))) }
 {
     cluster.sound();
@@ -97,8 +97,8 @@ fn put_places<W: Write>(
     frame: u16,
 )
     requires { frame < length cluster.now.frames }
-    ensures { Grows W.contents out.old out.new (comma (list_member (codes "places")
-        (numbered (placed_object cluster.now description.now frame) 0
+    ensures { Grows W.contents out.old out.new (after_comma (list_member (codes "places")
+        (numbered_values (placed_object cluster.now description.now frame) 0
         (places (frame_of cluster.now frame))))) }
 {
     put_list(out, "places");
@@ -155,7 +155,7 @@ fn put_all_frames<W: Write>(
     description: &Description,
 )
     ensures { Grows W.contents out.old out.new
-        (joined (map (frame_object cluster.now description.now)
+        (with_commas (map (frame_object cluster.now description.now)
         (numbers (length cluster.now.frames)))) }
 {
     cluster.sound();
@@ -171,7 +171,7 @@ pub(super) fn put_frames<W: Write>(
     cluster: &Cluster,
     description: &Description,
 )
-    ensures { Grows W.contents out.old out.new (comma (list_member (codes "frames")
+    ensures { Grows W.contents out.old out.new (after_comma (list_member (codes "frames")
         (map (frame_object cluster.now description.now) (numbers (length cluster.now.frames))))) }
 {
     put_list(out, "frames");
@@ -181,7 +181,7 @@ pub(super) fn put_frames<W: Write>(
 
 fn put_frame_names<W: Write>(out: &mut TextWriter<'_, W>, cluster: &Cluster, frames: &[u16])
     ensures { Grows W.contents out.old out.new
-        (joined (map (λ f. quoted (frame_name cluster.now f)) frames.now)) }
+        (with_commas (map (λ f. quoted_text (frame_name cluster.now f)) frames.now)) }
 {
     for place in 0..frames.len() {
         put_separator(out, place);
@@ -191,7 +191,7 @@ fn put_frame_names<W: Write>(out: &mut TextWriter<'_, W>, cluster: &Cluster, fra
 
 /// The names of the frames that a sporadic or an event-triggered frame lists.
 fn put_members_of<W: Write>(out: &mut TextWriter<'_, W>, cluster: &Cluster, frames: &[u16])
-    ensures { Grows W.contents out.old out.new (comma (frames_member cluster.now frames.now)) }
+    ensures { Grows W.contents out.old out.new (after_comma (frames_member cluster.now frames.now)) }
 {
     put_list(out, "frames");
     put_frame_names(out, cluster, frames);
@@ -232,7 +232,7 @@ fn put_all_sporadics<W: Write>(
     description: &Description,
 )
     ensures { Grows W.contents out.old out.new
-        (joined (map (sporadic_object cluster.now description.now)
+        (with_commas (map (sporadic_object cluster.now description.now)
         (numbers (length cluster.now.sporadic)))) }
 {
     for sporadic in 0..cluster.sporadics() {
@@ -247,7 +247,7 @@ pub(super) fn put_sporadics<W: Write>(
     cluster: &Cluster,
     description: &Description,
 )
-    ensures { Grows W.contents out.old out.new (comma (list_member (codes "sporadic")
+    ensures { Grows W.contents out.old out.new (after_comma (list_member (codes "sporadic")
         (map (sporadic_object cluster.now description.now)
         (numbers (length cluster.now.sporadic))))) }
 {
@@ -300,7 +300,7 @@ fn put_all_events<W: Write>(
     description: &Description,
 )
     ensures { Grows W.contents out.old out.new
-        (joined (map (event_object cluster.now description.now)
+        (with_commas (map (event_object cluster.now description.now)
         (numbers (length cluster.now.events)))) }
 {
     cluster.sound();
@@ -316,7 +316,7 @@ pub(super) fn put_events<W: Write>(
     cluster: &Cluster,
     description: &Description,
 )
-    ensures { Grows W.contents out.old out.new (comma (list_member (codes "event")
+    ensures { Grows W.contents out.old out.new (after_comma (list_member (codes "event")
         (map (event_object cluster.now description.now) (numbers (length cluster.now.events))))) }
 {
     put_list(out, "event");

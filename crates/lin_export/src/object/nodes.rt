@@ -6,12 +6,12 @@ ghost use Rattle.lin_parts.specs.Cluster.{nodes};
 ghost use Rattle.lin_text.specs.Written.{Grows};
 ghost use Rattle.lin_export.specs.CheckObject.{list_member};
 ghost use Rattle.lin_export.specs.ClusterObject.{node_declared, node_object};
-ghost use Rattle.lin_export.specs.Csv.{comma};
-ghost use Rattle.lin_export.specs.Json.{joined, member};
+ghost use Rattle.lin_export.specs.Csv.{after_comma};
+ghost use Rattle.lin_export.specs.Json.{with_commas, member};
 ghost use Rattle.lin_export.specs.Jsonl.{nad_value};
 ghost use Rattle.lin_export.specs.Members.{member_shown};
 
-use super::places::put_place;
+use super::positions::put_place;
 use crate::json::{Member, put_list, put_members, put_numbered_first, put_separator};
 use lin_parts::Cluster;
 use lin_parts::description::{Description, Name};
@@ -65,7 +65,7 @@ fn put_all_nodes<W: Write>(
     description: &Description,
 )
     ensures { Grows W.contents out.old out.new
-        (joined (map (node_object cluster.now description.now) (numbers (nodes cluster.now)))) }
+        (with_commas (map (node_object cluster.now description.now) (numbers (nodes cluster.now)))) }
 {
     for node in 0..cluster.nodes() {
         put_separator(out, node);
@@ -79,7 +79,7 @@ pub(super) fn put_nodes<W: Write>(
     cluster: &Cluster,
     description: &Description,
 )
-    ensures { Grows W.contents out.old out.new (comma (list_member (codes "nodes")
+    ensures { Grows W.contents out.old out.new (after_comma (list_member (codes "nodes")
         (map (node_object cluster.now description.now) (numbers (nodes cluster.now))))) }
 {
     put_list(out, "nodes");

@@ -7,14 +7,14 @@ ghost use Rattle.lin_log.specs.Words.{spaced_word};
 ghost use Rattle.lin_text.specs.Written.{Grows};
 ghost use Rattle.lin_export.specs.CheckObject.{count_or_null, list_member, place_members, problem_line, problem_object};
 ghost use Rattle.lin_export.specs.CheckObject.{problem_words};
-ghost use Rattle.lin_export.specs.Csv.{comma};
+ghost use Rattle.lin_export.specs.Csv.{after_comma};
 ghost use Rattle.lin_export.specs.Found.{place_data, problem_data};
-ghost use Rattle.lin_export.specs.Json.{escaped_text, joined, member, null};
+ghost use Rattle.lin_export.specs.Json.{escaped_text, with_commas, member, null};
 ghost use Rattle.lin_export.specs.Members.{member_shown};
 
 use crate::json::{Member, put_first, put_list, put_member, put_members, put_separator};
 use lin_log::{put_number, put_word};
-use lin_parts::Place;
+use lin_parts::Location;
 use lin_text::{Text, TextWriter};
 use std::io::Write;
 
@@ -28,7 +28,7 @@ pub struct Problem {
     pub name: &'static str,
     /// The time in microseconds that a short slot needs.
     pub needed_us: Option<u64>,
-    pub place: Option<Place>,
+    pub place: Option<Location>,
     /// The token at the place, as it is shown.
     pub token: Option<Text>,
 }
@@ -52,8 +52,8 @@ fn needed_member(needed_us: Option<u64>) -> Member<'static>
 }
 
 /// A line and a column.
-fn put_place<W: Write>(out: &mut TextWriter<'_, W>, place: Option<Place>)
-    ensures { Grows W.contents out.old out.new (flat_map comma (place_members (place_data place))) }
+fn put_place<W: Write>(out: &mut TextWriter<'_, W>, place: Option<Location>)
+    ensures { Grows W.contents out.old out.new (flat_map after_comma (place_members (place_data place))) }
 {
     match place {
         Some(place) => put_members(
@@ -96,7 +96,7 @@ fn put_problem<W: Write>(out: &mut TextWriter<'_, W>, problem: &Problem)
 
 fn put_each_problem<W: Write>(out: &mut TextWriter<'_, W>, problems: &[Problem])
     ensures { Grows W.contents out.old out.new
-        (joined (map (λ p. problem_object (problem_data p)) problems.now)) }
+        (with_commas (map (λ p. problem_object (problem_data p)) problems.now)) }
 {
     for place in 0..problems.len() {
         put_separator(out, place);
@@ -107,7 +107,7 @@ fn put_each_problem<W: Write>(out: &mut TextWriter<'_, W>, problems: &[Problem])
 /// The problems that are reported.
 pub(super) fn put_problems<W: Write>(out: &mut TextWriter<'_, W>, problems: &[Problem])
     ensures { Grows W.contents out.old out.new
-        (comma (list_member (codes "told") (map (λ p. problem_object (problem_data p)) problems.now))) }
+        (after_comma (list_member (codes "told") (map (λ p. problem_object (problem_data p)) problems.now))) }
 {
     put_list(out, "told");
     put_each_problem(out, problems);
@@ -142,7 +142,7 @@ fn put_words<W: Write>(out: &mut TextWriter<'_, W>, problem: &Problem)
 }
 
 /// The line and the column, each after a colon.
-fn put_line_place<W: Write>(out: &mut TextWriter<'_, W>, place: Option<Place>)
+fn put_line_place<W: Write>(out: &mut TextWriter<'_, W>, place: Option<Location>)
     ensures { Grows W.contents out.old out.new (option_map_or
         (λ p. 58 ∷ (decimal p.0 ++ 58 ∷ decimal p.1)) (place_data place) []) }
 {

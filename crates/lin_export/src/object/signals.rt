@@ -7,13 +7,13 @@ ghost use Rattle.lin_parts.specs.Rules.{is_array};
 ghost use Rattle.lin_text.specs.Written.{Grows};
 ghost use Rattle.lin_export.specs.CheckObject.{list_member};
 ghost use Rattle.lin_export.specs.ClusterObject.{encoding_value, signal_object, subscribers};
-ghost use Rattle.lin_export.specs.Csv.{comma};
-ghost use Rattle.lin_export.specs.Json.{array, joined, member, quoted};
+ghost use Rattle.lin_export.specs.Csv.{after_comma};
+ghost use Rattle.lin_export.specs.Json.{json_array, with_commas, member, quoted_text};
 ghost use Rattle.lin_export.specs.Jsonl.{signal_value};
 ghost use Rattle.lin_export.specs.Members.{member_shown};
-ghost use Rattle.lin_export.specs.WhereTold.{told};
+ghost use Rattle.lin_export.specs.WhereTold.{given_coding};
 
-use super::places::put_place;
+use super::positions::put_place;
 use crate::json::{
     Member, put_key, put_list, put_member, put_members, put_numbered_first, put_quoted,
     put_separator,
@@ -65,7 +65,7 @@ fn subscribers(description: &Description, signal: u16) -> &[Name]
 }
 
 fn put_names<W: Write>(out: &mut TextWriter<'_, W>, names: &[Name])
-    ensures { Grows W.contents out.old out.new (joined (map (λ n. quoted n.text) names.now)) }
+    ensures { Grows W.contents out.old out.new (with_commas (map (λ n. quoted_text n.text) names.now)) }
 {
     for place in 0..names.len() {
         put_separator(out, place);
@@ -75,7 +75,7 @@ fn put_names<W: Write>(out: &mut TextWriter<'_, W>, names: &[Name])
 
 fn encoding_member<'a>(coded: Option<&'a Coded>, signal: u16) -> Member<'a>
     ensures { member_shown result
-        ≡ member (codes "encoding") (encoding_value (told coded.entry) signal) }
+        ≡ member (codes "encoding") (encoding_value (given_coding coded.entry) signal) }
 {
     match coded {
         Some(coded) => match coded.encoding_of(signal) {
@@ -89,7 +89,7 @@ fn encoding_member<'a>(coded: Option<&'a Coded>, signal: u16) -> Member<'a>
 /// The initial value of a signal.
 fn put_initial<W: Write>(out: &mut TextWriter<'_, W>, value: &Value)
     ensures { Grows W.contents out.old out.new
-        (comma (member (codes "initial") (signal_value value.now))) }
+        (after_comma (member (codes "initial") (signal_value value.now))) }
 {
     put_key(out, "initial");
     put_value(out, value);
@@ -97,7 +97,7 @@ fn put_initial<W: Write>(out: &mut TextWriter<'_, W>, value: &Value)
 
 fn put_subscribers<W: Write>(out: &mut TextWriter<'_, W>, names: &[Name])
     ensures { Grows W.contents out.old out.new
-        (comma (list_member (codes "subscribers") (map (λ n. quoted n.text) names.now))) }
+        (after_comma (list_member (codes "subscribers") (map (λ n. quoted_text n.text) names.now))) }
 {
     put_list(out, "subscribers");
     put_names(out, names);
@@ -113,7 +113,7 @@ fn put_signal<'a, W: Write>(
 )
     requires { signal < length cluster.now.signals }
     ensures { Grows W.contents out.old out.new
-        (signal_object cluster.now description.now (told coded.entry) signal) }
+        (signal_object cluster.now description.now (given_coding coded.entry) signal) }
 {
     cluster.sound();
     let initial = cluster.initial(signal);
@@ -144,7 +144,7 @@ fn put_all_signals<W: Write>(
     coded: Option<&Coded>,
 )
     ensures { Grows W.contents out.old out.new
-        (joined (map (signal_object cluster.now description.now (told coded.entry))
+        (with_commas (map (signal_object cluster.now description.now (given_coding coded.entry))
         (numbers (length cluster.now.signals)))) }
 {
     for signal in 0..cluster.signals() {
@@ -160,8 +160,8 @@ pub(super) fn put_signals<W: Write>(
     description: &Description,
     coded: Option<&Coded>,
 )
-    ensures { Grows W.contents out.old out.new (comma (list_member (codes "signals")
-        (map (signal_object cluster.now description.now (told coded.entry))
+    ensures { Grows W.contents out.old out.new (after_comma (list_member (codes "signals")
+        (map (signal_object cluster.now description.now (given_coding coded.entry))
         (numbers (length cluster.now.signals))))) }
 {
     put_list(out, "signals");

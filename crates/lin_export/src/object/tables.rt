@@ -7,14 +7,14 @@ ghost use Rattle.lin_parts.specs.Cluster.{table_of};
 ghost use Rattle.lin_text.specs.Written.{Grows};
 ghost use Rattle.lin_export.specs.CheckObject.{list_member};
 ghost use Rattle.lin_export.specs.ClusterObject.{entry_declared, entry_object, table_object};
-ghost use Rattle.lin_export.specs.Csv.{comma};
-ghost use Rattle.lin_export.specs.Json.{joined};
+ghost use Rattle.lin_export.specs.Csv.{after_comma};
+ghost use Rattle.lin_export.specs.Json.{with_commas};
 
-use super::places::put_place;
+use super::positions::put_place;
 use crate::json::{
     Member, put_first, put_key, put_list, put_members, put_numbered_first, put_separator,
 };
-use crate::listing::slots::{bits_of, delay_of, permille, put_slack, slot_bytes};
+use crate::listing::slot_times::{bits_of, delay_of, permille, put_slack, slot_bytes};
 use lin_cluster::needed_us;
 use lin_parts::Cluster;
 use lin_parts::description::{Description, Name};
@@ -74,7 +74,7 @@ fn put_all_entries<W: Write>(
 )
     requires { table < length cluster.now.tables }
     ensures { Grows W.contents out.old out.new
-        (joined (map (entry_object cluster.now description.now table)
+        (with_commas (map (entry_object cluster.now description.now table)
         (numbers (length (table_of cluster.now table))))) }
 {
     for entry in 0..cluster.entries(table) {
@@ -91,7 +91,7 @@ fn put_entries<W: Write>(
     table: u16,
 )
     requires { table < length cluster.now.tables }
-    ensures { Grows W.contents out.old out.new (comma (list_member (codes "entries")
+    ensures { Grows W.contents out.old out.new (after_comma (list_member (codes "entries")
         (map (entry_object cluster.now description.now table)
         (numbers (length (table_of cluster.now table)))))) }
 {
@@ -143,7 +143,7 @@ fn put_all_tables<W: Write>(
     description: &Description,
 )
     ensures { Grows W.contents out.old out.new
-        (joined (map (table_object cluster.now description.now)
+        (with_commas (map (table_object cluster.now description.now)
         (numbers (length cluster.now.tables)))) }
 {
     for table in 0..cluster.tables() {
@@ -158,7 +158,7 @@ pub(super) fn put_tables<W: Write>(
     cluster: &Cluster,
     description: &Description,
 )
-    ensures { Grows W.contents out.old out.new (comma (list_member (codes "tables")
+    ensures { Grows W.contents out.old out.new (after_comma (list_member (codes "tables")
         (map (table_object cluster.now description.now) (numbers (length cluster.now.tables))))) }
 {
     put_list(out, "tables");

@@ -2,7 +2,7 @@
 
 ghost use Rattle.std.specs.Prelude.{◌≡◌, ◌<◌, ◌≤◌, ◌+◌, drop, vec_len, length};
 ghost use Rattle.lin_parts.specs.Cluster.{nodes};
-ghost use Rattle.lin_threads.specs.Lanes.{AllServe, InOrder, OnlyOwn};
+ghost use Rattle.lin_threads.specs.Lanes.{AllServe, AreInPortOrder, OnlyOwn};
 
 use crate::ports::Receipt;
 use crate::ports::lane::Lane;
@@ -38,7 +38,7 @@ pub struct Pump {
     ghost count: { vec_len lanes ≡ nodes core.cluster + nodes core.cluster },
     ghost few: { nodes core.cluster ≤ 16 },
     ghost serves: { AllServe base core.log lanes.items },
-    ghost order: { InOrder (nodes core.cluster) lanes.items },
+    ghost order: { AreInPortOrder (nodes core.cluster) lanes.items },
     ghost own: { OnlyOwn (drop base core.log) },
 }
 

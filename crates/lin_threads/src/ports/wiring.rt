@@ -6,7 +6,7 @@ ghost use Rattle.lin_parts.specs.Cluster.{nodes};
 ghost use Rattle.lin_threads.specs.Lanes.{lane_wiring};
 ghost use Rattle.lin_threads.specs.Ports.{host_wiring, node_wiring};
 ghost use Rattle.lin_threads.specs.Pumps.{core_of, since, wirings};
-ghost use Rattle.lin_threads.specs.Wired.{AreHosts, AreNewLanes, AreNodes, IsNewHost, IsNewLane};
+ghost use Rattle.lin_threads.specs.Wired.{AreHostPorts, AreNewLanes, AreNodePorts, IsNewHost, IsNewLane};
 ghost use Rattle.lin_threads.specs.Wired.{IsNewNode};
 
 use crate::ports::host_port::HostPort;
@@ -88,7 +88,7 @@ fn open_hosts(
     requires { lanes.old.items ≡ [] }
     ensures lanes { IfOk result (λ ports. AreNewLanes nodes seen lanes.new.items) }
     ensures count { IfOk result (λ ports. length lanes.new.items ≡ nodes) }
-    ensures ports { IfOk result (λ ports. AreHosts ring nodes ports.items) }
+    ensures ports { IfOk result (λ ports. AreHostPorts ring nodes ports.items) }
     ensures wirings { IfOk result
         (λ ports. map lane_wiring lanes.new.items ≡ map host_wiring ports.items) }
 {
@@ -112,7 +112,7 @@ fn open_nodes(
     requires count { length lanes.old.items ≡ nodes }
     ensures lanes { IfOk result (λ ports. AreNewLanes nodes seen lanes.new.items) }
     ensures count { IfOk result (λ ports. length lanes.new.items ≡ nodes + nodes) }
-    ensures ports { IfOk result (λ ports. AreNodes ring nodes ports.items) }
+    ensures ports { IfOk result (λ ports. AreNodePorts ring nodes ports.items) }
     ensures wirings { IfOk result
         (λ ports. map lane_wiring lanes.new.items
         ≡ map lane_wiring lanes.old.items ++ map node_wiring ports.items) }
@@ -140,8 +140,8 @@ pub fn wire(
     ensures since { IfOk result (λ r. since r.0 ≡ []) }
     ensures ports { IfOk result
         (λ r. wirings r.0 ≡ map host_wiring r.1.items ++ map node_wiring r.2.items) }
-    ensures hosts { IfOk result (λ r. AreHosts ring (nodes core.cluster) r.1.items) }
-    ensures nodes { IfOk result (λ r. AreNodes ring (nodes core.cluster) r.2.items) }
+    ensures hosts { IfOk result (λ r. AreHostPorts ring (nodes core.cluster) r.1.items) }
+    ensures nodes { IfOk result (λ r. AreNodePorts ring (nodes core.cluster) r.2.items) }
 {
     let nodes = core.cluster().nodes() as u8;
     let base = core.log().len();

@@ -15,37 +15,37 @@ use Rattle.lin_core.specs.declared.port.PortId.{PortId}
 use Rattle.lin_core.specs.declared.port.PortId.TheVariants.{Bus, Host, Node}
 use Rattle.lin_core.specs.declared.reply.Refusal.{Refusal}
 use Rattle.lin_core.specs.declared.step.Step.{Step}
-use Rattle.lin_log.specs.Language.{Language, named, plain}
+use Rattle.lin_log.specs.Language.{Language, named_language, plain}
 use Rattle.lin_log.specs.Laws.{FitsEntry}
-use Rattle.lin_log.specs.Said.{is_comment, is_gap, is_text, step_form}
+use Rattle.lin_log.specs.Said.{is_comment, is_gap, is_not_empty, step_form}
 use Rattle.lin_log.specs.Words.{log_text, reply_line, step_line}
 use Rattle.lin_log.proofs.Runs.{steps_of-reverse}
 use Rattle.lin_export.specs.Named.{reply_lines}
-use Rattle.lin_bench.specs.Fields.{fields}
+use Rattle.lin_bench.specs.Fields.{line_fields}
 use Rattle.lin_values.specs.Coded.{CodedData}
-use Rattle.lin_bench.specs.Lines.{line_form, of_fields, read_line}
+use Rattle.lin_bench.specs.Lines.{line_form, line_of_fields, read_line}
 use Rattle.lin_bench.specs.Plain.{SaysSteps}
-use Rattle.lin_bench.specs.Scripts.{Script, read, read_lines, with_said, without_mark}
+use Rattle.lin_bench.specs.Scripts.{Script, read, read_lines, with_read_line, without_mark}
 use Rattle.lin_bench.specs.Words.{read_worded_line, worded}
 use Rattle.lin_bench.specs.Made.{made}
 use Rattle.lin_bench.specs.Strict.{entries_since, first_refusal}
 use Rattle.lin_bench.specs.declared.got.Verdict.{Verdict}
 use Rattle.lin_bench.specs.declared.got.Verdict.TheVariants.{Nothing, Met, Unmet, SlotLimit}
-use Rattle.lin_bench.specs.declared.line.Line.{Line}
+use Rattle.lin_bench.specs.declared.line.ScriptLine.{ScriptLine}
 use Rattle.lin_bench.specs.declared.reason.Reason.{Reason as ScriptReason}
 use Rattle.lin_live.proofs.Cuts.{pieces-some}
 use Rattle.lin_live.proofs.Growth.{Keeps, kept-made}
 use Rattle.lin_live.proofs.Plays.{live-is-play}
-use Rattle.lin_live.specs.Lines.{but_last, last_line, last_one, lines, pieces}
-use Rattle.lin_live.specs.Play.{IsPlain, asks, in_hand_of, nothing}
-use Rattle.lin_live.specs.Told.{HandData, entries_text, heard_as, in_words, reply, shown_coding, steps_ending, told, unmarked, verdict_ending}
-use Rattle.lin_live.specs.Transcript.{after, most_bytes, short, transcript}
-use Rattle.lin_live.specs.declared.format.AnswerFormat.{AnswerFormat}
-use Rattle.lin_live.specs.declared.format.AnswerFormat.TheVariants.{Log, Named}
+use Rattle.lin_live.specs.Lines.{but_last, last_line, last_one, lines, pieces_at_lf}
+use Rattle.lin_live.specs.Play.{IsPlain, is_question, in_hand_of, empty_run}
+use Rattle.lin_live.specs.Told.{HandData, entries_text, heard_as, verdict_with_meaning, reply, shown_coding, steps_ending, heard_answer, without_byte_order_mark, verdict_ending}
+use Rattle.lin_live.specs.Transcript.{state_after, most_bytes, short, transcript}
+use Rattle.lin_live.specs.declared.answer_format.AnswerFormat.{AnswerFormat}
+use Rattle.lin_live.specs.declared.answer_format.AnswerFormat.TheVariants.{Log, Named}
 use Rattle.lin_live.specs.declared.heard.Heard.{Heard}
 use Rattle.lin_live.specs.declared.heard.Heard.TheVariants.{Ask, Make}
 use Rattle.lin_live.specs.declared.reason.Reason.{Reason}
-use Rattle.lin_tool.specs.laws.Transcripts.{AreShort, FitsCluster, IsTranscript, TranscriptsAreInputs, anew, log_of}
+use Rattle.lin_tool.specs.laws.Transcripts.{AreShort, FitsCluster, IsTranscript, TranscriptsAreInputs, anew, log_after}
 use Rattle.lin_tool.proofs.laws.LogLines.{plain_replies}
 use Rattle.lin_tool.proofs.laws.Scripts.{strip-first, transcripts-are-bench-scripts}
 
@@ -59,81 +59,81 @@ history-keeps c opening capacity past s h = ap (λ (p : List LogEntry). entry_of
 abbrev HasHistory : HandData → Type 0
 HasHistory h = IsHistory h.cluster h.opening h.capacity h.bench.past
 
-told-history : (h : HandData) (said : Result (Option Heard) Reason) → HasHistory h → HasHistory (told h said).0
+told-history : (h : HandData) (said : Result (Option Heard) Reason) → HasHistory h → HasHistory (heard_answer h said).0
 told-history h (Err why) k = k
 told-history h (Ok None) k = k
 told-history h (Ok (Some (Ask asked))) k = k
 told-history h (Ok (Some (Make line))) k =
     kept-made h.cluster h.opening h.capacity (IsHistory h.cluster h.opening h.capacity) (history-keeps h.cluster h.opening h.capacity) h.bench line k
 
-after-history : (h : HandData) (ls : List (List ℕ)) → HasHistory h → HasHistory (after reply h ls)
+after-history : (h : HandData) (ls : List (List ℕ)) → HasHistory h → HasHistory (state_after reply h ls)
 after-history h [] k = k
 after-history h (line ∷ more) k =
-    after-history (reply h (short line)).0 more (told-history (record h { begun = true }) (heard_as h.cluster h.coded (unmarked h (short line))) k)
+    after-history (reply h (short line)).0 more (told-history (record h { begun = true }) (heard_as h.cluster h.coded (without_byte_order_mark h (short line))) k)
 
 -- what stays of a bench in hand
 abbrev Stays : HandData → HandData → Type 0
 Stays h k = (k.cluster ≡ h.cluster) × (k.opening ≡ h.opening) × (k.capacity ≡ h.capacity)
 
-told-stays : (h : HandData) (said : Result (Option Heard) Reason) → Stays h (told h said).0
+told-stays : (h : HandData) (said : Result (Option Heard) Reason) → Stays h (heard_answer h said).0
 told-stays h (Err why) = (refl, refl, refl)
 told-stays h (Ok None) = (refl, refl, refl)
 told-stays h (Ok (Some (Ask asked))) = (refl, refl, refl)
 told-stays h (Ok (Some (Make line))) = (refl, refl, refl)
 
-after-stays : (h : HandData) (ls : List (List ℕ)) → Stays h (after reply h ls)
+after-stays : (h : HandData) (ls : List (List ℕ)) → Stays h (state_after reply h ls)
 after-stays h [] = (refl, refl, refl)
 after-stays h (line ∷ more) =
-    let one = told-stays (record h { begun = true }) (heard_as h.cluster h.coded (unmarked h (short line))) in
+    let one = told-stays (record h { begun = true }) (heard_as h.cluster h.coded (without_byte_order_mark h (short line))) in
     let rest = after-stays (reply h (short line)).0 more in
     (rest.0 ∙ one.0, rest.1 ∙ one.1, rest.2 ∙ one.2)
 
 log-again : (h : HandData) (ls : List (List ℕ)) → IsTranscript h ls
-    → history h.cluster h.opening h.capacity (reverse (steps_of (log_of h ls))) ≡ (after reply h ls).bench.past
+    → history h.cluster h.opening h.capacity (reverse (steps_of (log_after h ls))) ≡ (state_after reply h ls).bench.past
 log-again h ls t =
-    let k = after reply h ls in
+    let k = state_after reply h ls in
     let s = after-stays h ls in
     let was : HasHistory k = after-history h ls (rw (t.begins) refl) in
     ap (history h.cluster h.opening h.capacity) (ap reverse (steps_of-reverse k.bench.past) ∙ reverse-reverse (steps_of k.bench.past)) ∙ sym (rw (s.0, s.1, s.2) at was)
 
 -- ---- no line of a bench script asks
-is-text : (x : ℕ) (xs : List ℕ) → is_text (x ∷ xs) ≡ true
+is-text : (x : ℕ) (xs : List ℕ) → is_not_empty (x ∷ xs) ≡ true
 is-text x xs = grind (arith, common_steps)
 
-first-by : (ps : List (List ℕ)) → asks (take_while (λ f. not (is_comment true f)) (filter is_text (onto_first 62 ps))) ≡ false
+first-by : (ps : List (List ℕ)) → is_question (take_while (λ f. not (is_comment true f)) (filter is_not_empty (onto_first 62 ps))) ≡ false
 first-by [] = refl
 first-by (p ∷ ps) = rw (is-text 62 p, one-add) refl
 
 is-reply : (x : ℕ) → (x == 62) ≡ true → x ≡ 62
 is-reply x h = grind (arith, common_steps)
 
-reply-asks : (line : List ℕ) → (slice_index line 0 == 62) ≡ true → asks (fields line) ≡ false
+reply-asks : (line : List ℕ) → (slice_index line 0 == 62) ≡ true → is_question (line_fields line) ≡ false
 reply-asks [] h = absurd (cc)
 reply-asks (x ∷ xs) h = let is = is-reply x h in rw is (first-by (slice_split (is_gap true) xs))
 
-asking-bad : (c : Parts) (fs : List (List ℕ)) (said : Option Line) → of_fields c (codes "?" ∷ fs) ≡ Ok said → ⊥
+asking-bad : (c : Parts) (fs : List (List ℕ)) (said : Option ScriptLine) → line_of_fields c (codes "?" ∷ fs) ≡ Ok said → ⊥
 unfolding line_form step_form
 asking-bad c fs said e = absurd (cc)
 
-word-asks : (c : Parts) (w : List ℕ) (fs : List (List ℕ)) (said : Option Line) (t : Bool) → bytes_eq w (codes "?") ≡ t → of_fields c (w ∷ fs) ≡ Ok said → t ≡ false
+word-asks : (c : Parts) (w : List ℕ) (fs : List (List ℕ)) (said : Option ScriptLine) (t : Bool) → bytes_eq w (codes "?") ≡ t → line_of_fields c (w ∷ fs) ≡ Ok said → t ≡ false
 word-asks c w fs said false h e = refl
 word-asks c w fs said true h e = let is = (bytes_eq-Decides w (codes "?")).0 h in absurd (asking-bad c fs said (rw is at e))
 
-fields-ask : (c : Parts) (fs : List (List ℕ)) (said : Option Line) → of_fields c fs ≡ Ok said → asks fs ≡ false
+fields-ask : (c : Parts) (fs : List (List ℕ)) (said : Option ScriptLine) → line_of_fields c fs ≡ Ok said → is_question fs ≡ false
 fields-ask c [] said e = refl
 fields-ask c (w ∷ fs) said e = word-asks c w fs said (bytes_eq w (codes "?")) refl e
 
-line-by : (c : Parts) (line : List ℕ) (said : Option Line) (t : Bool) → (slice_index line 0 == 62) ≡ t
-    → (if t then Ok None else of_fields c (fields line)) ≡ Ok said → asks (fields line) ≡ false
+line-by : (c : Parts) (line : List ℕ) (said : Option ScriptLine) (t : Bool) → (slice_index line 0 == 62) ≡ t
+    → (if t then Ok None else line_of_fields c (line_fields line)) ≡ Ok said → is_question (line_fields line) ≡ false
 line-by c line said true h e = reply-asks line h
-line-by c line said false h e = fields-ask c (fields line) said e
+line-by c line said false h e = fields-ask c (line_fields line) said e
 
-line-asks : (c : Parts) (line : List ℕ) (said : Option Line) → read_worded_line c None line ≡ Ok said → asks (fields line) ≡ false
+line-asks : (c : Parts) (line : List ℕ) (said : Option ScriptLine) → read_worded_line c None line ≡ Ok said → is_question (line_fields line) ≡ false
 unfolding read_worded_line read_line
 line-asks c line said e = line-by c line said (slice_index line 0 == 62) refl e
 
-reading-goes : (n : ℕ) (r : Result (Option Line) ScriptReason) (more : Script) (said : List (ℕ × Line)) → with_said n r more ≡ Ok said
-    → ((o : Option Line) × (r ≡ Ok o)) × ((rest : List (ℕ × Line)) × (more ≡ Ok rest))
+reading-goes : (n : ℕ) (r : Result (Option ScriptLine) ScriptReason) (more : Script) (said : List (ℕ × ScriptLine)) → with_read_line n r more ≡ Ok said
+    → ((o : Option ScriptLine) × (r ≡ Ok o)) × ((rest : List (ℕ × ScriptLine)) × (more ≡ Ok rest))
 reading-goes n (Err why) more said e = absurd (cc)
 reading-goes n (Ok None) more said e = ((None, refl), (said, e))
 reading-goes n (Ok (Some l)) (Ok rest) said e = ((Some l, refl), (rest, refl))
@@ -142,7 +142,7 @@ reading-goes n (Ok (Some l)) (Err bad) said e = absurd (cc)
 abbrev IsShort : List ℕ → Type 0
 IsShort p = length (strip_carriage_return p) ≤ most_bytes
 
-all-plain : (c : Parts) (n : ℕ) (ps : List (List ℕ)) (said : List (ℕ × Line)) → AllByRecursion IsShort ps → read_lines c None n ps ≡ Ok said → AllByRecursion IsPlain ps
+all-plain : (c : Parts) (n : ℕ) (ps : List (List ℕ)) (said : List (ℕ × ScriptLine)) → AllByRecursion IsShort ps → read_lines c None n ps ≡ Ok said → AllByRecursion IsPlain ps
 all-plain c n [] said k e = tt
 all-plain c n (p ∷ ps) said k e =
     let r = reading-goes n (read_worded_line c None (strip_carriage_return p)) (read_lines c None (n + 1) ps) said e in
@@ -166,7 +166,7 @@ entries-begin Named c k past [] last rest b = b
 entries-begin Log c k past (e ∷ es) last rest b =
     step-begins plain e.port e.step (flat_map reply_line (plain_replies e []) ++ log_text plain plain_replies (e ∷ []) es) last rest
 entries-begin Named c k past (e ∷ es) last rest b =
-    step-begins (named c) e.port e.step (flat_map reply_line (reply_lines c k e past) ++ log_text (named c) (reply_lines c k) (e ∷ past) es) last rest
+    step-begins (named_language c) e.port e.step (flat_map reply_line (reply_lines c k e past) ++ log_text (named_language c) (reply_lines c k) (e ∷ past) es) last rest
 
 steps-begin : (o : Option Refusal) (rest : List ℕ) → Begins (steps_ending o ++ rest)
 steps-begin None rest = (35, _, refl, (refl, refl, refl))
@@ -178,19 +178,19 @@ verdict-begins c (Unmet what got) es rest = (35, _, refl, (refl, refl, refl))
 verdict-begins c Nothing es rest = steps-begin (first_refusal es) rest
 verdict-begins c (Met what) es rest = steps-begin (first_refusal es) rest
 
-last-begins : (h : HandData) (said : Result (Option Heard) Reason) (rest : List ℕ) → Begins ((told h said).1.last_line ++ rest)
+last-begins : (h : HandData) (said : Result (Option Heard) Reason) (rest : List ℕ) → Begins ((heard_answer h said).1.last_line ++ rest)
 last-begins h (Err why) rest = (35, _, refl, (refl, refl, refl))
 last-begins h (Ok None) rest = (35, _, refl, (refl, refl, refl))
 last-begins h (Ok (Some (Ask asked))) rest = (35, _, refl, (refl, refl, refl))
 last-begins h (Ok (Some (Make line))) rest =
-    let m = made h.cluster h.opening h.capacity h.bench line in verdict-begins h.cluster (in_words h.coded m.1) (entries_since h.bench.past m.0.past) rest
+    let m = made h.cluster h.opening h.capacity h.bench line in verdict-begins h.cluster (verdict_with_meaning h.coded m.1) (entries_since h.bench.past m.0.past) rest
 
 transcript-begins : (h : HandData) (line : List ℕ) (more : List (List ℕ)) → Begins (transcript reply h (line ∷ more))
 transcript-begins h line more =
     let begun = record h { begun = true } in
-    let said = heard_as h.cluster h.coded (unmarked h (short line)) in
+    let said = heard_as h.cluster h.coded (without_byte_order_mark h (short line)) in
     let rest = transcript reply (reply h (short line)).0 more in
-    entries-begin h.format h.cluster (shown_coding h) h.bench.past (told begun said).1.entries (told begun said).1.last_line rest (last-begins begun said rest)
+    entries-begin h.format h.cluster (shown_coding h) h.bench.past (heard_answer begun said).1.entries (heard_answer begun said).1.last_line rest (last-begins begun said rest)
 
 -- a text that begins so, and a line of it, has no mark
 no-mark : (t : List ℕ) → (slice_index t 0 == 239) ≡ false → without_mark t ≡ t
@@ -200,7 +200,7 @@ begins-unmarked : (t : List ℕ) → Begins t → without_mark t ≡ t
 begins-unmarked t b = no-mark t (ap (λ (l : List ℕ). slice_index l 0 == 239) b.2 ∙ b.3.0)
 
 -- ---- the lines of an input, and its pieces
-told-begun : (h : HandData) (said : Result (Option Heard) Reason) → h.begun ≡ true → (told h said).0.begun ≡ true
+told-begun : (h : HandData) (said : Result (Option Heard) Reason) → h.begun ≡ true → (heard_answer h said).0.begun ≡ true
 told-begun h (Err why) b = b
 told-begun h (Ok None) b = b
 told-begun h (Ok (Some (Ask asked))) b = b
@@ -220,22 +220,22 @@ not-empty x xs = grind (arith, common_steps)
 last-some : (x : ℕ) (xs : List ℕ) → last_line (x ∷ xs) ≡ strip_carriage_return (x ∷ xs) ∷ []
 last-some x xs = rw (not-empty x xs) refl
 
-last-same : (h : HandData) → h.begun ≡ true → (p : List ℕ) → after reply h (last_line p) ≡ after reply h (strip_carriage_return p ∷ [])
+last-same : (h : HandData) → h.begun ≡ true → (p : List ℕ) → state_after reply h (last_line p) ≡ state_after reply h (strip_carriage_return p ∷ [])
 last-same h b [] = sym (nothing-said h b)
-last-same h b (x ∷ xs) = ap (after reply h) (last-some x xs)
+last-same h b (x ∷ xs) = ap (state_after reply h) (last-some x xs)
 
 lines-same : (h : HandData) → h.begun ≡ true → (p : List ℕ) (ps : List (List ℕ))
-    → after reply h (map strip_carriage_return (but_last (p ∷ ps)) ++ last_line (last_one (p ∷ ps))) ≡ after reply h (map strip_carriage_return (p ∷ ps))
+    → state_after reply h (map strip_carriage_return (but_last (p ∷ ps)) ++ last_line (last_one (p ∷ ps))) ≡ state_after reply h (map strip_carriage_return (p ∷ ps))
 lines-same h b p [] = last-same h b p
 lines-same h b p (q ∷ qs) =
     let line = short (strip_carriage_return p) in
-    lines-same (reply h line).0 (told-begun (record h { begun = true }) (heard_as h.cluster h.coded (unmarked h line)) refl) q qs
+    lines-same (reply h line).0 (told-begun (record h { begun = true }) (heard_as h.cluster h.coded (without_byte_order_mark h line)) refl) q qs
 
-pieces-same : (h : HandData) → h.begun ≡ true → (t : List ℕ) (ps : List (List ℕ)) (p : List ℕ) (qs : List (List ℕ)) → ps ≡ p ∷ qs → ps ≡ pieces t
-    → after reply h (lines t) ≡ after reply h (map strip_carriage_return (pieces t))
+pieces-same : (h : HandData) → h.begun ≡ true → (t : List ℕ) (ps : List (List ℕ)) (p : List ℕ) (qs : List (List ℕ)) → ps ≡ p ∷ qs → ps ≡ pieces_at_lf t
+    → state_after reply h (lines t) ≡ state_after reply h (map strip_carriage_return (pieces_at_lf t))
 pieces-same h b t ps p qs e is =
-    ap (λ (l : List (List ℕ)). after reply h (map strip_carriage_return (but_last l) ++ last_line (last_one l))) (sym is ∙ e) ∙ lines-same h b p qs
-    ∙ ap (λ (l : List (List ℕ)). after reply h (map strip_carriage_return l)) (sym e ∙ is)
+    ap (λ (l : List (List ℕ)). state_after reply h (map strip_carriage_return (but_last l) ++ last_line (last_one l))) (sym is ∙ e) ∙ lines-same h b p qs
+    ∙ ap (λ (l : List (List ℕ)). state_after reply h (map strip_carriage_return l)) (sym e ∙ is)
 
 -- ---- the first line
 abbrev HasFirst : ℕ → List (List ℕ) → Type 0
@@ -250,22 +250,22 @@ onto-of x h [] = first-of x h [] []
 onto-of x h (p ∷ ps) = first-of x h p ps
 
 lines-first : (x : ℕ) (xs : List ℕ) → IsFirst x → HasFirst x (lines (x ∷ xs))
-lines-first x xs k = rw (k.2) (onto-of x k.1 (pieces xs))
+lines-first x xs k = rw (k.2) (onto-of x k.1 (pieces_at_lf xs))
 
 marked-by : (t : Bool) (line : List ℕ) → without_mark line ≡ line → option_map without_mark (if t then Some line else None) ≡ (if t then Some line else None)
 marked-by true line h = ap Some h
 marked-by false line h = refl
 
 begun-same : (h : HandData) (ls : List (List ℕ)) (x : ℕ) → (x == 239) ≡ false → HasFirst x ls
-    → after reply (anew h) ls ≡ after reply (in_hand_of h.format h.coded h.is_physical h.cluster h.opening h.capacity nothing) ls
+    → state_after reply (anew h) ls ≡ state_after reply (in_hand_of h.format h.coded h.is_physical h.cluster h.opening h.capacity empty_run) ls
 begun-same h ls x k b =
-    let k1 : HandData = in_hand_of h.format h.coded h.is_physical h.cluster h.opening h.capacity nothing in
+    let k1 : HandData = in_hand_of h.format h.coded h.is_physical h.cluster h.opening h.capacity empty_run in
     let line = b.0 in
     let unmarked-line : option_map without_mark (short line) ≡ short line =
     marked-by (nat_le (length line) most_bytes) line (no-mark line (ap (λ (n : ℕ). n == 239) b.3 ∙ k)) in
-    ap (after reply (anew h)) b.2
-    ∙ ap (λ o. after reply (told k1 (heard_as h.cluster h.coded o)).0 b.1) unmarked-line
-    ∙ ap (after reply k1) (sym b.2)
+    ap (state_after reply (anew h)) b.2
+    ∙ ap (λ o. state_after reply (heard_answer k1 (heard_as h.cluster h.coded o)).0 b.1) unmarked-line
+    ∙ ap (state_after reply k1) (sym b.2)
 
 -- ---- a transcript
 reads-coded : (c : Parts) (opening capacity : ℕ) (t : List ℕ) (steps : List (PortId × Step)) (k : Option CodedData) → IfSome k (FitsCluster c)
@@ -274,25 +274,25 @@ reads-coded c opening capacity t steps None fits says = says.reading
 reads-coded c opening capacity t steps (Some k) fits says = says.coded fits.no_marks k
 
 abbrev Again : HandData → List (List ℕ) → HandData → Type 0
-Again h ls k = (reverse k.bench.past ≡ log_of h ls) × (k.was_bad ≡ false)
+Again h ls k = (reverse k.bench.past ≡ log_after h ls) × (k.was_bad ≡ false)
 
-again-by : (h : HandData) (ls : List (List ℕ)) → IsTranscript h ls → All FitsEntry (log_of h ls) → AreShort (transcript reply h ls)
-    → (b : Begins (transcript reply h ls)) → Again h ls (after reply (anew h) (lines (transcript reply h ls)))
+again-by : (h : HandData) (ls : List (List ℕ)) → IsTranscript h ls → All FitsEntry (log_after h ls) → AreShort (transcript reply h ls)
+    → (b : Begins (transcript reply h ls)) → Again h ls (state_after reply (anew h) (lines (transcript reply h ls)))
 unfolding read
 again-by h ls t fits shorts b =
     let text = transcript reply h ls in
-    let k1 : HandData = in_hand_of h.format h.coded h.is_physical h.cluster h.opening h.capacity nothing in
+    let k1 : HandData = in_hand_of h.format h.coded h.is_physical h.cluster h.opening h.capacity empty_run in
     let says = transcripts-are-bench-scripts h ls h.opening h.capacity t fits in
-    let plain : read_lines h.cluster None 1 (pieces text) ≡ Ok says.lines =
-    ap (λ (u : List ℕ). read_lines h.cluster None 1 (pieces u)) (sym (begins-unmarked text b)) ∙ says.reading in
-    let reading : read_lines h.cluster h.coded 1 (pieces text) ≡ Ok says.lines =
-    ap (λ (u : List ℕ). read_lines h.cluster h.coded 1 (pieces u)) (sym (begins-unmarked text b))
-    ∙ reads-coded h.cluster h.opening h.capacity text (steps_of (log_of h ls)) h.coded t.coded says in
+    let plain : read_lines h.cluster None 1 (pieces_at_lf text) ≡ Ok says.lines =
+    ap (λ (u : List ℕ). read_lines h.cluster None 1 (pieces_at_lf u)) (sym (begins-unmarked text b)) ∙ says.reading in
+    let reading : read_lines h.cluster h.coded 1 (pieces_at_lf text) ≡ Ok says.lines =
+    ap (λ (u : List ℕ). read_lines h.cluster h.coded 1 (pieces_at_lf u)) (sym (begins-unmarked text b))
+    ∙ reads-coded h.cluster h.opening h.capacity text (steps_of (log_after h ls)) h.coded t.coded says in
     let some = pieces-some text in
-    let played = live-is-play h.format h.coded h.is_physical h.cluster h.opening h.capacity (pieces text) says.lines _
-    (all-plain h.cluster 1 (pieces text) says.lines shorts plain) reading says.steps_alone in
+    let played = live-is-play h.format h.coded h.is_physical h.cluster h.opening h.capacity (pieces_at_lf text) says.lines _
+    (all-plain h.cluster 1 (pieces_at_lf text) says.lines shorts plain) reading says.steps_alone in
     let first-line : HasFirst b.0 (lines text) = subst (λ (u : List ℕ). HasFirst b.0 (lines u)) (sym b.2) (lines-first b.0 b.1 b.3) in
-    let same = begun-same h (lines text) b.0 b.3.0 first-line ∙ pieces-same k1 refl text (pieces text) some.0 some.1 some.2 refl ∙ played in (
+    let same = begun-same h (lines text) b.0 b.3.0 first-line ∙ pieces-same k1 refl text (pieces_at_lf text) some.0 some.1 some.2 refl ∙ played in (
       ap (λ (k : HandData). reverse k.bench.past) same ∙ ap reverse (log-again h ls t),
       ap (λ (k : HandData). k.was_bad) same,
     )

@@ -13,13 +13,13 @@ use Rattle.lin_core.specs.Tables.{refusal_number, refusal_word}
 use Rattle.lin_core.specs.declared.event.Event.TheVariants.{Slot}
 use Rattle.lin_core.specs.declared.log.LogEntry.{LogEntry}
 use Rattle.lin_core.specs.declared.reply.Refusal.{Refusal}
-use Rattle.lin_log.specs.Language.{named}
+use Rattle.lin_log.specs.Language.{named_language}
 use Rattle.lin_log.specs.Laws.{HasNames, is_quiet, no_end}
 use Rattle.lin_log.specs.Words.{spaced_word, value_word}
 use Rattle.lin_log.proofs.Items.{joined}
 use Rattle.lin_log.proofs.Quiet.{quiet-called, quiet-decimal, quiet-spaced}
 use Rattle.lin_values.specs.Coded.{CodedData}
-use Rattle.lin_values.specs.Meaning.{told_meaning}
+use Rattle.lin_values.specs.Meaning.{meaning_if_coded}
 use Rattle.lin_values.specs.Meant.{Meant}
 use Rattle.lin_values.specs.Shown.{shown}
 use Rattle.lin_export.specs.Named.{slot_names}
@@ -32,7 +32,7 @@ use Rattle.lin_bench.specs.declared.got.Verdict.{Verdict}
 use Rattle.lin_bench.specs.declared.got.Verdict.TheVariants.{Nothing, Met, Unmet, SlotLimit}
 use Rattle.lin_bench.specs.declared.rules.Noted.{Noted}
 use Rattle.lin_bench.specs.Strict.{first_refusal}
-use Rattle.lin_live.specs.Told.{ending, idle_text, slot_text, steps_ending, value_text, verdict_ending}
+use Rattle.lin_live.specs.Told.{hash_line, idle_text, slot_text, steps_ending, value_text, verdict_ending}
 use Rattle.lin_live.specs.declared.question.Question.{Question}
 use Rattle.lin_live.specs.declared.question.Question.TheVariants as question
 use Rattle.lin_tool.specs.laws.NamedScripts.{AreOneLine, HasFrameNames, IsOneLine}
@@ -48,7 +48,7 @@ both : (xs ys : List ℕ) → Quiet xs → Quiet ys → Quiet (xs ++ ys)
 both xs ys h k = joined no_end xs ys h k
 
 -- ---- what values mean
-told-one : (k : Option CodedData) → IfSome k AreOneLine → (s : ℕ) (v : Value) → IfSome (told_meaning k s v) IsOneLine
+told-one : (k : Option CodedData) → IfSome k AreOneLine → (s : ℕ) (v : Value) → IfSome (meaning_if_coded k s v) IsOneLine
 told-one None one s v = tt
 told-one (Some k) one s v = one s v
 
@@ -56,9 +56,9 @@ meant-quiet : (o : Option Meant) → IfSome o IsOneLine → Quiet (option_map_or
 meant-quiet None h = refl
 meant-quiet (Some m) h = h
 
-module _ (c : Parts) (a : HasNames (named c)) (b : HasFrameNames c) where
+module _ (c : Parts) (a : HasNames (named_language c)) (b : HasFrameNames c) where
   table : (t : ℕ) → Quiet (table_word c t)
-  table t = quiet-called (named c).tables a.of_tables t
+  table t = quiet-called (named_language c).tables a.of_tables t
 
   -- ---- what is said to questions
   idle-clean : (ps : List Pending) → Clean (idle_text c ps)
@@ -78,8 +78,8 @@ module _ (c : Parts) (a : HasNames (named c)) (b : HasFrameNames c) where
   value-said : (k : Option CodedData) → IfSome k AreOneLine → (opening : ℕ) (past : List LogEntry) (noted : List Noted) (q : Question) → Clean (value_text c k opening past noted q)
   value-said k one opening past noted (question.Signal n s) =
       let v = value_at c past n s in
-      let meant = option_map_or (λ (m : Meant). spaced_word (shown m)) (told_meaning k s v) [] in
-      quiet-clean (value_word v ++ meant) (both (value_word v) meant (value-quiet v) (meant-quiet (told_meaning k s v) (told-one k one s v)))
+      let meant = option_map_or (λ (m : Meant). spaced_word (shown m)) (meaning_if_coded k s v) [] in
+      quiet-clean (value_word v ++ meant) (both (value_word v) meant (value-quiet v) (meant-quiet (meaning_if_coded k s v) (told-one k one s v)))
   value-said k one opening past noted (question.Waiting host) = quiet-clean (decimal (length (waiting c past host))) (quiet-decimal (length (waiting c past host)))
   value-said k one opening past noted question.Idle = idle-clean (pending c past noted)
   value-said k one opening past noted question.Time = quiet-clean (decimal (time c past)) (quiet-decimal (time c past))
@@ -89,10 +89,10 @@ module _ (c : Parts) (a : HasNames (named c)) (b : HasFrameNames c) where
       (next-said (next_slot c opening past))
 
   -- ---- last lines
-  pub ending-remark : (words : List ℕ) → is_clean words ≡ true → IsRemark (ending words)
+  pub ending-remark : (words : List ℕ) → is_clean words ≡ true → IsRemark (hash_line words)
   ending-remark words h = a-remark (32 ∷ words) h
 
-  quiet-remark : (words : List ℕ) → Quiet words → IsRemark (ending words)
+  quiet-remark : (words : List ℕ) → Quiet words → IsRemark (hash_line words)
   quiet-remark words h = ending-remark words (quiet-clean words h)
 
   steps-remark : (o : Option Refusal) → IsRemark (steps_ending o)
@@ -117,5 +117,5 @@ module _ (c : Parts) (a : HasNames (named c)) (b : HasFrameNames c) where
   verdict-remark (Met what) es = steps-remark (first_refusal es)
 
   pub value-remark : (k : Option CodedData) → IfSome k AreOneLine → (opening : ℕ) (past : List LogEntry) (noted : List Noted) (q : Question)
-      → IsRemark (ending (codes "is " ++ value_text c k opening past noted q))
+      → IsRemark (hash_line (codes "is " ++ value_text c k opening past noted q))
   value-remark k one opening past noted q = ending-remark (codes "is " ++ value_text c k opening past noted q) (value-said k one opening past noted q)

@@ -15,10 +15,10 @@ use Rattle.lin_parts.specs.declared.description.Sporadic.{Sporadic}
 use Rattle.lin_parts.specs.declared.description.Table.{Table}
 use Rattle.lin_ldf.specs.Describes.{Describes, Spells}
 use Rattle.lin_ldf.specs.Forms.{Form, ◌&>◌}
-use Rattle.lin_ldf.specs.Grammar.{event, event_frame, frame, frames, master, no_sections, node_names, nodes, or_empty, section, section_of, signal, signals, slaves, sporadic, sporadic_frame, table, tables}
+use Rattle.lin_ldf.specs.Grammar.{event, event_frame, frame_declaration, frames_section, master, no_sections, declared_node_names, nodes_section, or_empty, section, section_of, signal, signals, slaves, sporadic, sporadic_frame, table, tables}
 use Rattle.lin_ldf.specs.GrammarLaws.{event_frame_takes, frame_takes, header_takes, master_takes, section_takes, signal_takes, sporadic_frame_takes, table_takes}
 use Rattle.lin_ldf.specs.Laws.{Behind}
-use Rattle.lin_ldf.specs.Loops.{Several, Steps}
+use Rattle.lin_ldf.specs.Loops.{Several, ItemSteps}
 use Rattle.lin_ldf.specs.Names.{has_name}
 use Rattle.lin_ldf.specs.Symbols.{Symbol, is_kind, symbols_in}
 use Rattle.lin_ldf.specs.Words.{block, comma, new_word, once}
@@ -120,7 +120,7 @@ signals-declare = record {
   good = λ seen ts a rest h good. after-behind ts rest ((signal_takes seen).lawful.behind ts a rest h) good;
 }
 
-frames-declare : Declares frame_text frame
+frames-declare : Declares frame_text frame_declaration
 frames-declare = record {
   new = λ seen ts a rest h good. subst (λ (s : Frame). IsNew seen (frame_text s)) h.2 (new-name seen ts h.0.0 h.1.1.0 h.1.1.2 good);
   good = λ seen ts a rest h good. after-behind ts rest ((frame_takes seen).lawful.behind ts a rest h) good;
@@ -179,8 +179,8 @@ section-declares words_of.Signals s ts a rest (xs, h, same) good d =
     let q = block-new signal_text signal signals-declare [] p.1 xs rest p.3 (after-token ts p.1 p.2.0 p.2.1 good) in
     subst AreDeclared same (record { signals = q; tables = d.tables; frames = d.frames; sporadic = d.sporadic; events = d.events })
 section-declares words_of.Frames s ts a rest (xs, h, same) good d =
-    let p = from-once s.frames (frames s.frame_names) ts xs rest h in
-    let q = block-new frame_text frame frames-declare s.frame_names p.1 xs rest p.3 (after-token ts p.1 p.2.0 p.2.1 good) in
+    let p = from-once s.frames (frames_section s.frame_names) ts xs rest h in
+    let q = block-new frame_text frame_declaration frames-declare s.frame_names p.1 xs rest p.3 (after-token ts p.1 p.2.0 p.2.1 good) in
     subst AreDeclared same (record { signals = d.signals; tables = d.tables; frames = q.words; sporadic = d.sporadic; events = d.events })
 section-declares words_of.Sporadic s ts a rest (xs, h, same) good d =
     let p = from-once s.sporadic (sporadic s.frame_names) ts xs rest h in
@@ -199,7 +199,7 @@ section-declares words_of.Tables s ts a rest (xs, h, same) good d =
 section-declares words_of.Nodes s ts a rest h good d = absurd h
 section-declares words_of.Unused s ts a rest (u, h, same) good d = subst AreDeclared same d
 
-sections-declare : (n : ℕ) (s : Sections) (ts : List Symbol) (last : Sections) (rest : List Symbol) → Steps (λ x. (section x).spells) n s ts last rest → AllGood ts
+sections-declare : (n : ℕ) (s : Sections) (ts : List Symbol) (last : Sections) (rest : List Symbol) → ItemSteps (λ x. (section x).spells) n s ts last rest → AllGood ts
     → AreDeclared s → AreDeclared last
 sections-declare zero s ts last rest h good d = subst AreDeclared (sym h.0) d
 sections-declare (suc n) s ts last rest (next, mid, (k, item), others) good d =
@@ -229,7 +229,7 @@ slaves-new seen ts names rest (u, a2, (a1, v, t1, t2), (a3, x, (a4, y, (q, (a5, 
       after-token a3 rest close.0 close.1 (after-token a4 a3 semi.0 semi.1 more.1),
     )
 
-nodes-new : (ts : List Symbol) (n : Nodes) (rest : List Symbol) → nodes.spells ts n rest → AllGood ts → AreNodes n rest
+nodes-new : (ts : List Symbol) (n : Nodes) (rest : List Symbol) → nodes_section.spells ts n rest → AllGood ts → AreNodes n rest
 nodes-new ts n rest (p, (u, a2, (a1, v, t1, t2), (mid, first, others)), same) good =
     let g = after-token a1 a2 t2.0 t2.1 (after-token ts a1 t1.0 t1.1 good) in
     let m = master-new [] a2 p.0 mid first g in
@@ -260,7 +260,7 @@ unfolding Spells
 file-declares ts d (q, (mid, (m, head, of_nodes), (end, u, (n, steps), over)), same) good =
     let g = after-behind ts m (header_takes.lawful.behind ts q.0.0 m head) good in
     let p = nodes-new m q.0.1 mid of_nodes g in
-    let s = sections-declare n (no_sections (node_names q.0.1)) mid q.1 end steps p.good (nothing-declared (node_names q.0.1)) in
+    let s = sections-declare n (no_sections (declared_node_names q.0.1)) mid q.1 end steps p.good (nothing-declared (declared_node_names q.0.1)) in
     subst DeclaresNames same (record {
       of_nodes = p.names;
       of_signals = s.signals;

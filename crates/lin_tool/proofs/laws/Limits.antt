@@ -6,7 +6,7 @@ use Rattle.lin_ldf.specs.Loops.{is_next}
 use Rattle.lin_ldf.specs.Symbols.{Symbol, is_kind}
 use Rattle.lin_ldf.specs.declared.token.TokenKind.{TokenKind}
 use Rattle.lin_ldf.specs.declared.token.TokenKind.TheVariants as kinds
-use Rattle.lin_field.specs.Marks.{is_extra, mended}
+use Rattle.lin_field.specs.Marks.{is_extra, without_extra_marks}
 use Rattle.lin_tool.proofs.laws.LdfTokens.{AreOfKind}
 use Rattle.lin_tool.specs.laws.Texts.{HasNoErrorAndComma, is_field_word, uses_field_words}
 
@@ -106,13 +106,13 @@ kind_stays kinds.Semicolon (u ∷ us) e = not_true _ e
 kind_stays kinds.Comma (u ∷ us) e = comma_stays (is_end u) (is_kind kinds.Semicolon u.kind) e
 kind_stays _ (u ∷ us) e = refl
 
-pub stays : (t : Symbol) (ts : List Symbol) → is_left_out t.kind ts ≡ false → mended (t ∷ ts) ≡ t ∷ mended ts
+pub stays : (t : Symbol) (ts : List Symbol) → is_left_out t.kind ts ≡ false → without_extra_marks (t ∷ ts) ≡ t ∷ without_extra_marks ts
 stays t ts e = rw e refl
 
-pub kept : (t : Symbol) (ts : List Symbol) → allows (last_limit t.kind) ts ≡ true → mended (t ∷ ts) ≡ t ∷ mended ts
+pub kept : (t : Symbol) (ts : List Symbol) → allows (last_limit t.kind) ts ≡ true → without_extra_marks (t ∷ ts) ≡ t ∷ without_extra_marks ts
 kept t ts e = stays t ts (kind_stays t.kind ts e)
 
-pub goes : (t : Symbol) (ts : List Symbol) → is_left_out t.kind ts ≡ true → mended (t ∷ ts) ≡ mended ts
+pub goes : (t : Symbol) (ts : List Symbol) → is_left_out t.kind ts ≡ true → without_extra_marks (t ∷ ts) ≡ without_extra_marks ts
 goes t ts e = rw e refl
 
 comma_goes : (a b : Bool) → (a || (false && b)) ≡ true → a ≡ true

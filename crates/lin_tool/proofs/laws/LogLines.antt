@@ -15,7 +15,7 @@ use Rattle.lin_core.specs.declared.reply.Reply.{Reply}
 use Rattle.lin_core.specs.declared.reply.Reply.TheVariants.{Done, Refused}
 use Rattle.lin_core.specs.declared.step.Step.{Step}
 use Rattle.lin_core.specs.declared.step.Step.TheVariants.{Send, Write, Answer, Leave, Hurt, Timeout, Switch, Close}
-use Rattle.lin_log.specs.Language.{Language, named, nameless, plain}
+use Rattle.lin_log.specs.Language.{Language, named_language, nameless, plain}
 use Rattle.lin_log.specs.Laws.{AreNames, HasNames, IsQuiet, are_quiet, is_quiet, no_end}
 use Rattle.lin_log.specs.Words.{line_tail, log_text, port_number_word, port_word, reply_line, reply_words, spaced_word, step_line, step_words, text}
 use Rattle.lin_log.proofs.Items.{joined}
@@ -24,10 +24,10 @@ use Rattle.lin_log.proofs.Quiet.{line-end, quiet-called, quiet-decimal, quiet-he
 use Rattle.lin_values.specs.Coded.{CodedData}
 use Rattle.lin_export.specs.Named.{reply_lines}
 use Rattle.lin_live.specs.Told.{entries_text}
-use Rattle.lin_live.specs.declared.format.AnswerFormat.{AnswerFormat}
-use Rattle.lin_live.specs.declared.format.AnswerFormat.TheVariants.{Log, Named}
+use Rattle.lin_live.specs.declared.answer_format.AnswerFormat.{AnswerFormat}
+use Rattle.lin_live.specs.declared.answer_format.AnswerFormat.TheVariants.{Log, Named}
 use Rattle.lin_tool.specs.laws.NamedScripts.{AreOneLine, HasFrameNames}
-use Rattle.lin_tool.specs.laws.Transcripts.{ended}
+use Rattle.lin_tool.specs.laws.Transcripts.{with_line_end}
 use Rattle.lin_tool.proofs.laws.Remarks.{Stays, quiet-clean, stays-both, stays-line, stays-nothing}
 use Rattle.std.proofs.lemmas.Grind.{flat_map-append}
 use Rattle.lin_tool.proofs.laws.Replies.{reply-quiet, value-quiet}
@@ -58,13 +58,13 @@ number-quiet l a n = number-by l n (nat_lt n l.nodes.count) (quiet-called l.node
 
 -- a line whose first word is no remark's
 line-stays : (x : ℕ) (word : List ℕ) (words : List (List ℕ)) (t : List ℕ) → (x == 35) ≡ false → is_quiet (x ∷ word) ≡ true → are_quiet words ≡ true
-    → t ≡ ended (x ∷ (word ++ flat_map spaced_word words)) → Stays t
+    → t ≡ with_line_end (x ∷ (word ++ flat_map spaced_word words)) → Stays t
 line-stays x word words t e h k is =
     let body = x ∷ (word ++ flat_map spaced_word words) in
     subst Stays (sym is)
     (stays-line body (quiet-clean body (joined no_end (x ∷ word) (flat_map spaced_word words) h (quiet-spaced words k))) (rw e refl))
 
-line-is : (word : List ℕ) (words : List (List ℕ)) → word ++ line_tail words ≡ ended (word ++ flat_map spaced_word words)
+line-is : (word : List ℕ) (words : List (List ℕ)) → word ++ line_tail words ≡ with_line_end (word ++ flat_map spaced_word words)
 line-is word words =
     ap (λ t. word ++ t) (sym (append-nil (line_tail words)) ∙ line-end words []) ∙ sym (append_assoc word (flat_map spaced_word words) (10 ∷ []))
 
@@ -115,10 +115,10 @@ plain-quiet (Refused r) =
     let q : are_quiet ws ≡ true = rw (quiet-decimal (refusal_number r)) refl in
     All-cons (λ ws. are_quiet ws ≡ true) ws [] q (All-nil (λ ws. are_quiet ws ≡ true))
 
-pub entries-stay : (f : AnswerFormat) (c : Parts) (k : Option CodedData) → HasNames (named c) → HasFrameNames c → IfSome k AreOneLine → (past es : List LogEntry)
+pub entries-stay : (f : AnswerFormat) (c : Parts) (k : Option CodedData) → HasNames (named_language c) → HasFrameNames c → IfSome k AreOneLine → (past es : List LogEntry)
     → Stays (entries_text f c k past es)
 entries-stay Log c k a b one past es = log-stays plain plain_replies plain-names (λ e p. plain-quiet e.reply) [] es
-entries-stay Named c k a b one past es = log-stays (named c) (reply_lines c k) a (λ e p. reply-quiet c k a b one e p e.reply) past es
+entries-stay Named c k a b one past es = log-stays (named_language c) (reply_lines c k) a (λ e p. reply-quiet c k a b one e p e.reply) past es
 
 -- ---- entries, and then more
 back-to-front : (e : LogEntry) (es past : List LogEntry) → reverse (e ∷ es) ++ past ≡ reverse es ++ e ∷ past
@@ -142,4 +142,4 @@ text-append xs ys =
 pub entries-append : (f : AnswerFormat) (c : Parts) (k : Option CodedData) (past xs ys : List LogEntry)
     → entries_text f c k past (xs ++ ys) ≡ entries_text f c k past xs ++ entries_text f c k (reverse xs ++ past) ys
 entries-append Log c k past xs ys = text-append xs ys
-entries-append Named c k past xs ys = log-append (named c) (reply_lines c k) past xs ys
+entries-append Named c k past xs ys = log-append (named_language c) (reply_lines c k) past xs ys

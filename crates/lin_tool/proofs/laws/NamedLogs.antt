@@ -1,6 +1,6 @@
 -- A log with names, which is a bench script of the log's steps.
 use Rattle.lin_core.specs.Runs.{steps_of}
-use Rattle.lin_log.specs.Language.{named}
+use Rattle.lin_log.specs.Language.{named_language}
 use Rattle.lin_log.proofs.Texts.{texts-again}
 use Rattle.lin_export.specs.Named.{named_log, reply_lines}
 use Rattle.lin_bench.proofs.Steps.{named-texts}
@@ -10,4 +10,4 @@ use Rattle.lin_tool.proofs.laws.Replies.{reply-quiet}
 pub named-logs : NamedLogs
 named-logs c k log opening capacity a b one fits =
     named-texts c opening capacity (named_log c k log) (steps_of log)
-    (texts-again (named c) (reply_lines c k) log a (λ e past. reply-quiet c k a b one e past e.reply) fits)
+    (texts-again (named_language c) (reply_lines c k) log a (λ e past. reply-quiet c k a b one e past e.reply) fits)

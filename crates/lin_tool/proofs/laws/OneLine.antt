@@ -10,7 +10,7 @@ use Rattle.lin_core.specs.declared.event.Look.{Look}
 use Rattle.lin_core.specs.declared.event.Look.TheVariants as look
 use Rattle.lin_core.specs.declared.link.Cause.{Cause}
 use Rattle.lin_core.specs.declared.link.Cause.TheVariants as cause
-use Rattle.lin_log.specs.Language.{Called, Language, named, nameless, plain, word_of}
+use Rattle.lin_log.specs.Language.{Called, Language, named_language, nameless, plain, word_of}
 use Rattle.lin_log.specs.Laws.{HasNames, is_quiet}
 use Rattle.lin_log.specs.Words.{hex_word, spaced_word, value_word}
 use Rattle.lin_log.specs.declared.reason.Reason.{Reason as StepReason}
@@ -18,7 +18,7 @@ use Rattle.lin_log.specs.declared.reason.Reason.TheVariants as step
 use Rattle.lin_log.proofs.Items.{joined}
 use Rattle.lin_log.proofs.Quiet.{quiet-called, quiet-decimal, quiet-hex}
 use Rattle.lin_bench.specs.Fields.{frames_called}
-use Rattle.lin_bench.specs.LineWords.{Word, byte_word, is_mark, pattern_word, seen_after, seen_byte, seen_text, seen_texts, spaced, spaced_words, word_text, words_text}
+use Rattle.lin_bench.specs.LineWords.{Word, byte_word, is_mark_word, pattern_word, seen_after, seen_byte, seen_text, seen_texts, text_after_space, spaced_words, word_text, words_text}
 use Rattle.lin_bench.specs.LineWords.Word.{Node, Signal, Table, Frame, Number, Range, Hex, Matching, Raw, Fixed, Said, Fields, Listed, Mark}
 use Rattle.lin_bench.specs.Texts.{all_pending_words, cluster_text, expected_text, expected_words, got_text, got_words, hint_words, other_pending_words, pending_text, pending_words, reason_text, reason_words, step_reason_words, unmarked_words}
 use Rattle.lin_bench.specs.declared.expected.Carried.TheVariants.{Signals, Request as RequestFrame, Response}
@@ -34,7 +34,7 @@ use Rattle.lin_bench.specs.declared.reason.Hint.TheVariants as hint
 use Rattle.lin_bench.specs.declared.reason.Reason.{Reason}
 use Rattle.lin_bench.specs.declared.rules.Pattern.{Pattern}
 use Rattle.lin_bench.specs.declared.reason.Reason.TheVariants as reason
-use Rattle.lin_live.specs.Told.{reason_text as live_text}
+use Rattle.lin_live.specs.Told.{question_reason_text as live_text}
 use Rattle.lin_live.specs.declared.reason.Reason.{Reason as LiveReason}
 use Rattle.lin_live.specs.declared.reason.Reason.TheVariants as live
 use Rattle.lin_tool.specs.laws.NamedScripts.{HasFrameNames}
@@ -105,14 +105,14 @@ module _ (l : Language) (frames : Called) (a : HasNames l) (b : (f : ℕ) → Cl
   word-clean (Listed texts) h = texts-clean (codes ", ") refl texts
   word-clean (Mark text) h = h
 
-  spaced-clean : (w : Word) → fixed_clean w ≡ true → Clean (spaced l frames w)
-  spaced-clean w h = each-way Clean (is_mark w) (word_text l frames w) (spaced_word (word_text l frames w)) (word-clean w h) (word-clean w h)
+  spaced-clean : (w : Word) → fixed_clean w ≡ true → Clean (text_after_space l frames w)
+  spaced-clean w h = each-way Clean (is_mark_word w) (word_text l frames w) (spaced_word (word_text l frames w)) (word-clean w h) (word-clean w h)
 
   all-clean : (ws : List Word) → are_fixed ws ≡ true → Clean (spaced_words l frames ws)
   all-clean [] h = refl
   all-clean (w ∷ ws) h =
       let p = and_parts (fixed_clean w) (are_fixed ws) h in
-      clean-both (spaced l frames w) (spaced_words l frames ws) (spaced-clean w p.0) (all-clean ws p.1)
+      clean-both (text_after_space l frames w) (spaced_words l frames ws) (spaced-clean w p.0) (all-clean ws p.1)
 
   pub line-clean : (ws : List Word) → are_fixed ws ≡ true → Clean (words_text l frames ws)
   line-clean [] h = refl
@@ -191,14 +191,14 @@ expected-fixed (expected.Frame frame (Some pattern)) = refl
 expected-fixed (expected.Refused why) = rw (quiet-clean (refusal_word why) (refusal-quiet why)) refl
 expected-fixed what = refl
 
-module _ (c : Parts) (a : HasNames (named c)) (b : HasFrameNames c) where
+module _ (c : Parts) (a : HasNames (named_language c)) (b : HasFrameNames c) where
   frame-by : (f : ℕ) (t : Bool) → is_quiet (if t then frame_name c f else decimal f) ≡ true
   frame-by f true = frame-name c b f
   frame-by f false = quiet-decimal f
 
   cluster-clean : (ws : List Word) → are_fixed ws ≡ true → Clean (cluster_text c ws)
   cluster-clean ws h =
-      line-clean (named c) (frames_called c) a (λ f. quiet-clean (word_of (frames_called c) f) (frame-by f (nat_lt f (length c.frames)))) ws h
+      line-clean (named_language c) (frames_called c) a (λ f. quiet-clean (word_of (frames_called c) f) (frame-by f (nat_lt f (length c.frames)))) ws h
 
   pub expected-clean : (what : Expected) → Clean (expected_text c what)
   expected-clean what = cluster-clean (expected_words what) (expected-fixed what)

@@ -11,7 +11,7 @@ use Rattle.lin_frame.specs.declared.value.Value.{Value}
 use Rattle.lin_frame.specs.declared.value.Value.TheVariants.{Scalar, Bytes}
 use Rattle.lin_parts.specs.declared.parts.Signal.{Signal}
 use Rattle.lin_parts.specs.declared.description.Name.{Name}
-use Rattle.lin_parts.specs.declared.place.Place.{Place}
+use Rattle.lin_parts.specs.declared.place.Location.{Location}
 use Rattle.lin_ldf.specs.Forms.{◌>>=◌, has_front}
 use Rattle.lin_ldf.specs.Forms as ldf
 use Rattle.lin_ldf.specs.Loops.{is_next}
@@ -21,23 +21,23 @@ use Rattle.lin_ldf.specs.declared.token.TokenKind.TheVariants.{Comma, OpenBrace,
 use Rattle.lin_log.specs.Laws.{is_quiet, no_end}
 use Rattle.lin_log.proofs.Items.{both, joined}
 use Rattle.lin_log.proofs.Quiet.{quiet-decimal}
-use Rattle.lin_values.specs.Coded.{SignalCoding, all_codings, all_items, coded, has_value, in_range, item_for, or_else, signal_at, signal_coding, type_named}
+use Rattle.lin_values.specs.Coded.{SignalCoding, all_codings, all_items, coded_signals, has_value, in_range, item_for, or_else, signal_at, signal_coding, type_named}
 use Rattle.lin_values.specs.Coding.{ascii, bcd, between_quotes, coded_line, item, logical, next_small, physical, real, text_of_item, type_head}
 use Rattle.lin_values.specs.Meaning.{as_digits, bcd_digits, by_item, digits_meaning, first_some, fours, letter, letters_of, meaning_by, meaning_in, named_or_number, numeric_meaning, value_bytes, without_front_zeros}
 use Rattle.lin_values.specs.Passed.{behind_group, behind_line, has_line, steps_while}
-use Rattle.lin_values.specs.Reading.{codings, nothing_read, or_bad_item, or_bad_line, or_bad_type, with_item, with_items, with_line, with_lines, with_section, with_statement, with_type, with_types}
+use Rattle.lin_values.specs.Reading.{codings, nothing_read, or_bad_item, or_bad_line, or_bad_type, with_item, with_items, with_coded_line, with_lines, with_section, with_statement, with_type, with_types}
 use Rattle.lin_values.specs.Shown.{decimal_shown, fraction, last_digits, sign, unit_shown}
 use Rattle.lin_values.specs.Texts.{first_word, gap_length, gaps_closed, latin_1, shown_text, words_on}
-use Rattle.lin_values.specs.Value.{decimal_of, value}
+use Rattle.lin_values.specs.Value.{decimal_of, scaled_value}
 use Rattle.lin_values.specs.declared.decimals.Decimal.{Decimal}
 use Rattle.lin_values.specs.declared.encoding.Coding.{Coding}
 use Rattle.lin_values.specs.declared.encoding.Coding.TheVariants as kinds
-use Rattle.lin_values.specs.declared.items.CodedLine.{CodedLine}
-use Rattle.lin_values.specs.declared.items.CodingType.{CodingType}
-use Rattle.lin_values.specs.declared.items.Codings.{Codings}
-use Rattle.lin_values.specs.declared.items.Item.{Item}
-use Rattle.lin_values.specs.declared.items.Item.TheVariants as items
-use Rattle.lin_values.specs.declared.items.PlacedItem.{PlacedItem}
+use Rattle.lin_values.specs.declared.codings.CodedLine.{CodedLine}
+use Rattle.lin_values.specs.declared.codings.CodingType.{CodingType}
+use Rattle.lin_values.specs.declared.codings.Codings.{Codings}
+use Rattle.lin_values.specs.declared.codings.Item.{Item}
+use Rattle.lin_values.specs.declared.codings.Item.TheVariants as items
+use Rattle.lin_values.specs.declared.codings.PlacedItem.{PlacedItem}
 use Rattle.lin_tool.specs.laws.NamedScripts.{CodingsAreOneLine, IsOneLine}
 use Rattle.lin_tool.proofs.laws.Remarks.{each-way}
 
@@ -171,14 +171,14 @@ kept-while P test step keeps zero x h = h
 kept-while P test step keeps (suc n) x h =
     each-way P (test x) (steps_while n test step (step x)) x (kept-while P test step keeps n (step x) (keeps x h)) h
 
-or-bad-item : (o : Option (Item × List Symbol)) (x : List Symbol × (List PlacedItem × List Place)) → IfSome o QuietRead → QuietItems x.1.0
+or-bad-item : (o : Option (Item × List Symbol)) (x : List Symbol × (List PlacedItem × List Location)) → IfSome o QuietRead → QuietItems x.1.0
     → QuietItems (or_bad_item o x).1.0
 or-bad-item None x q h = h
 or-bad-item (Some read) x q h = all-append (λ (p : PlacedItem). QuietItem p.item) x.1.0 _ h (q, tt)
 
-items-quiet : (ts : List Symbol) (bad : List Place) → QuietItems (with_items ts bad).1.0
+items-quiet : (ts : List Symbol) (bad : List Location) → QuietItems (with_items ts bad).1.0
 items-quiet ts bad =
-    kept-while (λ (x : List Symbol × (List PlacedItem × List Place)). QuietItems x.1.0) (λ y. has_line y.0) with_item
+    kept-while (λ (x : List Symbol × (List PlacedItem × List Location)). QuietItems x.1.0) (λ y. has_line y.0) with_item
     (λ x h. or-bad-item (item x.0) x (item-quiet x.0).holds h) _ (ts, ([], bad)) tt
 
 abbrev QuietSo : List Symbol × Codings → Type 0
@@ -198,7 +198,7 @@ or-bad-line (Some read) x h = h
 
 lines-quiet : (ts : List Symbol) (f : Codings) → QuietTypes f → QuietSo (with_lines ts f)
 lines-quiet ts f h =
-    kept-while QuietSo (λ y. has_line y.0) (λ x. with_line x.0 x.1) (λ x q. or-bad-line (coded_line x.0) x q) (length (ldf.tail ts)) (ldf.tail ts, f) h
+    kept-while QuietSo (λ y. has_line y.0) (λ x. with_coded_line x.0 x.1) (λ x q. or-bad-line (coded_line x.0) x q) (length (ldf.tail ts)) (ldf.tail ts, f) h
 
 section-quiet : (w : List ℕ) (ts : List Symbol) (f : Codings) → QuietTypes f → QuietSo (with_section w ts f)
 section-quiet w ts f h =
@@ -272,7 +272,7 @@ named-one raw (c ∷ cs) h = h
 numeric-one : (i : Item) (raw : ℕ) → QuietItem i → IfSome (numeric_meaning i raw) IsOneLine
 numeric-one (items.Logical v text) raw h = named-one raw text h
 numeric-one (items.Physical from to scale offset unit) raw h =
-    let d = decimal_of (pos raw *ℤ value scale +ℤ value offset) in
+    let d = decimal_of (pos raw *ℤ scaled_value scale +ℤ scaled_value offset) in
     joined no_end (decimal_shown d) (unit_shown unit) (decimal-quiet d) (unit-quiet unit h)
 numeric-one items.Bcd raw h = tt
 numeric-one items.Ascii raw h = tt
@@ -339,5 +339,5 @@ of-one s v (Some t) h = in-one s t.items v h
 pub codings-are-one-line : CodingsAreOneLine
 codings-are-one-line c ts s v =
     let k = codings ts in
-    of-one (signal_at (coded c k) s) v (signal_at (coded c k) s).encoding
+    of-one (signal_at (coded_signals c k) s) v (signal_at (coded_signals c k) s).encoding
     (at-quiet k (codings-quiet ts) c.signals s (record { bits = 1; is_array = false; encoding = None }) tt)

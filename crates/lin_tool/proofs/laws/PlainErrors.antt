@@ -7,18 +7,18 @@ use Rattle.std.proofs.lemmas.Bool.{false_from_ne_true}
 use Rattle.lin_parts.specs.declared.description.Name.{Name}
 use Rattle.lin_ldf.specs.Forms.{◌<&◌, is_front, is_keyword}
 use Rattle.lin_ldf.specs.Grammar.{attribute_words, general, named_error}
-use Rattle.lin_ldf.specs.GrammarLaws.{is_of, is_word, other_is_word}
+use Rattle.lin_ldf.specs.GrammarLaws.{has_kind, is_word, other_is_word}
 use Rattle.lin_ldf.specs.KindLaws.{word_is}
 use Rattle.lin_ldf.specs.Symbols.{Symbol, is_kind}
 use Rattle.lin_ldf.specs.Words.{name_of, semicolon, word}
 use Rattle.lin_ldf.specs.declared.token.TokenKind.{TokenKind}
 use Rattle.lin_ldf.specs.declared.token.TokenKind.TheVariants as kinds
-use Rattle.lin_field.specs.Marks.{mended}
+use Rattle.lin_field.specs.Marks.{without_extra_marks}
 use Rattle.lin_tool.specs.laws.Texts.{HasNoErrorAndComma}
 use Rattle.lin_tool.proofs.laws.Limits.{Anything, IsClean, goes, is_end, is_left_out, kept, kind_is, last_limit, left_out, stays}
 
 abbrev is_semicolon : Symbol → Bool
-is_semicolon t = is_of kinds.Semicolon t
+is_semicolon t = has_kind kinds.Semicolon t
 
 semicolon_ends : (ts : List Symbol) → is_front is_semicolon ts ≡ true → is_front is_end ts ≡ true
 semicolon_ends [] e = absurd cc
@@ -37,10 +37,10 @@ end_front_no_word [] e = absurd cc
 end_front_no_word (t ∷ ts) e = end_no_word t.kind e
 
 -- what begins with no word doesn't begin with one then
-no_word_stays : (ts : List Symbol) → is_front is_word ts ≡ false → is_front is_word (mended ts) ≡ false
+no_word_stays : (ts : List Symbol) → is_front is_word ts ≡ false → is_front is_word (without_extra_marks ts) ≡ false
 no_word_stays [] e = refl
 no_word_stays (t ∷ ts) e =
-    elim (is_left_out t.kind ts) as (λ b. (is_left_out t.kind ts ≡ b) → is_front is_word (mended (t ∷ ts)) ≡ false) [
+    elim (is_left_out t.kind ts) as (λ b. (is_left_out t.kind ts ≡ b) → is_front is_word (without_extra_marks (t ∷ ts)) ≡ false) [
       | true ↦ λ is. rw (goes t ts is) (no_word_stays ts (end_front_no_word ts (before_end t.kind ts is)))
       | false ↦ λ is. rw (stays t ts is) e
     ] refl
@@ -52,10 +52,10 @@ semicolon_before t ts e is = elim (left_out t.kind ts is) [
 ]
 
 -- what begins with a semicolon still does
-semicolon_stays : (ts : List Symbol) → is_front is_semicolon ts ≡ true → is_front is_semicolon (mended ts) ≡ true
+semicolon_stays : (ts : List Symbol) → is_front is_semicolon ts ≡ true → is_front is_semicolon (without_extra_marks ts) ≡ true
 semicolon_stays [] e = absurd cc
 semicolon_stays (t ∷ ts) e =
-    elim (is_left_out t.kind ts) as (λ b. (is_left_out t.kind ts ≡ b) → is_front is_semicolon (mended (t ∷ ts)) ≡ true) [
+    elim (is_left_out t.kind ts) as (λ b. (is_left_out t.kind ts ≡ b) → is_front is_semicolon (without_extra_marks (t ∷ ts)) ≡ true) [
       | true ↦ λ is. rw (goes t ts is) (semicolon_stays ts (semicolon_before t ts e is))
       | false ↦ λ is. rw (stays t ts is) e
     ] refl
@@ -78,17 +78,17 @@ brace_no_semicolon kinds.CloseBrace other e = refl
 brace_no_semicolon _ other e = absurd cc
 
 -- what comes after a brace, or nothing, begins with no semicolon
-brace_stays : (ts : List Symbol) → is_front is_end ts ≡ true → is_front is_semicolon ts ≡ false → is_front is_semicolon (mended ts) ≡ false
+brace_stays : (ts : List Symbol) → is_front is_end ts ≡ true → is_front is_semicolon ts ≡ false → is_front is_semicolon (without_extra_marks ts) ≡ false
 brace_stays [] e other = refl
 brace_stays (t ∷ ts) e other =
     let is : t.kind ≡ kinds.CloseBrace = brace_no_semicolon t.kind other e in
     rw (kept t ts (rw is refl)) other
 
 -- what begins with no semicolon begins with none then, but for a comma before one
-no_semicolon_stays : (ts : List Symbol) → (IsSpoiled ts → ⊥) → is_front is_semicolon ts ≡ false → is_front is_semicolon (mended ts) ≡ false
+no_semicolon_stays : (ts : List Symbol) → (IsSpoiled ts → ⊥) → is_front is_semicolon ts ≡ false → is_front is_semicolon (without_extra_marks ts) ≡ false
 no_semicolon_stays [] sound e = refl
 no_semicolon_stays (t ∷ ts) sound e =
-    elim (is_left_out t.kind ts) as (λ b. (is_left_out t.kind ts ≡ b) → is_front is_semicolon (mended (t ∷ ts)) ≡ false) [
+    elim (is_left_out t.kind ts) as (λ b. (is_left_out t.kind ts ≡ b) → is_front is_semicolon (without_extra_marks (t ∷ ts)) ≡ false) [
       | true ↦ λ is. rw (goes t ts is)
           (brace_stays ts (before_end t.kind ts is) (no_second t ts (left_out_comma t.kind ts e is) sound))
       | false ↦ λ is. rw (stays t ts is) e
@@ -112,31 +112,31 @@ word_named t ts e f = rw (e, f) refl
 word_alone : (t : Symbol) (ts : List Symbol) → is_word t ≡ true → is_front is_semicolon ts ≡ false → named_next (t ∷ ts) ≡ None
 word_alone t ts e f = rw (e, f) refl
 
-word_keeps : (t : Symbol) (ts : List Symbol) → is_word t ≡ true → mended (t ∷ ts) ≡ t ∷ mended ts
+word_keeps : (t : Symbol) (ts : List Symbol) → is_word t ≡ true → without_extra_marks (t ∷ ts) ≡ t ∷ without_extra_marks ts
 word_keeps t ts e = kept t ts (rw (word_is t.kind e) refl)
 
 same_named : (ts : List Symbol) → ((t : Symbol) (us : List Symbol) → ts ≡ t ∷ us → is_word t ≡ true → IsSpoiled us → ⊥)
-    → named_next ts ≡ named_next (mended ts)
+    → named_next ts ≡ named_next (without_extra_marks ts)
 same_named [] sound = refl
 same_named (t ∷ ts) sound =
-    elim (is_word t) as (λ b. (is_word t ≡ b) → named_next (t ∷ ts) ≡ named_next (mended (t ∷ ts))) [
+    elim (is_word t) as (λ b. (is_word t ≡ b) → named_next (t ∷ ts) ≡ named_next (without_extra_marks (t ∷ ts))) [
       | true ↦ λ is. named_word t ts is (sound t ts refl is)
-      | false ↦ λ is. no_word_named (t ∷ ts) is ∙ sym (no_word_named (mended (t ∷ ts)) (no_word_stays (t ∷ ts) is))
+      | false ↦ λ is. no_word_named (t ∷ ts) is ∙ sym (no_word_named (without_extra_marks (t ∷ ts)) (no_word_stays (t ∷ ts) is))
     ] refl
   where
-    named_word : (t : Symbol) (ts : List Symbol) → is_word t ≡ true → (IsSpoiled ts → ⊥) → named_next (t ∷ ts) ≡ named_next (mended (t ∷ ts))
+    named_word : (t : Symbol) (ts : List Symbol) → is_word t ≡ true → (IsSpoiled ts → ⊥) → named_next (t ∷ ts) ≡ named_next (without_extra_marks (t ∷ ts))
     named_word t ts is sound =
-        elim (is_front is_semicolon ts) as (λ b. (is_front is_semicolon ts ≡ b) → named_next (t ∷ ts) ≡ named_next (mended (t ∷ ts))) [
-          | true ↦ λ semi. word_named t ts is semi ∙ sym (ap named_next (word_keeps t ts is) ∙ word_named t (mended ts) is (semicolon_stays ts semi))
+        elim (is_front is_semicolon ts) as (λ b. (is_front is_semicolon ts ≡ b) → named_next (t ∷ ts) ≡ named_next (without_extra_marks (t ∷ ts))) [
+          | true ↦ λ semi. word_named t ts is semi ∙ sym (ap named_next (word_keeps t ts is) ∙ word_named t (without_extra_marks ts) is (semicolon_stays ts semi))
           | false ↦ λ semi. word_alone t ts is semi
-              ∙ sym (ap named_next (word_keeps t ts is) ∙ word_alone t (mended ts) is (no_semicolon_stays ts sound semi))
+              ∙ sym (ap named_next (word_keeps t ts is) ∙ word_alone t (without_extra_marks ts) is (no_semicolon_stays ts sound semi))
         ] refl
 
 abbrev is_error : Symbol → Bool
 is_error t = is_keyword (codes "response_error") t
 
 abbrev is_equals : Symbol → Bool
-is_equals t = is_of kinds.Equals t
+is_equals t = has_kind kinds.Equals t
 
 error_next : (t q : Symbol) (us : List Symbol) → is_error t ≡ true → is_equals q ≡ true → named_error (t ∷ q ∷ us) ≡ named_next us
 error_next t q us e f = rw (e, f) refl
@@ -162,27 +162,27 @@ sound_after t q us none e f x vs is word (y, z, rest, comes, comma, semi) =
       (z ∷ rest, tt, (y ∷ z ∷ rest, tt, (x, whole, word, refl), (y, refl, comma, refl)), (z, refl, semi, refl)),
     )
 
-same_errors : (t q : Symbol) (us : List Symbol) → HasNoErrorAndComma (t ∷ q ∷ us) → named_error (t ∷ q ∷ us) ≡ named_error (t ∷ q ∷ mended us)
+same_errors : (t q : Symbol) (us : List Symbol) → HasNoErrorAndComma (t ∷ q ∷ us) → named_error (t ∷ q ∷ us) ≡ named_error (t ∷ q ∷ without_extra_marks us)
 same_errors t q us none =
-    elim (is_error t) as (λ b. (is_error t ≡ b) → named_error (t ∷ q ∷ us) ≡ named_error (t ∷ q ∷ mended us)) [
+    elim (is_error t) as (λ b. (is_error t ≡ b) → named_error (t ∷ q ∷ us) ≡ named_error (t ∷ q ∷ without_extra_marks us)) [
       | true ↦ λ e.
-          elim (is_equals q) as (λ b. (is_equals q ≡ b) → named_error (t ∷ q ∷ us) ≡ named_error (t ∷ q ∷ mended us)) [
-            | true ↦ λ f. error_next t q us e f ∙ same_named us (sound_after t q us none e f) ∙ sym (error_next t q (mended us) e f)
-            | false ↦ λ f. no_equals t q us f ∙ sym (no_equals t q (mended us) f)
+          elim (is_equals q) as (λ b. (is_equals q ≡ b) → named_error (t ∷ q ∷ us) ≡ named_error (t ∷ q ∷ without_extra_marks us)) [
+            | true ↦ λ f. error_next t q us e f ∙ same_named us (sound_after t q us none e f) ∙ sym (error_next t q (without_extra_marks us) e f)
+            | false ↦ λ f. no_equals t q us f ∙ sym (no_equals t q (without_extra_marks us) f)
           ] refl
-      | false ↦ λ e. no_error t (q ∷ us) e ∙ sym (no_error t (q ∷ mended us) e)
+      | false ↦ λ e. no_error t (q ∷ us) e ∙ sym (no_error t (q ∷ without_extra_marks us) e)
     ] refl
 
-two_stay : (t q : Symbol) (us : List Symbol) → is_word t ≡ true → last_limit q.kind ≡ Anything → mended (t ∷ q ∷ us) ≡ t ∷ q ∷ mended us
+two_stay : (t q : Symbol) (us : List Symbol) → is_word t ≡ true → last_limit q.kind ≡ Anything → without_extra_marks (t ∷ q ∷ us) ≡ t ∷ q ∷ without_extra_marks us
 two_stay t q us e f = word_keeps t (q ∷ us) e ∙ ap (λ (vs : List Symbol). t ∷ vs) (kept q us (rw f refl))
 
 same_of_two : (ts : List Symbol) (t q : Symbol) (us : List Symbol) → ts ≡ t ∷ q ∷ us → is_word t ≡ true → last_limit q.kind ≡ Anything → IsClean ts
-    → named_error ts ≡ named_error (mended ts)
+    → named_error ts ≡ named_error (without_extra_marks ts)
 same_of_two ts t q us is word last c =
     ap named_error is ∙ same_errors t q us (subst HasNoErrorAndComma is c.errors)
-    ∙ sym (ap named_error (ap mended is ∙ two_stay t q us word last))
+    ∙ sym (ap named_error (ap without_extra_marks is ∙ two_stay t q us word last))
 
-pub same_error : (ts : List Symbol) (rest : List Symbol) → general.spells ts tt rest → IsClean ts → named_error ts ≡ named_error (mended ts)
+pub same_error : (ts : List Symbol) (rest : List Symbol) → general.spells ts tt rest → IsClean ts → named_error ts ≡ named_error (without_extra_marks ts)
 same_error ts rest (u, mid, (t, is, word, v), others) c = elim others [
   | inl (a, us, (q, next, equals, b), x) ↦ same_of_two ts t q us (is ∙ ap (λ (vs : List Symbol). t ∷ vs) next) (other_is_word attribute_words t word)
       (ap last_limit (kind_is kinds.Equals q.kind equals)) c

@@ -4,18 +4,18 @@ use Rattle.std.specs.Prelude.{codes}
 use Rattle.std.proofs.lemmas.Bool.{eqb-true, lt-ltb, ltb-true}
 use Rattle.lin_ldf.specs.Forms.{Form, ◌>>=◌, ◌&◌, ◌&>◌, ◌<&◌, is_keyword, keyword, mark, nothing}
 use Rattle.lin_ldf.specs.Grammar as plain
-use Rattle.lin_ldf.specs.GrammarLaws.{both_true, is_of, is_word, keyword_is_word, other_is_word}
+use Rattle.lin_ldf.specs.GrammarLaws.{both_true, has_kind, is_word, keyword_is_word, other_is_word}
 use Rattle.lin_ldf.specs.Laws.{bind_some, made_is}
 use Rattle.lin_ldf.specs.Loops.{is_next}
 use Rattle.lin_ldf.specs.Numbers.{fraction_digit, fraction_part, has_three_decimals, has_zero_tail, int_value, is_hexadecimal, is_in_limit, is_whole, thousandths}
 use Rattle.lin_ldf.specs.Symbols.{Symbol, is_kind}
 use Rattle.lin_ldf.specs.UpTo.{depth_after, depth_behind, is_end, up_to}
-use Rattle.lin_ldf.specs.Words.{block, comma, consed_of, dec, dec_in, group, int, ints, is_word_but, list, name_of, new_word, new_words, no_comma, no_word, number_of, one_or_more, others, place_of, same_state, semicolon, with_name, word, word_but, words}
+use Rattle.lin_ldf.specs.Words.{block, comma, consed_of, dec, dec_in, group, int, ints, is_word_but, list, name_of, new_word, new_words, no_comma, no_word, placed_number, one_or_more, others, place_of, same_state, semicolon, with_name, word, word_but, words}
 use Rattle.lin_ldf.specs.declared.header.Nodes.{Nodes}
 use Rattle.lin_ldf.specs.declared.token.TokenKind.{TokenKind}
 use Rattle.lin_ldf.specs.declared.token.TokenKind.TheVariants as kinds
 use Rattle.lin_field.specs.Grammar as field
-use Rattle.lin_field.specs.Marks.{mended}
+use Rattle.lin_field.specs.Marks.{without_extra_marks}
 use Rattle.lin_field.specs.PlainTexts.{exact, loose_entry, loose_event, loose_frame, loose_init, loose_signal, loose_table, wide}
 use Rattle.lin_field.specs.declared.loose.LooseNodes.{LooseNodes}
 use Rattle.lin_tool.proofs.laws.Limits.{IsClean, IsWithin, Limit, clean_behind, covers, covers_anything, first_limit, goes, is_left_out, kind_is, last_limit, left_out, stays, within_kind}
@@ -55,7 +55,7 @@ pub same_word_but : (ws : List (List ℕ)) → Widens NoEnd Anything (word_but w
 same_word_but ws = same_token NoEnd Anything (is_word_but ws) (λ t. tt) (λ t e. word_within t (other_is_word ws t e))
 
 pub same_int : Widens NoEnd Anything int int (λ n. n)
-same_int = same_token NoEnd Anything _ _ (λ t e. number_within t (both_true (is_of kinds.Number t) _ e).0)
+same_int = same_token NoEnd Anything _ _ (λ t e. number_within t (both_true (has_kind kinds.Number t) _ e).0)
 
 -- ---- numbers with decimals
 
@@ -69,7 +69,7 @@ zero_digit (a ∷ b ∷ c ∷ d ∷ digits) e = ap (λ x. x - 48) (eqb-true d 48
 and_nothing : (n : ℕ) → n + 0 ≡ n
 and_nothing n = omega arith
 
-not_rounded : (w : List ℕ) → has_zero_tail (fraction_part w) ≡ true → field.rounded w ≡ thousandths w
+not_rounded : (w : List ℕ) → has_zero_tail (fraction_part w) ≡ true → field.rounded_thousandths w ≡ thousandths w
 not_rounded w e = rw (zero_digit (fraction_part w) e) (and_nothing (thousandths w))
 
 both_so : (a b : Bool) → a ≡ true → b ≡ true → (a && b) ≡ true
@@ -77,13 +77,13 @@ both_so a b e f = rw (e, f) refl
 
 pub dec_widens : Widens NoEnd Anything dec field.decimal exact
 dec_widens =
-    token_widens NoEnd Anything _ (λ t. is_kind kinds.Number t.kind && field.is_decimal t.text) (number_of thousandths) field.decimal_of exact
-    (λ t e. number_within t (both_true (is_of kinds.Number t) _ e).0)
+    token_widens NoEnd Anything _ (λ t. is_kind kinds.Number t.kind && field.is_decimal t.text) (placed_number thousandths) field.rounded_decimal exact
+    (λ t e. number_within t (both_true (has_kind kinds.Number t) _ e).0)
     (λ t e clean.
-    let a = both_true (is_of kinds.Number t) (has_three_decimals t.text && is_in_limit (thousandths t.text)) e in
+    let a = both_true (has_kind kinds.Number t) (has_three_decimals t.text && is_in_limit (thousandths t.text)) e in
     let b = both_true (has_three_decimals t.text) (is_in_limit (thousandths t.text)) a.1 in
     let c = both_true (not (is_hexadecimal t.text)) (has_zero_tail (fraction_part t.text)) b.0 in
-    let same : field.rounded t.text ≡ thousandths t.text = not_rounded t.text c.1 in (
+    let same : field.rounded_thousandths t.text ≡ thousandths t.text = not_rounded t.text c.1 in (
       both_so _ _ a.0 (both_so _ _ c.0 (ap is_in_limit same ∙ b.1)),
       λ i. record { number = record { value = same i; line = t.line; column = t.column }; is_rounded = ap not c.1 i },
     ))
@@ -101,9 +101,9 @@ wide_limit n e =
 int_widens : Widens NoEnd Anything int field.wide_int wide
 int_widens =
     token_widens NoEnd Anything _ (λ t. is_kind kinds.Number t.kind && (is_whole t.text && field.is_in_wide_limit (int_value t.text)))
-    (number_of int_value) field.wide_number_of wide (λ t e. number_within t (both_true (is_of kinds.Number t) _ e).0)
+    (placed_number int_value) field.wide_number_of wide (λ t e. number_within t (both_true (has_kind kinds.Number t) _ e).0)
     (λ t e clean.
-    let a = both_true (is_of kinds.Number t) (is_whole t.text && is_in_limit (int_value t.text)) e in
+    let a = both_true (has_kind kinds.Number t) (is_whole t.text && is_in_limit (int_value t.text)) e in
     let b = both_true (is_whole t.text) (is_in_limit (int_value t.text)) a.1 in
     (both_so _ _ a.0 (both_so _ _ b.0 (wide_limit (int_value t.text) b.1)), refl))
 
@@ -156,7 +156,7 @@ front_depth end n l m t w e f g = rw (e, f) g
 
 record Inside (end : TokenKind) (n m : ℕ) (w next : List Symbol) : Type 0 where
   kept : List Symbol
-  whole : mended (w ++ next) ≡ kept ++ mended next
+  whole : without_extra_marks (w ++ next) ≡ kept ++ without_extra_marks next
   balanced : depth_after end n kept ≡ Some m
 
 inside : (end : TokenKind) (w : List Symbol) (n m : ℕ) (next : List Symbol) → depth_after end n w ≡ Some m → Inside end n m w next
@@ -181,7 +181,7 @@ inside end (t ∷ w) n m next d =
 same_up_to : (end : TokenKind) → Widens Anything Anything (up_to end) (up_to end) (λ u. u)
 same_up_to end = record {
   begins = λ ts u rest x is. refl;
-  widened = λ ts u rest x c is. let i = inside end x.0 0 0 rest x.2 in (i.kept, ap mended x.1 ∙ i.whole, i.balanced);
+  widened = λ ts u rest x c is. let i = inside end x.0 0 0 rest x.2 in (i.kept, ap without_extra_marks x.1 ∙ i.whole, i.balanced);
   cleans = λ ts u rest x c. clean_behind x.0 rest (subst IsClean x.1 c);
 }
 
@@ -199,7 +199,7 @@ master_end =
     (left (left dec_widens (same_keyword (codes "ms")) refl) (into_right (is_next kinds.Comma) (comma &> list) (same_mark kinds.Semicolon)) refl)
 
 master_widens : (seen : List (List ℕ))
-    → Widens NoEnd NoSemicolon (plain.master seen) (field.master seen) (λ m. (m.0, (exact m.1.0, exact m.1.1)))
+    → Widens NoEnd NoSemicolon (plain.master seen) (field.loose_master seen) (λ m. (m.0, (exact m.1.0, exact m.1.1)))
 master_widens seen =
     right (keyword_mark (codes "Master") kinds.Colon)
     (both (left (same_new_word seen) (same_mark kinds.Comma) refl) (both (dec_in_widens (codes "ms") kinds.Comma) master_end refl) refl) refl
@@ -212,27 +212,27 @@ same_slaves seen =
 abbrev pub loose_nodes : Nodes → LooseNodes
 loose_nodes n = record { master = n.master; time_base = exact n.time_base; jitter = exact n.jitter; slaves = n.slaves }
 
-pub nodes_widen : Widens NoEnd Anything plain.nodes field.nodes loose_nodes
+pub nodes_widen : Widens NoEnd Anything plain.nodes_section field.loose_nodes loose_nodes
 nodes_widen =
-    value plain.nodes_of field.nodes_of loose_nodes
+    value plain.as_nodes field.as_loose_nodes loose_nodes
     (right (keyword_mark (codes "Nodes") kinds.OpenBrace)
     (then (λ m. plain.slaves (with_name [] m.0)) (master_widens []) (λ m. same_slaves (with_name [] m.0)) refl) refl) (λ p. refl)
 
 -- ---- signals
 
-array_widens : Widens NoEnd Anything plain.array field.array loose_init
+array_widens : Widens NoEnd Anything plain.array field.loose_array loose_init
 array_widens =
-    value plain.array_of field.array_of loose_init (both (same_token NoEnd Anything _ place_of (kind_within kinds.OpenBrace))
+    value plain.as_array field.as_loose_array loose_init (both (same_token NoEnd Anything _ place_of (kind_within kinds.OpenBrace))
     (left same_ints (same_mark kinds.CloseBrace) refl) refl) (λ p. refl)
 
 init_widens : Widens NoEnd Anything plain.init field.loose_init loose_init
 init_widens =
     same_either (is_next kinds.OpenBrace) (is_next kinds.OpenBrace) array_widens
-    (value plain.scalar_of field.scalar_of loose_init int_widens (λ n. refl))
+    (value plain.as_scalar field.as_loose_scalar loose_init int_widens (λ n. refl))
 
 pub signal_widens : (seen : List (List ℕ)) → Widens NoEnd NoSemicolon (plain.signal seen) (field.loose_signal seen) loose_signal
 signal_widens seen =
-    value plain.signal_of field.signal_of loose_signal
+    value plain.as_signal field.as_loose_signal loose_signal
     (both (left (same_new_word seen) (same_mark kinds.Colon) refl)
     (both (left same_int (same_mark kinds.Comma) refl)
     (both (left init_widens (same_mark kinds.Comma) refl)
@@ -249,23 +249,23 @@ same_placement s =
 same_placed : Widens NoEnd Anything plain.placed_signals plain.placed_signals (λ ps. ps)
 same_placed = same_block same_state (λ (s : Unit {0}). plain.placement) same_placement refl tt
 
-size_widens : Widens NoEnd Anything (comma &> int) field.frame_size field.some_of
+size_widens : Widens NoEnd Anything (comma &> int) field.optional_size field.some_of
 size_widens =
     into_left (is_next kinds.Comma) (nothing None) (value_of field.some_of (right (same_mark kinds.Comma) same_int refl))
 
-frame_rest : Widens NoEnd Anything (word <& comma & int & plain.placed_signals) (word & field.frame_size & plain.placed_signals)
+frame_rest : Widens NoEnd Anything (word <& comma & int & plain.placed_signals) (word & field.optional_size & plain.placed_signals)
     (λ p. (p.0, (field.some_of p.1.0, p.1.1)))
 frame_rest = mark_moved word comma int plain.placed_signals (both same_word (both size_widens same_placed refl) refl)
 
-pub frame_widens : (seen : List (List ℕ)) → Widens NoEnd Anything (plain.frame seen) (field.loose_frame seen) loose_frame
+pub frame_widens : (seen : List (List ℕ)) → Widens NoEnd Anything (plain.frame_declaration seen) (field.loose_frame seen) loose_frame
 frame_widens seen =
-    value plain.frame_of field.frame_of loose_frame
+    value plain.as_frame field.as_loose_frame loose_frame
     (both (left (same_new_word seen) (same_mark kinds.Colon) refl) (both (left same_int (same_mark kinds.Comma) refl) frame_rest refl) refl)
     (λ p. refl)
 
 same_sporadic : (seen : List (List ℕ)) → Widens NoEnd NoSemicolon (plain.sporadic_frame seen) (plain.sporadic_frame seen) (λ f. f)
 same_sporadic seen =
-    value plain.sporadic_of plain.sporadic_of (λ f. f)
+    value plain.as_sporadic plain.as_sporadic (λ f. f)
     (both (left (same_new_word seen) (same_mark kinds.Colon) refl) (left same_words (same_mark kinds.Semicolon) refl) refl) (λ p. refl)
 
 pub same_sporadics : (seen : List (List ℕ)) → Widens NoEnd Anything (plain.sporadic seen) (plain.sporadic seen) (λ fs. fs)
@@ -277,7 +277,7 @@ table_widens = into_left (is_next kinds.Word) (nothing None) (value_of field.som
 
 pub event_widens : (seen : List (List ℕ)) → Widens NoEnd NoSemicolon (plain.event_frame seen) (field.loose_event seen) loose_event
 event_widens seen =
-    value plain.event_of field.event_of loose_event
+    value plain.as_event field.as_loose_event loose_event
     (both (left (same_new_word seen) (same_mark kinds.Colon) refl)
     (both table_widens (both (left same_int (same_mark kinds.Comma) refl) (left same_words (same_mark kinds.Semicolon) refl) refl) refl) refl)
     (λ p. refl)
@@ -291,7 +291,7 @@ same_has_group =
 
 pub entry_widens : (s : Unit {0}) → Widens NoEnd NoSemicolon plain.entry field.loose_entry loose_entry
 entry_widens s =
-    value plain.entry_of field.entry_of loose_entry
+    value plain.as_entry field.as_loose_entry loose_entry
     (both same_word (both (left same_has_group (same_keyword (codes "delay")) refl) (dec_in_widens (codes "ms") kinds.Semicolon) refl) refl)
     (λ p. refl)
 
@@ -302,4 +302,4 @@ entries_widen =
 
 pub plain_table_widens : (seen : List (List ℕ)) → Widens NoEnd Anything (plain.table seen) (field.loose_table seen) loose_table
 plain_table_widens seen =
-    value plain.table_of field.table_of loose_table (both (same_new_word seen) entries_widen refl) (λ p. refl)
+    value plain.as_table field.as_loose_table loose_table (both (same_new_word seen) entries_widen refl) (λ p. refl)

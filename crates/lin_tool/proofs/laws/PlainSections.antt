@@ -15,13 +15,13 @@ use Rattle.lin_ldf.specs.Names.{has_name}
 use Rattle.lin_ldf.specs.Symbols.{Symbol, is_kind}
 use Rattle.lin_ldf.specs.Words.{block, equals, group, int, is_word_but, is_word_next, list, no_word, once, semicolon, word_but}
 use Rattle.lin_ldf.specs.declared.node_attributes.NodeBlocks.{NodeBlocks}
-use Rattle.lin_ldf.specs.declared.node_attributes.Settings.{Settings}
+use Rattle.lin_ldf.specs.declared.node_attributes.AttributeSettings.{AttributeSettings}
 use Rattle.lin_ldf.specs.declared.section.SectionWord.{SectionWord}
 use Rattle.lin_ldf.specs.declared.section.SectionWord.TheVariants as words_of
 use Rattle.lin_ldf.specs.declared.section.Sections.{Sections}
 use Rattle.lin_ldf.specs.declared.token.TokenKind.TheVariants as kinds
 use Rattle.lin_field.specs.Grammar as field
-use Rattle.lin_field.specs.Marks.{mended}
+use Rattle.lin_field.specs.Marks.{without_extra_marks}
 use Rattle.lin_field.specs.PlainTexts.{loose_block, loose_event, loose_frame, loose_signal, loose_table}
 use Rattle.lin_field.specs.declared.file.FieldWord.{FieldWord}
 use Rattle.lin_field.specs.declared.file.FieldWord.TheVariants as field_words_of
@@ -39,12 +39,12 @@ use Rattle.lin_tool.proofs.laws.Widens.{Widens, both, gathering_widens, into_cho
 
 -- ---- what stands at the front
 
-word_stays : (t : Symbol) (ts : List Symbol) → is_word t ≡ true → mended (t ∷ ts) ≡ t ∷ mended ts
+word_stays : (t : Symbol) (ts : List Symbol) → is_word t ≡ true → without_extra_marks (t ∷ ts) ≡ t ∷ without_extra_marks ts
 word_stays t ts e = kept t ts (rw (word_is t.kind e) refl)
 
 -- this word is none of those
 pub keyword_front : (w : List ℕ) (ws : List (List ℕ)) → has_name ws w ≡ false → (ts : List Symbol) → is_front (is_keyword w) ts ≡ true
-    → is_front (is_word_but ws) (mended ts) ≡ true
+    → is_front (is_word_but ws) (without_extra_marks ts) ≡ true
 keyword_front w ws absent [] e = absurd cc
 keyword_front w ws absent (t ∷ ts) e =
     let is : is_word t ≡ true = keyword_is_word w t e in
@@ -59,7 +59,7 @@ no_names ws (v ∷ vs) name absent all =
 
 -- a word that is none of some, and none of the field's, is none of those among both
 pub word_front : (old ws : List (List ℕ)) → list_all (has_name (old ++ field_words)) ws ≡ true → (ts : List Symbol) → IsClean ts
-    → is_front (is_word_but old) ts ≡ true → is_front (is_word_but ws) (mended ts) ≡ true
+    → is_front (is_word_but old) ts ≡ true → is_front (is_word_but ws) (without_extra_marks ts) ≡ true
 word_front old ws all [] c e = absurd cc
 word_front old ws all (t ∷ ts) c e =
     let parts = both_true (is_word t) (not (has_name old t.text)) e in
@@ -123,31 +123,31 @@ same_named = record {
   cleans = λ ts a rest x c. same_general.cleans ts tt rest x.0 c;
 }
 
-same_protocols : (s : Settings)
+same_protocols : (s : AttributeSettings)
     → Widens NoEnd NoSemicolon (as_value (plain.with_protocol s) (once s.protocol plain.protocol))
     (as_value (plain.with_protocol s) (once s.protocol plain.protocol)) (λ z. z)
 same_protocols s = value (plain.with_protocol s) (plain.with_protocol s) (λ z. z) (same_once_itself s.protocol same_protocol) (λ p. refl)
 
-same_nads : (s : Settings)
+same_nads : (s : AttributeSettings)
     → Widens NoEnd NoSemicolon (as_value (plain.with_nad s) (once s.configured_nad plain.configured_nad))
     (as_value (plain.with_nad s) (once s.configured_nad plain.configured_nad)) (λ z. z)
 same_nads s = value (plain.with_nad s) (plain.with_nad s) (λ z. z) (same_once_itself s.configured_nad same_configured) (λ p. refl)
 
-same_attr : (s : Settings) → Widens NoEnd NoSemicolon (plain.attr s) (plain.attr s) (λ z. z)
+same_attr : (s : AttributeSettings) → Widens NoEnd NoSemicolon (plain.attr s) (plain.attr s) (λ z. z)
 same_attr s =
     same_either (is_word_next (codes "LIN_protocol")) (is_word_next (codes "LIN_protocol")) (same_protocols s)
     (same_either (is_word_next (codes "configured_NAD")) (is_word_next (codes "configured_NAD")) (same_nads s)
     (value (plain.with_error s) (plain.with_error s) (λ z. z) same_named (λ p. refl)))
 
-abbrev loose_settings : Settings → LooseSettings
+abbrev loose_settings : AttributeSettings → LooseSettings
 loose_settings s = record { plain = s; initial_nad = None }
 
 general_begins : Begins (is_word_but plain.attribute_words) plain.general
 general_begins =
     begins_other plain.attribute_words (either (is_next kinds.Equals) (equals &> list) group)
 
-attr_front : (s : Settings) (ts : List Symbol) (a : Settings) (rest : List Symbol) → (plain.attr s).spells ts a rest → IsClean ts
-    → is_front (is_word_but field.initial_word) (mended ts) ≡ true
+attr_front : (s : AttributeSettings) (ts : List Symbol) (a : AttributeSettings) (rest : List Symbol) → (plain.attr s).spells ts a rest → IsClean ts
+    → is_front (is_word_but field.initial_word) (without_extra_marks ts) ≡ true
 attr_front s ts a rest x c = elim x [
   | inl y ↦ keyword_front (codes "LIN_protocol") field.initial_word refl ts
       (begins_once plain.protocol (is_keyword (codes "LIN_protocol")) s.protocol
@@ -160,10 +160,10 @@ attr_front s ts a rest x c = elim x [
   ]
 ]
 
-attr_widens : (s : Settings) → Widens NoEnd NoSemicolon (plain.attr s) (field.loose_attr (loose_settings s)) loose_settings
+attr_widens : (s : AttributeSettings) → Widens NoEnd NoSemicolon (plain.attr s) (field.loose_attr (loose_settings s)) loose_settings
 attr_widens s =
     into_right (is_word_next (codes "initial_NAD"))
-    (as_value (field.with_initial (loose_settings s)) (plain.nad (codes "initial_NAD")))
+    (as_value (field.with_initial (loose_settings s)) (plain.nad_attribute (codes "initial_NAD")))
     (value_of (field.with_settings (loose_settings s)) (unless_widens field.initial_word (same_attr s) (attr_front s)))
 
 settings_widen : Widens NoEnd Anything plain.settings field.loose_settings loose_settings
@@ -174,7 +174,7 @@ settings_widen =
 
 block_of_node : (s : NodeBlocks) → Widens NoEnd Anything (plain.attribute_block s) (field.loose_block s) loose_block
 block_of_node s =
-    value plain.attributes_of field.attributes_of loose_block (both (same_new_word s.seen) settings_widen refl) (λ p. refl)
+    value plain.as_attributes field.as_loose_attributes loose_block (both (same_new_word s.seen) settings_widen refl) (λ p. refl)
 
 -- ---- sections
 
@@ -198,10 +198,10 @@ same_fold next wide h same s (x ∷ xs) = ap (λ z. fold wide z (map h xs)) (sam
 signals_widen : (s : Sections)
     → Widens NoEnd Anything (plain.section_of words_of.Signals s) (field.loose_section_of field_words_of.Signals (loose_sections s)) loose_sections
 signals_widen s =
-    value (plain.with_signals s) (field.with_signals (loose_sections s)) loose_sections
+    value (plain.with_signals s) (field.with_loose_signals (loose_sections s)) loose_sections
     (same_once s.signals (map loose_signal)
     (right (same_keyword (codes "Signals"))
-    (block_widens plain.with_signal field.with_signal plain.signal field.loose_signal loose_signal signal_widens refl (λ z a. refl) []) refl))
+    (block_widens plain.with_signal field.with_loose_signal plain.signal field.loose_signal loose_signal signal_widens refl (λ z a. refl) []) refl))
     (λ x. refl)
 
 sporadics_widen : (s : Sections)
@@ -237,44 +237,44 @@ attributes_as s attributes blocks =
 frames_widen : (s : Sections)
     → Widens NoEnd Anything (plain.section_of words_of.Frames s) (field.loose_section_of field_words_of.Frames (loose_sections s)) loose_sections
 frames_widen s =
-    value (plain.with_frames s) (field.with_frames (loose_sections s)) loose_sections
+    value (plain.with_frames s) (field.with_loose_frames (loose_sections s)) loose_sections
     (same_once s.frames (map loose_frame)
     (right (same_keyword (codes "Frames"))
-    (block_widens plain.with_frame field.with_frame plain.frame field.loose_frame loose_frame frame_widens refl (λ z a. refl) s.frame_names)
+    (block_widens plain.with_frame field.with_loose_frame plain.frame_declaration field.loose_frame loose_frame frame_widens refl (λ z a. refl) s.frame_names)
     refl))
     (λ x. ap (frames_as s (Some (map loose_frame x)) (loose_sections s).events)
-    (same_fold plain.with_frame field.with_frame loose_frame (λ z a. refl) s.frame_names x))
+    (same_fold plain.with_frame field.with_loose_frame loose_frame (λ z a. refl) s.frame_names x))
 
 events_widen : (s : Sections)
     → Widens NoEnd Anything (plain.section_of words_of.Event s) (field.loose_section_of field_words_of.Event (loose_sections s)) loose_sections
 events_widen s =
-    value (plain.with_events s) (field.with_events (loose_sections s)) loose_sections
+    value (plain.with_events s) (field.with_loose_events (loose_sections s)) loose_sections
     (same_once s.events (map loose_event)
     (right (same_keyword (codes "Event_triggered_frames"))
-    (block_widens plain.with_event field.with_event plain.event_frame field.loose_event loose_event event_widens refl
+    (block_widens plain.with_event field.with_loose_event plain.event_frame field.loose_event loose_event event_widens refl
     (λ z a. refl) s.frame_names) refl))
     (λ x. ap (frames_as s (loose_sections s).frames (Some (map loose_event x)))
-    (same_fold plain.with_event field.with_event loose_event (λ z a. refl) s.frame_names x))
+    (same_fold plain.with_event field.with_loose_event loose_event (λ z a. refl) s.frame_names x))
 
 attributes_widen : (s : Sections)
     → Widens NoEnd Anything (plain.section_of words_of.Attributes s)
     (field.loose_section_of field_words_of.Attributes (loose_sections s)) loose_sections
 attributes_widen s =
-    value (plain.with_attributes s) (field.with_attributes (loose_sections s)) loose_sections
+    value (plain.with_attributes s) (field.with_loose_attributes (loose_sections s)) loose_sections
     (same_once s.attributes (map loose_block)
     (right (same_keyword (codes "Node_attributes"))
-    (block_widens plain.with_block field.with_block plain.attribute_block field.loose_block loose_block block_of_node refl
+    (block_widens plain.with_block field.with_loose_block plain.attribute_block field.loose_block loose_block block_of_node refl
     (λ z a. refl) s.blocks) refl))
     (λ x. ap (attributes_as s (Some (map loose_block x)))
-    (same_fold plain.with_block field.with_block loose_block (λ z a. refl) s.blocks x))
+    (same_fold plain.with_block field.with_loose_block loose_block (λ z a. refl) s.blocks x))
 
 tables_widen : (s : Sections)
     → Widens NoEnd Anything (plain.section_of words_of.Tables s) (field.loose_section_of field_words_of.Tables (loose_sections s)) loose_sections
 tables_widen s =
-    value (plain.with_tables s) (field.with_tables (loose_sections s)) loose_sections
+    value (plain.with_tables s) (field.with_loose_tables (loose_sections s)) loose_sections
     (same_once s.tables (map loose_table)
     (right (same_keyword (codes "Schedule_tables"))
-    (block_widens plain.with_table field.with_table plain.table field.loose_table loose_table plain_table_widens refl (λ z a. refl) []) refl))
+    (block_widens plain.with_table field.with_loose_table plain.table field.loose_table loose_table plain_table_widens refl (λ z a. refl) []) refl))
     (λ x. refl)
 
 abbrev into_section : (s : Sections) (w : SectionWord) (k : FieldWord)

@@ -13,7 +13,7 @@ use Rattle.lin_ldf.specs.Forms.{Form}
 use Rattle.lin_ldf.specs.Grammar as plain
 use Rattle.lin_ldf.specs.GrammarLaws.{both_true}
 use Rattle.lin_ldf.specs.KindLaws.{word_is}
-use Rattle.lin_ldf.specs.Loops.{Several, Steps}
+use Rattle.lin_ldf.specs.Loops.{Several, ItemSteps}
 use Rattle.lin_ldf.specs.Symbols.{Symbol, is_kind}
 use Rattle.lin_ldf.specs.Tokens.{IsToken, IsWord}
 use Rattle.lin_ldf.specs.Words.{once, word}
@@ -105,7 +105,7 @@ section_named words_of.Nodes s ts next rest h c so = absurd h
 section_named words_of.Unused s ts next rest (a, h, same) c so = subst NamesSo same so
 
 pub sections_named : (n : ℕ) (s : Sections) (ts : List Symbol) (last : Sections) (rest : List Symbol)
-    → Steps (λ x. (plain.section x).spells) n s ts last rest → IsClean ts → NamesSo s → NamesSo last
+    → ItemSteps (λ x. (plain.section x).spells) n s ts last rest → IsClean ts → NamesSo s → NamesSo last
 sections_named zero s ts last rest x c so = subst NamesSo (sym x.0) so
 sections_named (suc n) s ts last rest x c so =
     sections_named n x.0 x.1 last rest x.3 ((section_widens s).cleans ts x.0 x.1 x.2 c) (section_named x.2.0 s ts x.0 x.1 x.2.1 c so)

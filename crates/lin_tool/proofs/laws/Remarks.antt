@@ -7,9 +7,9 @@ use Rattle.std.proofs.lemmas.List.Elements.{All-cons, All-head, All-nil, All-tai
 use Rattle.std.proofs.lemmas.List.Splits.{slice_split_at}
 use Rattle.lin_log.specs.Laws.{is_quiet, no_end}
 use Rattle.lin_log.proofs.Items.{both, joined, weaker}
-use Rattle.lin_live.specs.Lines.{HasNoLf, but_last, last_one, pieces}
+use Rattle.lin_live.specs.Lines.{HasNoLf, but_last, last_one, pieces_at_lf}
 use Rattle.lin_live.proofs.Cuts.{pieces-some}
-use Rattle.lin_tool.specs.laws.Transcripts.{IsRemark, ended, is_said, lines_with_ends, without_remarks}
+use Rattle.lin_tool.specs.laws.Transcripts.{IsRemark, with_line_end, is_said, lines_with_ends, without_remarks}
 
 -- what holds of both
 pub each-way : {X : Type 0} (P : X → Type 0) (t : Bool) (a b : X) → P a → P b → P (if t then a else b)
@@ -57,28 +57,28 @@ bytes-clean (x ∷ xs) h =
 
 -- ---- a line in front of a text
 abbrev pub with_ends : List (List ℕ) → List (List ℕ)
-with_ends ps = map ended (but_last ps) ++ last_one ps ∷ []
+with_ends ps = map with_line_end (but_last ps) ++ last_one ps ∷ []
 
-ends-more : (l : List ℕ) (ps : List (List ℕ)) (q : List ℕ) (qs : List (List ℕ)) → ps ≡ q ∷ qs → with_ends (l ∷ ps) ≡ ended l ∷ with_ends ps
+ends-more : (l : List ℕ) (ps : List (List ℕ)) (q : List ℕ) (qs : List (List ℕ)) → ps ≡ q ∷ qs → with_ends (l ∷ ps) ≡ with_line_end l ∷ with_ends ps
 ends-more l [] q qs e = absurd (cc)
 ends-more l (p ∷ ps) q qs e = refl
 
-line-cut : (body rest : List ℕ) → is_clean body ≡ true → lines_with_ends (body ++ 10 ∷ rest) ≡ ended body ∷ lines_with_ends rest
+line-cut : (body rest : List ℕ) → is_clean body ≡ true → lines_with_ends (body ++ 10 ∷ rest) ≡ with_line_end body ∷ lines_with_ends rest
 line-cut body rest h =
     let s = pieces-some rest in
-    ap with_ends (slice_split_at (λ b. b == 10) body 10 rest (clean-bytes body h) refl) ∙ ends-more body (pieces rest) s.0 s.1 s.2
+    ap with_ends (slice_split_at (λ b. b == 10) body 10 rest (clean-bytes body h) refl) ∙ ends-more body (pieces_at_lf rest) s.0 s.1 s.2
 
 said-by : (line : List ℕ) (more : List (List ℕ)) (t : Bool) → is_said line ≡ t
     → flat_map (λ l. l) (filter is_said (line ∷ more)) ≡ (if t then line else []) ++ flat_map (λ l. l) (filter is_said more)
 said-by line more true e = rw e refl
 said-by line more false e = rw e refl
 
-line-first : (body rest : List ℕ) (t : Bool) → is_clean body ≡ true → is_said (ended body) ≡ t
-    → without_remarks (ended body ++ rest) ≡ (if t then ended body else []) ++ without_remarks rest
+line-first : (body rest : List ℕ) (t : Bool) → is_clean body ≡ true → is_said (with_line_end body) ≡ t
+    → without_remarks (with_line_end body ++ rest) ≡ (if t then with_line_end body else []) ++ without_remarks rest
 line-first body rest t h e =
     ap without_remarks (append_assoc body (10 ∷ []) rest)
     ∙ ap (λ ls. flat_map (λ l. l) (filter is_said ls)) (line-cut body rest h)
-    ∙ said-by (ended body) (lines_with_ends rest) t e
+    ∙ said-by (with_line_end body) (lines_with_ends rest) t e
 
 -- a text that stays, and one that goes
 abbrev pub Stays : List ℕ → Type 0
@@ -87,7 +87,7 @@ Stays t = (rest : List ℕ) → without_remarks (t ++ rest) ≡ t ++ without_rem
 abbrev pub Goes : List ℕ → Type 0
 Goes t = (rest : List ℕ) → without_remarks (t ++ rest) ≡ without_remarks rest
 
-pub stays-line : (body : List ℕ) → is_clean body ≡ true → is_said (ended body) ≡ true → Stays (ended body)
+pub stays-line : (body : List ℕ) → is_clean body ≡ true → is_said (with_line_end body) ≡ true → Stays (with_line_end body)
 stays-line body h e rest = line-first body rest true h e
 
 pub a-remark : (words : List ℕ) → is_clean words ≡ true → IsRemark (35 ∷ (words ++ 10 ∷ []))

@@ -36,12 +36,12 @@ use Rattle.lin_core.specs.declared.reply.Reply.{Reply}
 use Rattle.lin_core.specs.declared.reply.Reply.TheVariants.{Done, Refused}
 use Rattle.lin_core.specs.declared.step.Step.{Step}
 use Rattle.lin_core.specs.declared.step.Step.TheVariants.{Finish, Write}
-use Rattle.lin_log.specs.Language.{named}
+use Rattle.lin_log.specs.Language.{named_language}
 use Rattle.lin_log.specs.Laws.{HasNames, IsQuiet, are_quiet, is_name, is_quiet}
 use Rattle.lin_log.specs.Words.{event_words, value_word}
 use Rattle.lin_log.proofs.Items.{item-name, joined}
 use Rattle.lin_log.proofs.Quiet.{quiet-decimal, quiet-encoded, quiet-event, quiet-hex, quiet-visible}
-use Rattle.lin_export.specs.Named.{behind, control_words, event_lines, frame_values, frame_words, good_words, lines_of_reply, named_event, place_values, seen_values, signal_words, slot_values, slot_names, sporadic_frame, time_words, transport, transport_words, value_lines, who_word, written_values}
+use Rattle.lin_export.specs.Named.{words_after_event, control_words, event_lines, frame_values, frame_words, good_words, lines_of_reply, named_event, place_values, seen_values, signal_words, slot_values, slot_names, sporadic_frame_under, time_words, transport, transport_words, value_lines, who_word, written_values}
 use Rattle.lin_export.specs.Shown.{slot_frame}
 use Rattle.lin_export.specs.WhereTold.{where_told}
 use Rattle.lin_values.specs.Coded.{CodedData}
@@ -64,12 +64,12 @@ name-by : (n k : ℕ) (name : List ℕ) (t : Bool) → nat_lt k n ≡ t → (k <
 name-by n k name true e p q = quiet-name name (p (grind (arith, common_steps)))
 name-by n k name false e p q = rw (q (grind (arith, common_steps))) refl
 
-node-name : (c : Parts) → HasNames (named c) → (k : ℕ) → is_quiet (node_of c k).name ≡ true
+node-name : (c : Parts) → HasNames (named_language c) → (k : ℕ) → is_quiet (node_of c k).name ≡ true
 node-name c a k =
     name-by (nodes c) k (node_of c k).name (nat_lt k (nodes c)) refl (a.of_nodes.words k)
     (λ le. ap (λ (n : NodeParts). n.name) (get_or_past c.nodes k (record { name = []; nad = None }) le))
 
-signal-name : (c : Parts) → HasNames (named c) → (k : ℕ) → is_quiet (signal_of c k).name ≡ true
+signal-name : (c : Parts) → HasNames (named_language c) → (k : ℕ) → is_quiet (signal_of c k).name ≡ true
 signal-name c a k =
     name-by (length c.signals) k (signal_of c k).name (nat_lt k (length c.signals)) refl (a.of_signals.words k)
     (λ le. ap (λ (s : Signal). s.name) (get_or_past c.signals k (record { name = []; publisher = 0; subscribers = []; size = 1; initial = Scalar 0 }) le))
@@ -103,23 +103,23 @@ listed-frames c b (Some f) = rw (frame-name c b f) refl
 
 pub slot-quiet : (c : Parts) → HasFrameNames c → (e : Event) → are_quiet (slot_names c e) ≡ true
 slot-quiet c b (event.Slot table entry header) =
-    rw (entry-name c b (line_of c table entry).entry, listed-frames c b (sporadic_frame c (line_of c table entry).entry header)) refl
+    rw (entry-name c b (line_of c table entry).entry, listed-frames c b (sporadic_frame_under c (line_of c table entry).entry header)) refl
 slot-quiet c b e = refl
 
-event-quiet : (c : Parts) → HasNames (named c) → HasFrameNames c → (e : Event) → are_quiet (named_event c e) ≡ true
-event-quiet c a b e = joined is_quiet (event_words (named c) e) (slot_names c e) (quiet-event (named c) a e) (slot-quiet c b e)
+event-quiet : (c : Parts) → HasNames (named_language c) → HasFrameNames c → (e : Event) → are_quiet (named_event c e) ≡ true
+event-quiet c a b e = joined is_quiet (event_words (named_language c) e) (slot_names c e) (quiet-event (named_language c) a e) (slot-quiet c b e)
 
 pub value-quiet : (v : Value) → is_quiet (value_word v) ≡ true
 value-quiet (Scalar n) = quiet-decimal n
 value-quiet (Bytes bytes) = rw (quiet-hex bytes) refl
 
 -- ---- what a good response means
-signals-quiet : (c : Parts) → HasNames (named c) → (answer : List ℕ) (ps : List (ℕ × Place)) → are_quiet (flat_map (signal_words c answer) ps) ≡ true
+signals-quiet : (c : Parts) → HasNames (named_language c) → (answer : List ℕ) (ps : List (ℕ × Place)) → are_quiet (flat_map (signal_words c answer) ps) ≡ true
 signals-quiet c a answer [] = refl
 signals-quiet c a answer (p ∷ ps) =
     rw (signal-name c a p.0, value-quiet (unpacked_value p.1 (take 8 answer)), signals-quiet c a answer ps) refl
 
-frame-quiet : (c : Parts) → HasNames (named c) → HasFrameNames c → (f : ℕ) (answer : List ℕ)
+frame-quiet : (c : Parts) → HasNames (named_language c) → HasFrameNames c → (f : ℕ) (answer : List ℕ)
     → are_quiet (frame_words c f answer) ≡ true
 frame-quiet c a b f answer =
     rw (frame-name c b f, signals-quiet c a answer (zip (frame_of c f).signals (frame_of c f).layout.places)) refl
@@ -129,7 +129,7 @@ option-quiet : (f : ℕ → List ℕ) (o : Option ℕ) (other : List ℕ) → ((
 option-quiet f None other p q = q
 option-quiet f (Some k) other p q = p k
 
-who-quiet : (c : Parts) → HasNames (named c) → (address : ℕ) → is_quiet (who_word c address) ≡ true
+who-quiet : (c : Parts) → HasNames (named_language c) → (address : ℕ) → is_quiet (who_word c address) ≡ true
 who-quiet c a address =
     option-quiet (λ n. (node_of c n).name) (node_with c address) (decimal address) (node-name c a) (quiet-decimal address)
 
@@ -149,7 +149,7 @@ control-quiet control len =
     (words-if (control / 16 == 1) _ _ (word-and-number (codes "first") (256 * (control % 16) + len) refl)
     (words-if (control / 16 == 2) _ _ (word-and-number (codes "next") (control % 16) refl) (other-byte control)))
 
-way-quiet : (c : Parts) → HasNames (named c) → (way answer : List ℕ) → is_quiet way ≡ true → are_quiet (transport_words c way answer) ≡ true
+way-quiet : (c : Parts) → HasNames (named_language c) → (way answer : List ℕ) → is_quiet way ≡ true → are_quiet (transport_words c way answer) ≡ true
 way-quiet c a way answer h =
     rw (who-quiet c a (slice_index answer 0), h, control-quiet (slice_index answer 1) (slice_index answer 2)) refl
 
@@ -167,18 +167,18 @@ may-option : {A : Type 0} (f : A → Option (List (List ℕ))) (o : Option A) (o
 may-option f None other p q = q
 may-option f (Some x) other p q = p x
 
-transport-quiet : (c : Parts) → HasNames (named c) → (header : Option ℕ) (answer : List ℕ) → MayBeQuiet (transport c header answer)
+transport-quiet : (c : Parts) → HasNames (named_language c) → (header : Option ℕ) (answer : List ℕ) → MayBeQuiet (transport c header answer)
 transport-quiet c a header answer =
     may-if (header_is 0x3C header) (Some _) _
     (words-if (slice_index answer 0 == 0) (codes "transport" ∷ codes "sleep" ∷ []) (transport_words c (codes "down") answer) refl (way-quiet c a (codes "down") answer refl))
     (may-if (header_is 0x7D header) (Some (transport_words c (codes "up") answer)) None (way-quiet c a (codes "up") answer refl) tt)
 
-good-quiet : (c : Parts) → HasNames (named c) → HasFrameNames c → (answer : List ℕ) (s : Slot) → MayBeQuiet (good_words c answer s)
+good-quiet : (c : Parts) → HasNames (named_language c) → HasFrameNames c → (answer : List ℕ) (s : Slot) → MayBeQuiet (good_words c answer s)
 good-quiet c a b answer s =
     may-option (λ f. Some (frame_words c f answer)) (slot_frame c (line_of c s.table s.entry).entry s) (transport c s.header answer)
     (λ f. frame-quiet c a b f answer) (transport-quiet c a s.header answer)
 
-behind-quiet : (c : Parts) → HasNames (named c) → HasFrameNames c → (o : Option Slot) (e : Event) → MayBeQuiet (behind c o e)
+behind-quiet : (c : Parts) → HasNames (named_language c) → HasFrameNames c → (o : Option Slot) (e : Event) → MayBeQuiet (words_after_event c o e)
 behind-quiet c a b o (event.Seen (seen.Good answer)) = may-option (good_words c answer) o None (good-quiet c a b answer) tt
 behind-quiet c a b o e = tt
 
@@ -212,7 +212,7 @@ meant-quiet : (name : List ℕ) (o : Option Meant) → is_quiet name ≡ true �
 meant-quiet name None h k = All-nil IsQuietLine
 meant-quiet name (Some m) h k = one-quiet (Some (codes "value" ∷ name ∷ shown m ∷ [])) (rw (h, k) refl)
 
-module _ (c : Parts) (a : HasNames (named c)) (d : CodedData) (one : AreOneLine d) where
+module _ (c : Parts) (a : HasNames (named_language c)) (d : CodedData) (one : AreOneLine d) where
   value_lines-quiet : (s : ℕ) (v : Value) → AreQuiet (value_lines c d s v)
   value_lines-quiet s v = meant-quiet (signal_of c s).name (meaning d s v) (signal-name c a s) (one s v)
 
@@ -245,18 +245,18 @@ where-quiet : (k : Option CodedData) (says : CodedData → List (List (List ℕ)
 where-quiet None says one h = All-nil IsQuietLine
 where-quiet (Some d) says one h = h d one
 
-module _ (c : Parts) (k : Option CodedData) (a : HasNames (named c)) (b : HasFrameNames c) (one : IfSome k AreOneLine) where
+module _ (c : Parts) (k : Option CodedData) (a : HasNames (named_language c)) (b : HasFrameNames c) (one : IfSome k AreOneLine) where
   lines-quiet : (o : Option Slot) (e : Event) → AreQuiet (event_lines c k o e)
   lines-quiet o e =
-      All-cons IsQuietLine (named_event c e) (option_to_list (behind c o e) ++ where_told k (λ d. seen_values c d o e)) (event-quiet c a b e)
-      (quiet-both (option_to_list (behind c o e)) (where_told k (λ d. seen_values c d o e)) (one-quiet (behind c o e) (behind-quiet c a b o e))
+      All-cons IsQuietLine (named_event c e) (option_to_list (words_after_event c o e) ++ where_told k (λ d. seen_values c d o e)) (event-quiet c a b e)
+      (quiet-both (option_to_list (words_after_event c o e)) (where_told k (λ d. seen_values c d o e)) (one-quiet (words_after_event c o e) (behind-quiet c a b o e))
       (where-quiet k (λ d. seen_values c d o e) one (λ d q. seen_values-quiet c a d q o e)))
 
 pub refusal-quiet : (r : Refusal) → is_quiet (refusal_word r) ≡ true
 refusal-quiet refusal.NoSuchNode = refl
 refusal-quiet r = refl
 
-pub reply-quiet : (c : Parts) (k : Option CodedData) → HasNames (named c) → HasFrameNames c → IfSome k AreOneLine → (e : LogEntry) (past : List LogEntry) (r : Reply)
+pub reply-quiet : (c : Parts) (k : Option CodedData) → HasNames (named_language c) → HasFrameNames c → IfSome k AreOneLine → (e : LogEntry) (past : List LogEntry) (r : Reply)
     → IsQuiet (lines_of_reply c k e past r)
 reply-quiet c k a b one e past (Done events) =
     let t = time_words e.step (time c (e ∷ past)) in

@@ -10,7 +10,7 @@ use Rattle.lin_core.specs.Runs.{steps_of}
 use Rattle.lin_core.specs.declared.log.LogEntry.{LogEntry}
 use Rattle.lin_core.specs.declared.port.PortId.{PortId}
 use Rattle.lin_core.specs.declared.step.Step.{Step}
-use Rattle.lin_log.specs.Language.{Language, named, plain}
+use Rattle.lin_log.specs.Language.{Language, named_language, plain}
 use Rattle.lin_log.specs.Laws.{FitsEntry, HasNames}
 use Rattle.lin_log.specs.Said.{Steps, line_says, steps_from, text_says, with_said}
 use Rattle.lin_log.specs.Script.{script, without_reason}
@@ -21,13 +21,13 @@ use Rattle.lin_export.specs.Named.{reply_lines}
 use Rattle.lin_bench.proofs.Steps.{named-texts, plain-scripts}
 use Rattle.lin_bench.specs.Plain.{SaysSteps}
 use Rattle.lin_live.proofs.Cuts.{pieces-clean, pieces-some}
-use Rattle.lin_live.specs.Lines.{HasNoLf, pieces}
+use Rattle.lin_live.specs.Lines.{HasNoLf, pieces_at_lf}
 use Rattle.lin_live.specs.Told.{HandData, entries_text, reply, shown_coding}
 use Rattle.lin_live.specs.Transcript.{transcript}
-use Rattle.lin_live.specs.declared.format.AnswerFormat.{AnswerFormat}
-use Rattle.lin_live.specs.declared.format.AnswerFormat.TheVariants.{Log, Named}
+use Rattle.lin_live.specs.declared.answer_format.AnswerFormat.{AnswerFormat}
+use Rattle.lin_live.specs.declared.answer_format.AnswerFormat.TheVariants.{Log, Named}
 use Rattle.lin_tool.specs.laws.NamedScripts.{AreOneLine, HasFrameNames}
-use Rattle.lin_tool.specs.laws.Transcripts.{IsTranscript, TranscriptsAreBenchScripts, TranscriptsAreScripts, ended, is_said, log_of, without_remarks}
+use Rattle.lin_tool.specs.laws.Transcripts.{IsTranscript, TranscriptsAreBenchScripts, TranscriptsAreScripts, with_line_end, is_said, log_after, without_remarks}
 use Rattle.lin_tool.proofs.laws.LogLines.{plain-names, plain-quiet, plain_replies}
 use Rattle.lin_tool.proofs.laws.Remarks.{with_ends}
 use Rattle.lin_tool.proofs.laws.Replies.{reply-quiet}
@@ -47,7 +47,7 @@ strip-first x (y ∷ ys) h =
 not-said : (b : ℕ) → not (b == 35) ≡ false → b ≡ 35
 not-said b h = grind (arith, common_steps)
 
-remark-says : (l : Language) (p : List ℕ) → is_said (ended p) ≡ false → line_says l (strip_carriage_return p) ≡ Ok None
+remark-says : (l : Language) (p : List ℕ) → is_said (with_line_end p) ≡ false → line_says l (strip_carriage_return p) ≡ Ok None
 unfolding line_says
 remark-says l [] h = absurd (cc)
 remark-says l (x ∷ xs) h =
@@ -78,32 +78,32 @@ abbrev said_lines : List (List ℕ) → List ℕ
 said_lines ps = flat_map (λ l. l) (filter is_said (with_ends ps))
 
 abbrev SayAs : Language → List (List ℕ) → Type 0
-SayAs l ps = (m n : ℕ) (xs : List (PortId × Step)) → steps_from l m (pieces (said_lines ps)) ≡ Ok xs → steps_from l n ps ≡ Ok xs
+SayAs l ps = (m n : ℕ) (xs : List (PortId × Step)) → steps_from l m (pieces_at_lf (said_lines ps)) ≡ Ok xs → steps_from l n ps ≡ Ok xs
 
 last-by : (l : Language) (p : List ℕ) (t : Bool) → HasNoLf p → is_said p ≡ t → SayAs l (p ∷ [])
 last-by l p true h e m n xs k =
     let whole : said_lines (p ∷ []) ≡ p = rw e (append-nil p) in
-    let k' : steps_from l m (p ∷ []) ≡ Ok xs = ap (steps_from l m) (sym (ap pieces whole ∙ slice_split_none (λ b. b == 10) p h)) ∙ k in
+    let k' : steps_from l m (p ∷ []) ≡ Ok xs = ap (steps_from l m) (sym (ap pieces_at_lf whole ∙ slice_split_none (λ b. b == 10) p h)) ∙ k in
     more-said m n (line_says l (strip_carriage_return p)) (Ok []) (Ok []) xs (λ ys q. q) k'
 last-by l p false h e m n xs k =
     let none : said_lines (p ∷ []) ≡ [] = rw e refl in
-    let k' : steps_from l m ([] ∷ []) ≡ Ok xs = ap (λ t. steps_from l m (pieces t)) (sym none) ∙ k in
+    let k' : steps_from l m ([] ∷ []) ≡ Ok xs = ap (λ t. steps_from l m (pieces_at_lf t)) (sym none) ∙ k in
     let k'' : Ok [] ≡ Ok xs = rw (nothing-says l) at k' in
     rw (last-says l p e) k''
 
-line-by : (l : Language) (p q : List ℕ) (qs : List (List ℕ)) (t : Bool) → HasNoLf p → SayAs l (q ∷ qs) → is_said (ended p) ≡ t → SayAs l (p ∷ q ∷ qs)
+line-by : (l : Language) (p q : List ℕ) (qs : List (List ℕ)) (t : Bool) → HasNoLf p → SayAs l (q ∷ qs) → is_said (with_line_end p) ≡ t → SayAs l (p ∷ q ∷ qs)
 line-by l p q qs true h more e m n xs k =
     let whole : said_lines (p ∷ q ∷ qs) ≡ p ++ 10 ∷ said_lines (q ∷ qs) = rw e (append_assoc p (10 ∷ []) (said_lines (q ∷ qs))) in
-    let cut : pieces (said_lines (p ∷ q ∷ qs)) ≡ p ∷ pieces (said_lines (q ∷ qs)) = ap pieces whole ∙ slice_split_at (λ b. b == 10) p 10 (said_lines (q ∷ qs)) h refl in
-    more-said m n (line_says l (strip_carriage_return p)) (steps_from l (m + 1) (pieces (said_lines (q ∷ qs)))) (steps_from l (n + 1) (q ∷ qs)) xs
+    let cut : pieces_at_lf (said_lines (p ∷ q ∷ qs)) ≡ p ∷ pieces_at_lf (said_lines (q ∷ qs)) = ap pieces_at_lf whole ∙ slice_split_at (λ b. b == 10) p 10 (said_lines (q ∷ qs)) h refl in
+    more-said m n (line_says l (strip_carriage_return p)) (steps_from l (m + 1) (pieces_at_lf (said_lines (q ∷ qs)))) (steps_from l (n + 1) (q ∷ qs)) xs
     (λ ys z. more (m + 1) (n + 1) ys z) (ap (steps_from l m) (sym cut) ∙ k)
 line-by l p q qs false h more e m n xs k =
     let same : said_lines (p ∷ q ∷ qs) ≡ said_lines (q ∷ qs) = rw e refl in
-    rw (remark-says l p e) (more m (n + 1) xs (ap (λ t. steps_from l m (pieces t)) (sym same) ∙ k))
+    rw (remark-says l p e) (more m (n + 1) xs (ap (λ t. steps_from l m (pieces_at_lf t)) (sym same) ∙ k))
 
 all-say : (l : Language) (p : List ℕ) (ps : List (List ℕ)) → AllByRecursion HasNoLf (p ∷ ps) → SayAs l (p ∷ ps)
 all-say l p [] h = last-by l p (is_said p) h.0 refl
-all-say l p (q ∷ qs) h = line-by l p q qs (is_said (ended p)) h.0 (all-say l q qs h.1) refl
+all-say l p (q ∷ qs) h = line-by l p q qs (is_said (with_line_end p)) h.0 (all-say l q qs h.1) refl
 
 -- (a text has a piece at least)
 say-all : (l : Language) (ps : List (List ℕ)) (q : List ℕ) (qs : List (List ℕ)) → ps ≡ q ∷ qs → AllByRecursion HasNoLf ps → SayAs l ps
@@ -114,25 +114,25 @@ pub remarks-say-nothing : (l : Language) (t : List ℕ) (xs : List (PortId × St
 unfolding text_says
 remarks-say-nothing l t xs h =
     let s = pieces-some t in
-    say-all l (pieces t) s.0 s.1 s.2 (pieces-clean t) 1 1 xs h
+    say-all l (pieces_at_lf t) s.0 s.1 s.2 (pieces-clean t) 1 1 xs h
 
 -- ---- transcripts
 abbrev pub told_in : AnswerFormat → Parts → Language
 told_in Log c = plain
-told_in Named c = named c
+told_in Named c = named_language c
 
-entries-say : (f : AnswerFormat) (c : Parts) (k : Option CodedData) (log : List LogEntry) → HasNames (named c) → HasFrameNames c → IfSome k AreOneLine → All FitsEntry log
+entries-say : (f : AnswerFormat) (c : Parts) (k : Option CodedData) (log : List LogEntry) → HasNames (named_language c) → HasFrameNames c → IfSome k AreOneLine → All FitsEntry log
     → text_says (told_in f c) (entries_text f c k [] log) ≡ Ok (steps_of log)
 entries-say Log c k log a b one fits = texts-again plain plain_replies log plain-names (λ e past. plain-quiet e.reply) fits
-entries-say Named c k log a b one fits = texts-again (named c) (reply_lines c k) log a (λ e past. reply-quiet c k a b one e past e.reply) fits
+entries-say Named c k log a b one fits = texts-again (named_language c) (reply_lines c k) log a (λ e past. reply-quiet c k a b one e past e.reply) fits
 
-pub transcript-says : (h : HandData) (ls : List (List ℕ)) → IsTranscript h ls → All FitsEntry (log_of h ls)
-    → text_says (told_in h.format h.cluster) (transcript reply h ls) ≡ Ok (steps_of (log_of h ls))
+pub transcript-says : (h : HandData) (ls : List (List ℕ)) → IsTranscript h ls → All FitsEntry (log_after h ls)
+    → text_says (told_in h.format h.cluster) (transcript reply h ls) ≡ Ok (steps_of (log_after h ls))
 transcript-says h ls t fits =
     let l = told_in h.format h.cluster in
-    remarks-say-nothing l (transcript reply h ls) (steps_of (log_of h ls))
+    remarks-say-nothing l (transcript reply h ls) (steps_of (log_after h ls))
     (ap (text_says l) (transcripts-are-logs h ls t)
-    ∙ entries-say h.format h.cluster (shown_coding h) (log_of h ls) t.names t.frames (shown-one h (fits-one h.cluster h.coded t.coded)) fits)
+    ∙ entries-say h.format h.cluster (shown_coding h) (log_after h ls) t.names t.frames (shown-one h (fits-one h.cluster h.coded t.coded)) fits)
 
 pub transcripts-are-scripts : TranscriptsAreScripts
 unfolding script
@@ -147,4 +147,4 @@ says-steps Named c opening capacity t steps h = named-texts c opening capacity t
 
 pub transcripts-are-bench-scripts : TranscriptsAreBenchScripts
 transcripts-are-bench-scripts h ls opening capacity t fits =
-    says-steps h.format h.cluster opening capacity (transcript reply h ls) (steps_of (log_of h ls)) (transcript-says h ls t fits)
+    says-steps h.format h.cluster opening capacity (transcript reply h ls) (steps_of (log_after h ls)) (transcript-says h ls t fits)

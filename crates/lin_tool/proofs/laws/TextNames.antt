@@ -18,7 +18,7 @@ use Rattle.lin_parts.specs.declared.parts.SporadicFrame.{SporadicFrame}
 use Rattle.lin_parts.specs.declared.parts.Table.{Table}
 use Rattle.lin_cluster.specs.Described.{described_event, described_signal, described_sporadic, described_table, parts_of, responder}
 use Rattle.lin_cluster.proofs.DescribedFrames.{each-frame}
-use Rattle.lin_log.specs.Language.{named}
+use Rattle.lin_log.specs.Language.{named_language}
 use Rattle.lin_values.specs.Coded.{CodedData}
 use Rattle.lin_log.specs.Laws.{HasNames, is_name}
 use Rattle.lin_tool.specs.laws.NamedScripts.{AreOneLine, HasFrameNames, IsSaid, NamedLogsOfTexts}
@@ -47,7 +47,7 @@ node-count : (d : Description) → nodes (parts_of d) ≡ length (d.master.text 
 node-count d =
     omega (arith, length-map (enumerate_from 1 d.slaves) (responder d), length-enumerate_from 1 d.slaves, length-map d.slaves name_text)
 
-words-of_text : (d : Description) → DeclaresNames d → HasNames (named (parts_of d))
+words-of_text : (d : Description) → DeclaresNames d → HasNames (named_language (parts_of d))
 words-of_text d p = record {
   of_nodes = names-of_new (d.master.text ∷ map name_text d.slaves) p.of_nodes _ _ (node-count d) (node-name d);
   of_signals = names-of_new (map signal_text d.signals) p.of_signals _ _

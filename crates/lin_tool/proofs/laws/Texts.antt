@@ -5,8 +5,8 @@ use Rattle.lin_parts.specs.declared.description.Number.{Number}
 use Rattle.lin_field.proofs.PlainTexts.{plain-stays}
 use Rattle.lin_field.specs.Grammar as field
 use Rattle.lin_field.specs.GrammarLaws.{field_file_takes}
-use Rattle.lin_field.specs.Marks.{mended}
-use Rattle.lin_field.specs.PlainTexts.{NamesTables, StaysPlain, exact, loose_block, loose_event, loose_frame, loose_signal, loose_table, loosened}
+use Rattle.lin_field.specs.Marks.{without_extra_marks}
+use Rattle.lin_field.specs.PlainTexts.{NamesTables, StaysPlain, exact, loose_block, loose_event, loose_frame, loose_signal, loose_table, as_loose}
 use Rattle.lin_field.specs.declared.header.LineWord.TheVariants as line_words
 use Rattle.lin_field.specs.declared.header.LineWord.{LineWord}
 use Rattle.lin_field.specs.declared.header.Lines.{Lines}
@@ -26,7 +26,7 @@ use Rattle.lin_ldf.specs.Grammar as plain
 use Rattle.lin_ldf.specs.GrammarLaws.{keyword_is_word, other_is_word}
 use Rattle.lin_ldf.specs.KindLaws.{word_is}
 use Rattle.lin_ldf.specs.Laws.{made_is}
-use Rattle.lin_ldf.specs.Loops.{Steps, is_next}
+use Rattle.lin_ldf.specs.Loops.{ItemSteps, is_next}
 use Rattle.lin_ldf.specs.Names.{has_name}
 use Rattle.lin_ldf.specs.Symbols.{Symbol, is_kind, symbols_in}
 use Rattle.lin_ldf.specs.Tokens.{AreTokens, behind_mark, mark_len}
@@ -56,7 +56,7 @@ any_word =
 named_line : (s : Lines) → Widens NoEnd NoSemicolon named_extra (field.one_line s) (λ p. s)
 named_line s =
     unless_widens field.line_ends
-    (into_choice field.front_line (λ w. field.line_of w s) line_words.Other
+    (into_choice field.front_line (λ w. field.header_line_of w s) line_words.Other
     (value_of (field.with_other s)
     (unless_widens field.line_words_known
     (value_of field.other_of
@@ -81,16 +81,16 @@ extras_widen s =
 -- ---- the header's own lines
 
 keyword_line : {A : Type 0} {f : Form A} {h : A → Lines} (w : List ℕ) (k : LineWord) (s : Lines)
-    → Widens NoEnd NoSemicolon f (field.line_of k s) h → Begins (is_keyword w) f → has_name field.line_ends w ≡ false
+    → Widens NoEnd NoSemicolon f (field.header_line_of k s) h → Begins (is_keyword w) f → has_name field.line_ends w ≡ false
     → Widens NoEnd NoSemicolon f (field.one_line s) h
 keyword_line w k s p begins absent =
-    unless_widens field.line_ends (into_choice field.front_line (λ x. field.line_of x s) k p)
+    unless_widens field.line_ends (into_choice field.front_line (λ x. field.header_line_of x s) k p)
     (λ ts a rest x c. keyword_front w field.line_ends absent ts (begins ts a rest x))
 
 abbrev version_line : List ℕ → Form (List ℕ)
 version_line w = keyword w <& equals &> token (λ t. is_kind kinds.Text t.kind) plain.protocol_of <& semicolon
 
-version_widens : (w : List ℕ) → Widens NoEnd NoSemicolon (version_line w) (field.version w) (λ v. v)
+version_widens : (w : List ℕ) → Widens NoEnd NoSemicolon (version_line w) (field.loose_version w) (λ v. v)
 version_widens w =
     right (keyword_mark w kinds.Equals)
     (left
@@ -105,7 +105,7 @@ version_begins w = begins_keyword w equals (token (λ t. is_kind kinds.Text t.ki
 abbrev speed_line : Form Number
 speed_line = keyword (codes "LIN_speed") <& equals &> dec_in (codes "kbps") kinds.Semicolon
 
-speed_widens : Widens NoEnd NoSemicolon speed_line field.speed exact
+speed_widens : Widens NoEnd NoSemicolon speed_line field.loose_speed exact
 speed_widens = right (keyword_mark (codes "LIN_speed") kinds.Equals) (dec_in_widens (codes "kbps") kinds.Semicolon) refl
 
 speed_begins : Begins (is_keyword (codes "LIN_speed")) speed_line
@@ -121,7 +121,7 @@ abbrev IsBehind : Lines → List Symbol → Lines → List Symbol → Type 0
 IsBehind s ts last rest = (field.lines_behind s).spells ts last rest
 
 joined : (n m : ℕ) (s : Lines) (ts : List Symbol) (mid : Lines) (between : List Symbol) (last : Lines) (rest : List Symbol)
-    → Steps (λ x. (field.one_line x).spells) n s ts mid between → Steps (λ x. (field.one_line x).spells) m mid between last rest
+    → ItemSteps (λ x. (field.one_line x).spells) n s ts mid between → ItemSteps (λ x. (field.one_line x).spells) m mid between last rest
     → IsBehind s ts last rest
 joined zero m s ts mid between last rest x y =
     subst (λ (us : List Symbol). IsBehind s us last rest) x.1 (subst (λ (z : Lines). IsBehind z between last rest) x.0 (m, y))
@@ -135,7 +135,7 @@ behind_both s ts mid between last rest x y = joined x.0 y.0 s ts mid between las
 
 -- a line, and those that aren't used
 record LineRead (s : Lines) (ts : List Symbol) (last : Lines) (rest : List Symbol) : Type 0 where
-  lines : IsBehind s (mended ts) last (mended rest)
+  lines : IsBehind s (without_extra_marks ts) last (without_extra_marks rest)
   clean : IsClean rest
 
 one_more : {A : Type 0} {f : Form A} {h : A → Lines} {s : Lines} → Widens NoEnd NoSemicolon f (field.one_line s) h → (ts : List Symbol) (a : A)
@@ -145,7 +145,7 @@ one_more {h = h} p ts a mid u rest x others c last =
     let e = extras_widen (h a) in
     let behind = e.widened mid u rest others (p.cleans ts a mid x c) last in
     record {
-      lines = (suc behind.0, (h a, mended mid, p.widened ts a mid x c (e.begins mid u rest others last), behind.1));
+      lines = (suc behind.0, (h a, without_extra_marks mid, p.widened ts a mid x c (e.begins mid u rest others last), behind.1));
       clean = e.cleans mid u rest others (p.cleans ts a mid x c);
     }
 
@@ -164,7 +164,7 @@ version_read w s make p ts u rest (a, m, kw, (b, n, (t, is, kind, v), (c, l, sem
 version_front : (w : List ℕ) → Begins (is_keyword w) (plain.version w)
 version_front w = begins_keyword w equals (mark kinds.Text &> semicolon &> plain.extras)
 
-speed_front : Begins (is_keyword (codes "LIN_speed")) plain.speed
+speed_front : Begins (is_keyword (codes "LIN_speed")) plain.lin_speed
 speed_front = begins_keyword (codes "LIN_speed") equals (dec_in (codes "kbps") kinds.Semicolon <& plain.extras)
 
 abbrev first_lines : List ℕ → Lines
@@ -201,10 +201,10 @@ header_with v l speed = record {
 record HeaderRead (ts : List Symbol) (speed : Number) (rest : List Symbol) : Type 0 where
   version : List ℕ
   language : List ℕ
-  spelled : field.header.spells (mended ts) (header_with version language speed) (mended rest)
+  spelled : field.loose_header.spells (without_extra_marks ts) (header_with version language speed) (without_extra_marks rest)
   clean : IsClean rest
 
-header_read : (ts : List Symbol) (speed : Number) (rest : List Symbol) → plain.header.spells ts speed rest → IsClean ts
+header_read : (ts : List Symbol) (speed : Number) (rest : List Symbol) → plain.ldf_header.spells ts speed rest → IsClean ts
     → allows NoSemicolon rest ≡ true → HeaderRead ts speed rest
 header_read ts speed rest (u, m0, title, (u1, m1, protocol, (u2, m2, language, (a, m3, kw, (m4, u3, number, others))))) c last =
     let end2 : allows NoSemicolon m2 ≡ true =
@@ -222,8 +222,8 @@ header_read ts speed rest (u, m0, title, (u1, m1, protocol, (u2, m2, language, (
     let n = one_more (speed_at v.text l.text) m2 speed m4 u3 rest (a, m3, kw, number) others l.read.clean last in
     let all = field.with_speed (both_lines v.text l.text) (exact speed) in
     let behind =
-    behind_both field.no_lines (mended m0) (first_lines v.text) (mended m1) all (mended rest) v.read.lines
-    (behind_both (first_lines v.text) (mended m1) (both_lines v.text l.text) (mended m2) all (mended rest) l.read.lines n.lines) in
+    behind_both field.no_lines (without_extra_marks m0) (first_lines v.text) (without_extra_marks m1) all (without_extra_marks rest) v.read.lines
+    (behind_both (first_lines v.text) (without_extra_marks m1) (both_lines v.text l.text) (without_extra_marks m2) all (without_extra_marks rest) l.read.lines n.lines) in
     record {
       version = v.text;
       language = l.text;
@@ -233,8 +233,8 @@ header_read ts speed rest (u, m0, title, (u1, m1, protocol, (u2, m2, language, (
           lines0.0,
           lines0.1,
           lines0.2,
-          behind_both field.no_lines lines0.1 field.no_lines (mended m0) all
-              (mended rest) lines0.3 behind,
+          behind_both field.no_lines lines0.1 field.no_lines (without_extra_marks m0) all
+              (without_extra_marks rest) lines0.3 behind,
         ),
         refl,
       );
@@ -248,7 +248,7 @@ or_mapped h None = refl
 or_mapped h (Some xs) = refl
 
 same_loose : (v l : List ℕ) (speed : Number) (n : Nodes) (s : Sections)
-    → field.loose_of ((header_with v l speed, loose_nodes n), loose_sections s) ≡ loosened v (Some l) (plain.description_of ((speed, n), s))
+    → field.loose_of ((header_with v l speed, loose_nodes n), loose_sections s) ≡ as_loose v (Some l) (plain.description_of ((speed, n), s))
 same_loose v l speed n s = λ i. record {
   header = header_with v l speed;
   nodes = loose_nodes n;
@@ -264,7 +264,7 @@ same_loose v l speed n s = λ i. record {
 record FileRead (ts : List Symbol) (d : Description) : Type 0 where
   version : List ℕ
   language : List ℕ
-  spelled : field.field_file.spells (mended ts) (loosened version (Some language) d) []
+  spelled : field.field_file.spells (without_extra_marks ts) (as_loose version (Some language) d) []
   named : NamesTables d
 
 file_read : (ts : List Symbol) (d : Description) → plain.file.spells ts d [] → IsClean ts → FileRead ts d
@@ -273,23 +273,23 @@ file_read ts d (((speed, n), s), (mid, (m0, header, nodes), (m1, u, sections, (n
     covered NoEnd NoSemicolon m0 refl (nodes_widen.begins m0 n mid nodes refl) in
     let h = header_read ts speed m0 header c start in
     let k = nodes_widen.cleans m0 n mid nodes h.clean in
-    let first = plain.no_sections (plain.node_names n) in
+    let first = plain.no_sections (plain.declared_node_names n) in
     let gathered =
     (gathering_widens plain.section field.loose_section loose_sections section_widens no_word no_word first).widened mid s m1
     sections k refl in
     let named : NamesTables (plain.description_of ((speed, n), s)) =
-    sections_named sections.0 first mid s m1 sections.1 k (no_sections_named (plain.node_names n)) in
+    sections_named sections.0 first mid s m1 sections.1 k (no_sections_named (plain.declared_node_names n)) in
     record {
       version = h.version;
       language = h.language;
       spelled = (
         ((header_with h.version h.language speed, loose_nodes n), loose_sections s),
         (
-          mended mid,
-          (mended m0, h.spelled, nodes_widen.widened m0 n mid nodes h.clean refl),
-          (mended m1, tt, gathered, (ap mended none, refl)),
+          without_extra_marks mid,
+          (without_extra_marks m0, h.spelled, nodes_widen.widened m0 n mid nodes h.clean refl),
+          (without_extra_marks m1, tt, gathered, (ap without_extra_marks none, refl)),
         ),
-        same_loose h.version h.language speed n s ∙ ap (loosened h.version (Some h.language)) same,
+        same_loose h.version h.language speed n s ∙ ap (as_loose h.version (Some h.language)) same,
       );
       named = subst NamesTables same named;
     }
@@ -303,13 +303,13 @@ text_read source ts d are is spelled =
     file_read (symbols_in source ts) d spelled (record { words = is.words; errors = is.errors; tokens = tokens-kind source ts are })
 
 abbrev SpellsIn : List Token → Loose → List ℕ → Type 0
-SpellsIn ts l source = field.field_file.spells (mended (symbols_in source ts)) l []
+SpellsIn ts l source = field.field_file.spells (without_extra_marks (symbols_in source ts)) l []
 
 pub plain-texts-are-read : PlainTextsAreRead
 plain-texts-are-read source ts d are is spelled =
     let read = text_read source ts d are is spelled in (
       read.version,
-      (Some read.language, subst (SpellsIn ts (loosened read.version (Some read.language) d)) (sym is.bytes) read.spelled),
+      (Some read.language, subst (SpellsIn ts (as_loose read.version (Some read.language) d)) (sym is.bytes) read.spelled),
     )
 
 spelled_once : (ss : List Symbol) (l m : Loose) → field.field_file.spells ss l [] → field.field_file.spells ss m [] → l ≡ m
@@ -325,8 +325,8 @@ plain-texts-say-the-same source ts d text are is spelled free (us, tokens, marks
     same_tokens (mark_len source) (behind_mark source) us ts (subst (λ (s : List ℕ). AreTokens s us) is.bytes tokens) are in
     let here : SpellsIn ts text.loose source =
     subst (λ (vs : List Token). SpellsIn vs text.loose source) same (subst (SpellsIn us text.loose) is.bytes reads) in
-    let one : loosened read.version (Some read.language) d ≡ text.loose =
-    spelled_once (mended (symbols_in source ts)) (loosened read.version (Some read.language) d) text.loose read.spelled here in
+    let one : as_loose read.version (Some read.language) d ≡ text.loose =
+    spelled_once (without_extra_marks (symbols_in source ts)) (as_loose read.version (Some read.language) d) text.loose read.spelled here in
     subst (λ (l : Loose). StaysPlain l d) one
     (plain-stays read.version (Some read.language) d
     (ap (λ (l : Loose). starts_with nat_eq l.header.version (codes "1.")) one ∙ new) read.named free)

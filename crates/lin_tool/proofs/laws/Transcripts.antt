@@ -6,7 +6,7 @@ use Rattle.std.specs.Str.Lines.{strip_carriage_return}
 use Rattle.std.proofs.lemmas.List.Elements.{All-take}
 use Rattle.lin_parts.specs.declared.parts.Parts.{Parts}
 use Rattle.lin_core.specs.declared.log.LogEntry.{LogEntry}
-use Rattle.lin_log.specs.Language.{named}
+use Rattle.lin_log.specs.Language.{named_language}
 use Rattle.lin_log.specs.Laws.{HasNames}
 use Rattle.lin_values.specs.Coded.{CodedData}
 use Rattle.lin_live.proofs.Cuts.{pieces-clean, tail-clean}
@@ -14,11 +14,11 @@ use Rattle.lin_live.proofs.Growth.{answers-are-the-log, answers-are-written, tol
 use Rattle.lin_live.specs.Answers.{answers, answers_text}
 use Rattle.lin_bench.specs.Made.{made}
 use Rattle.lin_bench.specs.Strict.{entries_since}
-use Rattle.lin_live.specs.Told.{Answer, HandData, answered, entries_text, heard_as, in_words, reason_text, shown_coding, told, unmarked}
-use Rattle.lin_live.specs.Lines.{HasNoLf, but_last, last_line, pieces, tail}
+use Rattle.lin_live.specs.Told.{Answer, HandData, line_answer, entries_text, heard_as, verdict_with_meaning, question_reason_text, shown_coding, heard_answer, without_byte_order_mark}
+use Rattle.lin_live.specs.Lines.{HasNoLf, but_last, last_line, pieces_at_lf, after_last_lf}
 use Rattle.lin_live.specs.Transcript.{short}
-use Rattle.lin_live.specs.declared.format.AnswerFormat.{AnswerFormat}
-use Rattle.lin_live.specs.declared.format.AnswerFormat.TheVariants.{Log, Named}
+use Rattle.lin_live.specs.declared.answer_format.AnswerFormat.{AnswerFormat}
+use Rattle.lin_live.specs.declared.answer_format.AnswerFormat.TheVariants.{Log, Named}
 use Rattle.lin_live.specs.declared.heard.Heard.{Heard}
 use Rattle.lin_live.specs.declared.heard.Heard.TheVariants.{Ask, Make}
 use Rattle.lin_live.specs.declared.reason.Reason.{Reason}
@@ -45,25 +45,25 @@ shown-one h one = one-by h.is_physical h.coded one
 abbrev HasRemark : Answer → Type 0
 HasRemark a = IsRemark a.last_line
 
-told-remark : (h : HandData) → HasNames (named h.cluster) → HasFrameNames h.cluster → IfSome h.coded AreOneLine → (said : Result (Option Heard) Reason)
-    → HasRemark (told h said).1
-told-remark h a b one (Err why) = ending-remark h.cluster a b (codes "bad line: " ++ reason_text why) (live-clean why)
+told-remark : (h : HandData) → HasNames (named_language h.cluster) → HasFrameNames h.cluster → IfSome h.coded AreOneLine → (said : Result (Option Heard) Reason)
+    → HasRemark (heard_answer h said).1
+told-remark h a b one (Err why) = ending-remark h.cluster a b (codes "bad line: " ++ question_reason_text why) (live-clean why)
 told-remark h a b one (Ok None) = ending-remark h.cluster a b (codes "ok") refl
 told-remark h a b one (Ok (Some (Ask asked))) =
     value-remark h.cluster a b (shown_coding h) (shown-one h one) h.opening h.bench.past h.bench.rules.noted asked
 told-remark h a b one (Ok (Some (Make line))) =
-    let m = made h.cluster h.opening h.capacity h.bench line in verdict-remark h.cluster a b (in_words h.coded m.1) (entries_since h.bench.past m.0.past)
+    let m = made h.cluster h.opening h.capacity h.bench line in verdict-remark h.cluster a b (verdict_with_meaning h.coded m.1) (entries_since h.bench.past m.0.past)
 
-all-remarks : (h : HandData) (c : Parts) (k : Option CodedData) → h.cluster ≡ c → h.coded ≡ k → HasNames (named c) → HasFrameNames c → IfSome k AreOneLine → (ls : List (List ℕ))
+all-remarks : (h : HandData) (c : Parts) (k : Option CodedData) → h.cluster ≡ c → h.coded ≡ k → HasNames (named_language c) → HasFrameNames c → IfSome k AreOneLine → (ls : List (List ℕ))
     → AllByRecursion HasRemark (answers h ls)
 all-remarks h c k is so a b one [] = tt
 all-remarks h c k is so a b one (line ∷ more) =
     let begun = record h { begun = true } in
-    let said = heard_as h.cluster h.coded (unmarked h (short line)) in
+    let said = heard_as h.cluster h.coded (without_byte_order_mark h (short line)) in
     let here : IfSome h.coded AreOneLine = subst (λ (o : Option CodedData). IfSome o AreOneLine) (sym so) one in
     let kept = told-kept begun said in (
-      told-remark begun (subst (λ (x : Parts). HasNames (named x)) (sym is) a) (subst HasFrameNames (sym is) b) here said,
-      all-remarks (answered h (short line)).0 c k (kept.1 ∙ is) (kept.2 ∙ so) a b one more,
+      told-remark begun (subst (λ (x : Parts). HasNames (named_language x)) (sym is) a) (subst HasFrameNames (sym is) b) here said,
+      all-remarks (line_answer h (short line)).0 c k (kept.1 ∙ is) (kept.2 ∙ so) a b one more,
     )
 
 pub last-lines-are-remarks : LastLinesAreRemarks
@@ -74,7 +74,7 @@ none-told : (f : AnswerFormat) (c : Parts) (k : Option CodedData) (past : List L
 none-told Log c k past = refl
 none-told Named c k past = refl
 
-answers-left : (f : AnswerFormat) (c : Parts) (k : Option CodedData) → HasNames (named c) → HasFrameNames c → IfSome k AreOneLine → (past : List LogEntry) (all : List Answer)
+answers-left : (f : AnswerFormat) (c : Parts) (k : Option CodedData) → HasNames (named_language c) → HasFrameNames c → IfSome k AreOneLine → (past : List LogEntry) (all : List Answer)
     → AllByRecursion HasRemark all → without_remarks (answers_text f c k past all) ≡ entries_text f c k past (flat_map (λ a. a.entries) all)
 answers-left f c k a b one past [] h = none-told f c k past
 answers-left f c k a b one past (x ∷ more) h =
@@ -108,4 +108,4 @@ last-clean : (p : List ℕ) → HasNoLf p → AllByRecursion HasNoLf (last_line 
 last-clean p h = each-way (AllByRecursion HasNoLf) (length p == 0) [] (strip_carriage_return p ∷ []) tt (strip-clean p h, tt)
 
 pub lines-have-no-lf : LinesHaveNoLf
-lines-have-no-lf bytes = closed-clean (pieces bytes) (last_line (tail bytes)) (pieces-clean bytes) (last-clean (tail bytes) (tail-clean bytes))
+lines-have-no-lf bytes = closed-clean (pieces_at_lf bytes) (last_line (after_last_lf bytes)) (pieces-clean bytes) (last-clean (after_last_lf bytes) (tail-clean bytes))

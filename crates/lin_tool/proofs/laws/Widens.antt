@@ -2,11 +2,11 @@
 use Rattle.std.proofs.Common.{◌≡◌, ◌∙◌, ℕ, zero, suc, Bool, true, false, List, [], ◌∷◌, Option, Some, None, refl, sym, ap, subst, inl, inr}
 use Rattle.std.specs.Option.{option_map}
 use Rattle.lin_ldf.specs.Forms.{Form, ◌&◌, ◌&>◌, ◌<&◌, ◌&=◌, as_value, choice, either, is_front, never, nothing, token}
-use Rattle.lin_ldf.specs.Loops.{Several, Steps, gathering, several}
+use Rattle.lin_ldf.specs.Loops.{Several, ItemSteps, gathering, several}
 use Rattle.lin_ldf.specs.Symbols.{Symbol}
 use Rattle.lin_ldf.specs.Words.{is_word_but, once}
 use Rattle.lin_field.specs.Grammar.{unless}
-use Rattle.lin_field.specs.Marks.{mended}
+use Rattle.lin_field.specs.Marks.{without_extra_marks}
 use Rattle.lin_tool.specs.laws.Texts.{is_field_word}
 use Rattle.lin_tool.proofs.laws.Limits.{IsClean, IsWithin, Limit, allows, clean_front, clean_tail, covered, covers, first_limit, kept, kind_first, last_limit}
 use Rattle.lin_tool.proofs.laws.Limits.{NoEnd}
@@ -14,7 +14,7 @@ use Rattle.lin_tool.proofs.laws.Limits.{NoEnd}
 pub record Widens {A B : Type 0} (first last : Limit) (f : Form A) (g : Form B) (h : A → B) : Type 0 where
   pub begins : (ts : List Symbol) (a : A) (rest : List Symbol) → f.spells ts a rest → allows last rest ≡ true → allows first ts ≡ true
   pub widened : (ts : List Symbol) (a : A) (rest : List Symbol) → f.spells ts a rest → IsClean ts → allows last rest ≡ true
-      → g.spells (mended ts) (h a) (mended rest)
+      → g.spells (without_extra_marks ts) (h a) (without_extra_marks rest)
   pub cleans : (ts : List Symbol) (a : A) (rest : List Symbol) → f.spells ts a rest → IsClean ts → IsClean rest
 
 pub relaxed : {A B : Type 0} {s e t z : Limit} {f : Form A} {g : Form B} {h : A → B} → Widens s e f g h → covers s t ≡ true → covers z e ≡ true
@@ -37,7 +37,7 @@ token_widens first last test wide value made h limits widens = record {
       λ ts a rest k c is. let w =
       widens k.0 k.2 (clean_front k.0 rest (subst IsClean k.1 c)) in (
         k.0,
-        ap mended k.1 ∙ kept k.0 rest (covered last (last_limit k.0.kind) rest (limits k.0 k.2).ends is),
+        ap without_extra_marks k.1 ∙ kept k.0 rest (covered last (last_limit k.0.kind) rest (limits k.0 k.2).ends is),
         w.0,
         ap h k.3 ∙ sym w.1,
       );
@@ -57,7 +57,7 @@ both {e = e} {t = t} p q is = record {
   begins = λ ts ab rest x last. p.begins ts ab.0 x.0 x.1 (covered t e x.0 is (q.begins x.0 ab.1 rest x.2 last));
   widened =
       λ ts ab rest x c last. (
-        mended x.0,
+        without_extra_marks x.0,
         p.widened ts ab.0 x.0 x.1 c (covered t e x.0 is (q.begins x.0 ab.1 rest x.2 last)),
         q.widened x.0 ab.1 rest x.2 (p.cleans ts ab.0 x.0 x.1 c) last,
       );
@@ -71,7 +71,7 @@ right {e = e} {t = t} {h = h} p q is = record {
   widened =
       λ ts b rest x c last. (
         h x.0,
-        mended x.1,
+        without_extra_marks x.1,
         p.widened ts x.0 x.1 x.2 c (covered t e x.1 is (q.begins x.1 b rest x.3 last)),
         q.widened x.1 b rest x.3 (p.cleans ts x.0 x.1 x.2 c) last,
       );
@@ -84,7 +84,7 @@ left {e = e} {t = t} {k = k} p q is = record {
   begins = λ ts a rest x last. p.begins ts a x.0 x.2 (covered t e x.0 is (q.begins x.0 x.1 rest x.3 last));
   widened =
       λ ts a rest x c last. (
-        mended x.0,
+        without_extra_marks x.0,
         k x.1,
         p.widened ts a x.0 x.2 c (covered t e x.0 is (q.begins x.0 x.1 rest x.3 last)),
         q.widened x.0 x.1 rest x.3 (p.cleans ts a x.0 x.2 c) last,
@@ -98,7 +98,7 @@ then {e = e} {t = t} g' p q is = record {
   begins = λ ts ab rest x last. p.begins ts ab.0 x.0 x.1 (covered t e x.0 is ((q ab.0).begins x.0 ab.1 rest x.2 last));
   widened =
       λ ts ab rest x c last. (
-        mended x.0,
+        without_extra_marks x.0,
         p.widened ts ab.0 x.0 x.1 c (covered t e x.0 is ((q ab.0).begins x.0 ab.1 rest x.2 last)),
         (q ab.0).widened x.0 ab.1 rest x.2 (p.cleans ts ab.0 x.0 x.1 c) last,
       );
@@ -128,7 +128,7 @@ pub same_value : {A B : Type 0} {s e : Limit} {f : Form A} {g : Form B} {h : A �
     → Widens s e f g k
 same_value {g = g} k same p = record {
   begins = p.begins;
-  widened = λ ts a rest x c last. subst (λ b. g.spells (mended ts) b (mended rest)) (same a) (p.widened ts a rest x c last);
+  widened = λ ts a rest x c last. subst (λ b. g.spells (without_extra_marks ts) b (without_extra_marks rest)) (same a) (p.widened ts a rest x c last);
   cleans = p.cleans;
 }
 
@@ -170,7 +170,7 @@ of_choice kind forms p = record {
 pub same_nothing : {A B : Type 0} {e : Limit} (a : A) (b : B) (h : A → B) → h a ≡ b → Widens e e (nothing a) (nothing b) h
 same_nothing {e = e} a b h same = record {
   begins = λ ts x rest k last. subst (λ (us : List Symbol). allows e us ≡ true) k.1 last;
-  widened = λ ts x rest k c last. (ap h k.0 ∙ same, ap mended k.1);
+  widened = λ ts x rest k c last. (ap h k.0 ∙ same, ap without_extra_marks k.1);
   cleans = λ ts x rest k c. subst IsClean (sym k.1) c;
 }
 
@@ -187,7 +187,7 @@ same_once None k p = p
 same_once (Some x) k p = of_never
 
 pub unless_widens : {A B : Type 0} {s e : Limit} {f : Form A} {g : Form B} {h : A → B} (words : List (List ℕ)) → Widens s e f g h
-    → ((ts : List Symbol) (a : A) (rest : List Symbol) → f.spells ts a rest → IsClean ts → is_front (is_word_but words) (mended ts) ≡ true)
+    → ((ts : List Symbol) (a : A) (rest : List Symbol) → f.spells ts a rest → IsClean ts → is_front (is_word_but words) (without_extra_marks ts) ≡ true)
     → Widens s e f (unless words g) h
 unless_widens words p front = record {
   begins = p.begins;
@@ -231,13 +231,13 @@ module _ {A B S : Type 0} {e : Limit} (next : S → A → S) (wide : S → B →
   items_clean (a ∷ xs) s ts rest x c = items_clean xs (next s a) x.0 rest x.2 ((p s).cleans ts a x.0 x.1 c)
 
   items_widen : (xs : List A) (s : S) (ts rest : List Symbol) → Items s ts xs rest → IsClean ts → allows e rest ≡ true
-      → Several wide (λ x. (g x).spells) s (mended ts) (hs xs) (mended rest)
-  items_widen [] s ts rest x c last = rw none (ap mended x)
+      → Several wide (λ x. (g x).spells) s (without_extra_marks ts) (hs xs) (without_extra_marks rest)
+  items_widen [] s ts rest x c last = rw none (ap without_extra_marks x)
   items_widen (a ∷ xs) s ts rest x c last =
-      let others : Several wide (λ y. (g y).spells) (wide s (h a)) (mended x.0) (hs xs) (mended rest) =
+      let others : Several wide (λ y. (g y).spells) (wide s (h a)) (without_extra_marks x.0) (hs xs) (without_extra_marks rest) =
       rw (same s a) (items_widen xs (next s a) x.0 rest x.2 ((p s).cleans ts a x.0 x.1 c) last) in
       rw (more a xs) (
-        mended x.0,
+        without_extra_marks x.0,
         (p s).widened ts a x.0 x.1 c (items_begin xs (next s a) x.0 rest x.2 last),
         others,
       )
@@ -251,7 +251,7 @@ module _ {A B S : Type 0} {e : Limit} (next : S → A → S) (wide : S → B →
 
 module _ {S T : Type 0} {e : Limit} (f : S → Form S) (g : T → Form T) (h : S → T) (p : (s : S) → Widens NoEnd e (f s) (g (h s)) h) where
   abbrev StepsOf : ℕ → S → List Symbol → S → List Symbol → Type 0
-  StepsOf n s ts last rest = Steps (λ x. (f x).spells) n s ts last rest
+  StepsOf n s ts last rest = ItemSteps (λ x. (f x).spells) n s ts last rest
 
   steps_begin : (n : ℕ) (s : S) (ts : List Symbol) (last : S) (rest : List Symbol) → StepsOf n s ts last rest → allows e rest ≡ true
       → allows e ts ≡ true
@@ -263,11 +263,11 @@ module _ {S T : Type 0} {e : Limit} (f : S → Form S) (g : T → Form T) (h : S
   steps_clean (suc n) s ts last rest x c = steps_clean n x.0 x.1 last rest x.3 ((p s).cleans ts x.0 x.1 x.2 c)
 
   steps_widen : (n : ℕ) (s : S) (ts : List Symbol) (last : S) (rest : List Symbol) → StepsOf n s ts last rest → IsClean ts → allows e rest ≡ true
-      → Steps (λ x. (g x).spells) n (h s) (mended ts) (h last) (mended rest)
-  steps_widen zero s ts last rest x c is = (ap h x.0, ap mended x.1)
+      → ItemSteps (λ x. (g x).spells) n (h s) (without_extra_marks ts) (h last) (without_extra_marks rest)
+  steps_widen zero s ts last rest x c is = (ap h x.0, ap without_extra_marks x.1)
   steps_widen (suc n) s ts last rest x c is = (
     h x.0,
-    mended x.1,
+    without_extra_marks x.1,
     (p s).widened ts x.0 x.1 x.2 c (steps_begin n x.0 x.1 last rest x.3 is),
     steps_widen n x.0 x.1 last rest x.3 ((p s).cleans ts x.0 x.1 x.2 c) is,
   )

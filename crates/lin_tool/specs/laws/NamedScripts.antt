@@ -9,9 +9,9 @@ use Rattle.lin_ldf.specs.Symbols.{Symbol}
 use Rattle.lin_cluster.specs.Described.{parts_of}
 use Rattle.lin_core.specs.Runs.{steps_of}
 use Rattle.lin_core.specs.declared.log.LogEntry.{LogEntry}
-use Rattle.lin_log.specs.Language.{named}
+use Rattle.lin_log.specs.Language.{named_language}
 use Rattle.lin_log.specs.Laws.{FitsEntry, HasNames, is_name, is_quiet}
-use Rattle.lin_values.specs.Coded.{CodedData, coded}
+use Rattle.lin_values.specs.Coded.{CodedData, coded_signals}
 use Rattle.lin_values.specs.Meaning.{meaning}
 use Rattle.lin_values.specs.Meant.{Meant}
 use Rattle.lin_values.specs.Reading.{codings}
@@ -34,18 +34,18 @@ AreOneLine k = (s : ℕ) (v : Value) → IfSome (meaning k s v) IsOneLine
 
 -- so it is with all that an LDF text says of values (LIN 2.2A, section 9.2.6)
 abbrev pub CodingsAreOneLine : Type 0
-CodingsAreOneLine = (c : Parts) (ts : List Symbol) → AreOneLine (coded c (codings ts))
+CodingsAreOneLine = (c : Parts) (ts : List Symbol) → AreOneLine (coded_signals c (codings ts))
 
 -- a log with names says the log's steps as a bench script, whether it tells what values mean or not
 abbrev pub NamedLogs : Type 0
 NamedLogs = (c : Parts) (k : Option CodedData) (log : List LogEntry) (opening capacity : ℕ)
-    → HasNames (named c) → HasFrameNames c → IfSome k AreOneLine → All FitsEntry log
+    → HasNames (named_language c) → HasFrameNames c → IfSome k AreOneLine → All FitsEntry log
     → SaysSteps c opening capacity (named_log c k log) (steps_of log)
 
 -- what values mean isn't told, or is what an LDF text says
 abbrev pub IsSaid : Parts → Option CodedData → Type 0
 IsSaid c None = Unit {0}
-IsSaid c (Some k) = (ts : List Symbol) × (k ≡ coded c (codings ts))
+IsSaid c (Some k) = (ts : List Symbol) × (k ≡ coded_signals c (codings ts))
 
 -- the same of each cluster that an LDF text describes: its names are identifiers (ISO 17987-2; LIN
 -- 2.2A, section 9.2), and doubles are refused

@@ -12,9 +12,9 @@ use Rattle.lin_ldf.specs.Tokens.{AreTokens}
 use Rattle.lin_ldf.specs.Words.{comma, equals, semicolon, word}
 use Rattle.lin_ldf.specs.declared.token.Token.{Token}
 use Rattle.lin_field.specs.Bytes.{field_bytes}
-use Rattle.lin_field.specs.Describes.{Reads, Spells}
-use Rattle.lin_field.specs.PlainTexts.{StaysPlain, loosened}
-use Rattle.lin_field.specs.declared.reading.FieldText.{FieldText}
+use Rattle.lin_field.specs.Describes.{ReadsFieldText, Spells}
+use Rattle.lin_field.specs.PlainTexts.{StaysPlain, as_loose}
+use Rattle.lin_field.specs.declared.field_text.FieldText.{FieldText}
 
 -- the words that only a text of the field uses
 abbrev pub field_words : List (List ℕ)
@@ -51,7 +51,7 @@ PlainTextsAreRead =
     (source : List ℕ) (ts : List Token) (d : Description) → AreTokens source ts
     → IsPlainText source ts → plain.Spells (symbols_in source ts) d
     → (version : List ℕ)
-    × ((language : Option (List ℕ)) × Spells source ts (loosened version language d))
+    × ((language : Option (List ℕ)) × Spells source ts (as_loose version language d))
 
 -- One in which nothing is found, and whose header's version doesn't begin with `1.`, is settled to
 -- what the plain one describes, and so to the same cluster. Nothing is told but marks that are left
@@ -60,6 +60,6 @@ abbrev pub PlainTextsSayTheSame : Type 0
 PlainTextsSayTheSame =
     (source : List ℕ) (ts : List Token) (d : Description) (text : FieldText)
     → AreTokens source ts → IsPlainText source ts → plain.Spells (symbols_in source ts) d
-    → IsFree d → Reads source text
+    → IsFree d → ReadsFieldText source text
     → starts_with nat_eq text.loose.header.version (codes "1.") ≡ false
     → StaysPlain text.loose d

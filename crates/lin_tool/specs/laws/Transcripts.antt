@@ -5,26 +5,26 @@ use Rattle.std.specs.List.{All, AllByRecursion}
 use Rattle.std.specs.Str.Lines.{strip_carriage_return}
 use Rattle.lin_core.specs.Runs.{steps_of}
 use Rattle.lin_core.specs.declared.log.LogEntry.{LogEntry}
-use Rattle.lin_log.specs.Language.{named}
+use Rattle.lin_log.specs.Language.{named_language}
 use Rattle.lin_log.specs.Laws.{FitsEntry, HasNames}
 use Rattle.lin_log.specs.Script.{script}
 use Rattle.lin_parts.specs.declared.parts.Parts.{Parts}
 use Rattle.lin_values.specs.Coded.{CodedData}
 use Rattle.lin_bench.specs.Plain.{HasNoMarks, SaysSteps}
 use Rattle.lin_live.specs.Answers.{answers}
-use Rattle.lin_live.specs.Lines.{HasNoLf, but_last, lines, pieces, tail}
-use Rattle.lin_live.specs.Play.{in_hand_of, nothing}
+use Rattle.lin_live.specs.Lines.{HasNoLf, but_last, lines, pieces_at_lf, after_last_lf}
+use Rattle.lin_live.specs.Play.{in_hand_of, empty_run}
 use Rattle.lin_live.specs.Told.{HandData, entries_text, reply, shown_coding}
-use Rattle.lin_live.specs.Transcript.{after, most_bytes, transcript}
-use Rattle.lin_live.specs.declared.format.AnswerFormat.TheVariants.{Log}
+use Rattle.lin_live.specs.Transcript.{state_after, most_bytes, transcript}
+use Rattle.lin_live.specs.declared.answer_format.AnswerFormat.TheVariants.{Log}
 use Rattle.lin_tool.specs.laws.NamedScripts.{AreOneLine, HasFrameNames}
 
 -- the lines of a text, each with the LF that ends it, and what stands after the last LF
-abbrev pub ended : List ℕ → List ℕ
-ended line = line ++ 10 ∷ []
+abbrev pub with_line_end : List ℕ → List ℕ
+with_line_end line = line ++ 10 ∷ []
 
 abbrev pub lines_with_ends : List ℕ → List (List ℕ)
-lines_with_ends bytes = map ended (but_last (pieces bytes)) ++ tail bytes ∷ []
+lines_with_ends bytes = map with_line_end (but_last (pieces_at_lf bytes)) ++ after_last_lf bytes ∷ []
 
 -- a text without its lines that begin with `#`
 abbrev pub is_said : List ℕ → Bool
@@ -41,53 +41,53 @@ pub record FitsCluster (c : Parts) (k : CodedData) : Type 0 where
 -- names are words, and a bench in hand that begins has answered lines, bad ones too, without an LF
 -- in them
 pub record IsTranscript (h : HandData) (ls : List (List ℕ)) : Type 0 where
-  pub names : HasNames (named h.cluster)
+  pub names : HasNames (named_language h.cluster)
   pub frames : HasFrameNames h.cluster
   pub coded : IfSome h.coded (FitsCluster h.cluster)
   pub begins : h.bench.past ≡ []
   pub lines : AllByRecursion HasNoLf ls
 
-abbrev pub log_of : HandData → List (List ℕ) → List LogEntry
-log_of h ls = reverse (after reply h ls).bench.past
+abbrev pub log_after : HandData → List (List ℕ) → List LogEntry
+log_after h ls = reverse (state_after reply h ls).bench.past
 
 -- without the lines that begin with `#`, a transcript is the text of the log, byte for byte
 abbrev pub TranscriptsAreLogs : Type 0
 TranscriptsAreLogs = (h : HandData) (ls : List (List ℕ)) → IsTranscript h ls
     → without_remarks (transcript reply h ls)
-    ≡ entries_text h.format h.cluster (shown_coding h) [] (log_of h ls)
+    ≡ entries_text h.format h.cluster (shown_coding h) [] (log_after h ls)
 
 -- a transcript by numbers is a script of its run
 abbrev pub TranscriptsAreScripts : Type 0
 TranscriptsAreScripts = (h : HandData) (ls : List (List ℕ)) → IsTranscript h ls
-    → All FitsEntry (log_of h ls) → h.format ≡ Log
-    → script (transcript reply h ls) ≡ Ok (steps_of (log_of h ls))
+    → All FitsEntry (log_after h ls) → h.format ≡ Log
+    → script (transcript reply h ls) ≡ Ok (steps_of (log_after h ls))
 
 -- each transcript is a bench script of its run: it has no bad line, makes no slots of its own, and
 -- expects nothing
 abbrev pub TranscriptsAreBenchScripts : Type 0
 TranscriptsAreBenchScripts = (h : HandData) (ls : List (List ℕ)) (opening capacity : ℕ)
-    → IsTranscript h ls → All FitsEntry (log_of h ls)
-    → SaysSteps h.cluster opening capacity (transcript reply h ls) (steps_of (log_of h ls))
+    → IsTranscript h ls → All FitsEntry (log_after h ls)
+    → SaysSteps h.cluster opening capacity (transcript reply h ls) (steps_of (log_after h ls))
 
 -- a bench in hand that begins, with the same cluster, meanings and settings and without rules
 abbrev pub anew : HandData → HandData
 anew h =
-    record (in_hand_of h.format h.coded h.is_physical h.cluster h.opening h.capacity nothing) {
+    record (in_hand_of h.format h.coded h.is_physical h.cluster h.opening h.capacity empty_run) {
       begun = false;
     }
 
 -- no line of an input is longer than is read
 abbrev pub AreShort : List ℕ → Type 0
 AreShort bytes =
-    AllByRecursion (λ p. length (strip_carriage_return p) ≤ most_bytes) (pieces bytes)
+    AllByRecursion (λ p. length (strip_carriage_return p) ≤ most_bytes) (pieces_at_lf bytes)
 
 -- each transcript is an input again: answered in hand, its lines come to the same log, and none of
 -- them is bad
 abbrev pub TranscriptsAreInputs : Type 0
 TranscriptsAreInputs = (h : HandData) (ls : List (List ℕ))
-    → IsTranscript h ls → All FitsEntry (log_of h ls) → AreShort (transcript reply h ls)
-    → (log_of (anew h) (lines (transcript reply h ls)) ≡ log_of h ls)
-    × ((after reply (anew h) (lines (transcript reply h ls))).was_bad ≡ false)
+    → IsTranscript h ls → All FitsEntry (log_after h ls) → AreShort (transcript reply h ls)
+    → (log_after (anew h) (lines (transcript reply h ls)) ≡ log_after h ls)
+    × ((state_after reply (anew h) (lines (transcript reply h ls))).was_bad ≡ false)
 
 -- the last line of each answer is one line, which begins with `#`
 pub record IsRemark (t : List ℕ) : Type 0 where

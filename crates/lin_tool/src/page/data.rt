@@ -1,11 +1,11 @@
 //! The lines that a page has beside the log: what its script needs to read it.
 
 ghost use Rattle.std.specs.Prelude.{◌≡◌, ◌<◌, flat_map, length, IfOk};
-ghost use Rattle.lin_export.specs.WhereTold.{told};
+ghost use Rattle.lin_export.specs.WhereTold.{given_coding};
 ghost use Rattle.lin_frame.specs.Words.{numbers};
 ghost use Rattle.lin_text.specs.Written.{Grows, WritesText};
 ghost use Rattle.lin_tool.specs.Page.{alone_line, cluster_lines, data_head, log_head};
-ghost use Rattle.lin_tool.specs.PageFields.{guarded};
+ghost use Rattle.lin_tool.specs.PageFields.{guarded_text};
 
 use crate::page::field::{put_field, put_guarded};
 use crate::page::meanings::put_coded;
@@ -69,7 +69,7 @@ pub(crate) fn lines_of(alloc: Global, cluster: &Cluster) -> Result<Vec<u8>, Allo
 /// `WriteFailed`; what was written then is the beginning of them.
 fn write_guarded<W: Write>(lines: &[u8], writer: &mut W) -> Result<(), WriteFailed>
     ensures { WritesText (W.contents writer.old) (W.contents writer.new) result
-        (guarded lines.now) }
+        (guarded_text lines.now) }
 {
     let mut buffer = TextBuffer::empty();
     let mut out = TextWriter::new(writer, &mut buffer);
@@ -88,7 +88,7 @@ pub(crate) fn write_cluster<W: Write>(
     writer: &mut W,
 ) -> Result<(), ExportFault>
     ensures { WritesText (W.contents writer.old) (W.contents writer.new) result
-        (guarded (cluster_lines cluster.now)) }
+        (guarded_text (cluster_lines cluster.now)) }
 {
     let lines = lines_of(alloc, cluster)?;
     write_guarded(lines.as_slice(), writer)?;
@@ -127,7 +127,7 @@ pub(crate) fn write_log_head<W: Write>(
     writer: &mut W,
 ) -> Result<(), WriteFailed>
     ensures { WritesText (W.contents writer.old) (W.contents writer.new) result (log_head cluster.now
-        (told coded.entry)) }
+        (given_coding coded.entry)) }
 {
     let mut buffer = TextBuffer::empty();
     let mut out = TextWriter::new(writer, &mut buffer);

@@ -1,11 +1,11 @@
 //! What the values of signals mean, as lines that the page's script reads.
 
 ghost use Rattle.std.specs.Prelude.{flat_map};
-ghost use Rattle.lin_export.specs.WhereTold.{told};
+ghost use Rattle.lin_export.specs.WhereTold.{given_coding};
 ghost use Rattle.lin_frame.specs.Words.{numbers};
 ghost use Rattle.lin_log.specs.Words.{spaced_word};
-ghost use Rattle.lin_tool.specs.PageMeanings.{coded_lines, item_lines, logical_line, meaning_lines};
-ghost use Rattle.lin_tool.specs.PageMeanings.{physical_line, value_line};
+ghost use Rattle.lin_tool.specs.PageMeanings.{coded_lines, encoding_lines, logical_line, meaning_lines};
+ghost use Rattle.lin_tool.specs.PageMeanings.{physical_line, logical_value_line};
 ghost use Rattle.lin_text.specs.Written.{Grows};
 ghost use Rattle.lin_values.specs.Shown.{decimal_shown};
 
@@ -18,7 +18,7 @@ use std::io::Write;
 
 /// The line of a value with its text.
 fn put_value<W: Write>(out: &mut TextWriter<'_, W>, signal: u16, value: u16, text: &[u8])
-    ensures { Grows W.contents out.old out.new (value_line signal value text.now) }
+    ensures { Grows W.contents out.old out.new (logical_value_line signal value text.now) }
 {
     put_head(
         out,
@@ -92,7 +92,7 @@ fn put_physicals<W: Write>(out: &mut TextWriter<'_, W>, signal: u16, items: &[Pl
 
 /// The lines of items: of the values, then of the ranges.
 fn put_items<W: Write>(out: &mut TextWriter<'_, W>, signal: u16, items: &[PlacedItem])
-    ensures { Grows W.contents out.old out.new (item_lines signal items.now) }
+    ensures { Grows W.contents out.old out.new (encoding_lines signal items.now) }
 {
     put_logicals(out, signal, items);
     put_physicals(out, signal, items);
@@ -122,7 +122,7 @@ pub(crate) fn put_coded<W: Write>(
     coded: Option<&Coded>,
 )
     ensures { Grows W.contents out.old out.new (coded_lines cluster.now
-        (told coded.entry)) }
+        (given_coding coded.entry)) }
 {
     if let Some(coded) = coded {
         put_each(out, coded, cluster.signals() as u16);

@@ -5,7 +5,7 @@ ghost use Rattle.std.specs.List.{count_by};
 ghost use Rattle.lin_core.specs.History.{reply_events};
 ghost use Rattle.lin_core.specs.Tables.{looks};
 ghost use Rattle.lin_text.specs.Written.{Grows};
-ghost use Rattle.lin_tool.specs.Page.{events_so, is_lost, is_refusal, is_seen, look_count, number_of, summary};
+ghost use Rattle.lin_tool.specs.Page.{events_so, is_lost_event, is_refusal, is_seen, look_count, labeled_number, summary};
 ghost use Rattle.lin_tool.specs.PageTold.{is_told};
 
 use itoa::Integer;
@@ -15,26 +15,26 @@ use std::io::Write;
 
 /// Which events are counted.
 #[derive(Clone, Copy)]
-enum Told {
+enum CountedEvents {
     Slots,
     Seen(Look),
     Lost,
 }
 
 /// Whether an event is counted.
-fn is_told(told: Told, event: &Event) -> bool
+fn is_told(told: CountedEvents, event: &Event) -> bool
     ensures { result ≡ is_told told event.now }
 {
     match (told, event) {
-        (Told::Slots, Event::Seen(_)) => true,
-        (Told::Seen(look), Event::Seen(how)) => how.look().number() == look.number(),
-        (Told::Lost, Event::Lost { .. }) => true,
+        (CountedEvents::Slots, Event::Seen(_)) => true,
+        (CountedEvents::Seen(look), Event::Seen(how)) => how.look().number() == look.number(),
+        (CountedEvents::Lost, Event::Lost { .. }) => true,
         _ => false,
     }
 }
 
 /// How many events of an entry are counted.
-fn entry_told(told: Told, reply: &Reply) -> usize
+fn entry_told(told: CountedEvents, reply: &Reply) -> usize
     ensures { result ≡ count_by (is_told told) (reply_events reply.now) }
 {
     let Reply::Done(events) = reply else {
@@ -50,7 +50,7 @@ fn entry_told(told: Told, reply: &Reply) -> usize
 }
 
 /// How many events of a log are counted.
-fn count(told: Told, log: &Log) -> u128
+fn count(told: CountedEvents, log: &Log) -> u128
     ensures { result ≡ events_so (is_told told) log.now.entries }
 {
     let mut count: u128 = 0;
@@ -64,14 +64,14 @@ fn count(told: Told, log: &Log) -> u128
 pub(crate) fn slots_finished(log: &Log) -> u128
     ensures { result ≡ events_so is_seen log.now.entries }
 {
-    count(Told::Slots, log)
+    count(CountedEvents::Slots, log)
 }
 
 /// How many messages of a log were lost.
 pub(crate) fn messages_lost(log: &Log) -> u128
-    ensures { result ≡ events_so is_lost log.now.entries }
+    ensures { result ≡ events_so is_lost_event log.now.entries }
 {
-    count(Told::Lost, log)
+    count(CountedEvents::Lost, log)
 }
 
 /// How many steps of a log were refused.
@@ -88,7 +88,7 @@ pub(crate) fn steps_refused(log: &Log) -> usize
 }
 
 fn put_count<W: Write, I: Integer>(out: &mut TextWriter<'_, W>, word: &str, count: I)
-    ensures { Grows W.contents out.old out.new (number_of word.now (I.text count)) }
+    ensures { Grows W.contents out.old out.new (labeled_number word.now (I.text count)) }
 {
     out.put_text(word);
     out.put_text(": ");
@@ -101,7 +101,7 @@ fn put_looks<W: Write>(out: &mut TextWriter<'_, W>, log: &Log)
 {
     for look in Look::all() {
         out.put_text(", ");
-        put_count(out, look.word(), count(Told::Seen(*look), log));
+        put_count(out, look.word(), count(CountedEvents::Seen(*look), log));
     }
 }
 

@@ -1,11 +1,10 @@
 //! The judgements of a play that aren't met, as lines of a page.
 
 ghost use Rattle.std.specs.Prelude.{◌≡◌, flat_map, IfOk, List};
-ghost use Rattle.lin_core.specs.declared.log.LogEntry.{LogEntry};
 ghost use Rattle.lin_export.specs.Putting.{PutsAll};
 ghost use Rattle.lin_text.specs.Written.{Grows, WritesText};
 ghost use Rattle.lin_tool.specs.Page.{unmet_line};
-ghost use Rattle.lin_tool.specs.Placing.{missed_line, moment_of, past_at};
+ghost use Rattle.lin_tool.specs.Placing.{missed_line, AtMoment};
 
 use crate::page::field::put_field;
 use crate::placing::{Moment, put_missed, within};
@@ -27,10 +26,9 @@ fn put_line<W: Write>(
     moment: Moment,
     judgement: &Judgement,
 )
-    ensures { (log : List LogEntry)
-        → moment ≡ moment_of cluster.now (past_at log judgement.now.entries)
-        → Grows W.contents out.old out.new
-        (missed_line script.entry cluster.now log judgement.now) }
+    ensures { AtMoment cluster.now judgement.now moment (λ log.
+        Grows W.contents out.old out.new
+        (missed_line script.entry cluster.now log judgement.now)) }
 {
     match script {
         Some(file) => put_missed(out, file, cluster, moment, judgement),
@@ -50,9 +48,8 @@ fn line_text(
     moment: Moment,
     judgement: &Judgement,
 ) -> Result<Vec<u8>, AllocError>
-    ensures { IfOk result (λ v. (log : List LogEntry)
-        → moment ≡ moment_of cluster.now (past_at log judgement.now.entries)
-        → v.items ≡ missed_line script.entry cluster.now log judgement.now) }
+    ensures { AtMoment cluster.now judgement.now moment (λ log. IfOk result
+        (λ v. v.items ≡ missed_line script.entry cluster.now log judgement.now)) }
 {
     let mut text = Vec::new(alloc);
     let mut buffer = TextBuffer::empty();
@@ -74,10 +71,9 @@ fn put_unmet_line<W: Write>(
     moment: Moment,
     judgement: &Judgement,
 ) -> Result<(), AllocError>
-    ensures { (log : List LogEntry)
-        → moment ≡ moment_of cluster.now (past_at log judgement.now.entries)
-        → PutsAll W.contents out.old out.new result
-        (unmet_line script.entry cluster.now log judgement.now) }
+    ensures { AtMoment cluster.now judgement.now moment (λ log.
+        PutsAll W.contents out.old out.new result
+        (unmet_line script.entry cluster.now log judgement.now)) }
 {
     if !is_unmet(&judgement.judged) {
         return Ok(());

@@ -2,7 +2,7 @@
 
 use crate::clusters::{cluster_of, lines_of, unmet_of};
 use crate::samples::BUILT_IN;
-use lin_bench::Line;
+use lin_bench::ScriptLine;
 use lin_core::{PortId, Step};
 use std::alloc::Global;
 use std::test::Fail;
@@ -58,7 +58,7 @@ fn texts_of_16_mebibytes(rt: HostRuntime) -> Result<(), Fail> {
         assert!(rt;
             matches!(
                 lines.as_slice().first(),
-                Some((number, Line::Step(PortId::Bus, Step::Open))) if *number == line
+                Some((number, ScriptLine::Step(PortId::Bus, Step::Open))) if *number == line
             )
         );
     }

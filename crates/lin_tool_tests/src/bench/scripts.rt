@@ -3,8 +3,8 @@
 use crate::clusters::{cluster_of, read_text};
 use crate::samples::{BUILT_IN, DOOR_ZONE, WINDOW};
 use lin_bench::{
-    Answer, Carried, Disturbance, Every, Expected, Extent, Line, Look, Part, Pattern, Rule, Since,
-    Slots, When, read,
+    Carried, Disturbance, Every, Expected, Extent, Look, Part, Pattern, Rule, RuleAnswer,
+    ScriptLine, Since, Slots, When, read,
 };
 use lin_core::{Cause, Direction, PortId, Refusal, Step};
 use lin_frame::Value;
@@ -13,7 +13,7 @@ use std::process::Abort;
 use std::test::Fail;
 
 /// The one line of a text that says something.
-fn only_line(alloc: Global, ldf: &[u8], text: &[u8]) -> Result<Line, Fail> {
+fn only_line(alloc: Global, ldf: &[u8], text: &[u8]) -> Result<ScriptLine, Fail> {
     let cluster = cluster_of(alloc, ldf)?;
     let Ok(mut lines) = read_text(alloc, &cluster, text)? else {
         return Err(Fail::from("not read"));
@@ -112,9 +112,9 @@ fn is_7e(pattern: &Pattern) -> bool {
     }
 }
 
-fn name_of(line: &Line) -> &'static str {
+fn name_of(line: &ScriptLine) -> &'static str {
     match line {
-        Line::Step(
+        ScriptLine::Step(
             PortId::Bus,
             Step::Write {
                 by: 1,
@@ -122,7 +122,7 @@ fn name_of(line: &Line) -> &'static str {
                 value: Value::Scalar(42),
             },
         ) => "write of 42",
-        Line::Step(
+        ScriptLine::Step(
             PortId::Host(3),
             Step::Write {
                 by: 3,
@@ -130,7 +130,7 @@ fn name_of(line: &Line) -> &'static str {
                 value: Value::Bytes(bytes),
             },
         ) if bytes.as_slice().is_empty() => "write of no bytes",
-        Line::Step(
+        ScriptLine::Step(
             PortId::Host(0),
             Step::Send {
                 from: 0,
@@ -138,27 +138,27 @@ fn name_of(line: &Line) -> &'static str {
                 message,
             },
         ) if message.as_slice() == [0x22, 0xF1, 0x90].as_slice() => "send of three bytes",
-        Line::Step(
+        ScriptLine::Step(
             PortId::Bus,
             Step::Timeout {
                 node: 1,
                 dir: Direction::Down,
             },
         ) => "timeout",
-        Line::Step(PortId::Node(0), Step::Answer { node: 0 }) => "answer",
-        Line::Slots(slots) => name_of_slots(slots),
-        Line::Slot(Disturbance::Leave(nodes)) if nodes.as_slice() == [3u8, 1].as_slice() => {
+        ScriptLine::Step(PortId::Node(0), Step::Answer { node: 0 }) => "answer",
+        ScriptLine::Slots(slots) => name_of_slots(slots),
+        ScriptLine::Slot(Disturbance::Leave(nodes)) if nodes.as_slice() == [3u8, 1].as_slice() => {
             "slot with two left out"
         }
-        Line::Expect(Expected::Refused(Refusal::Asleep)) => "refused as asleep",
-        Line::Expect(Expected::Seen(Look::NoAnswer)) => "seen none",
-        Line::Expect(
+        ScriptLine::Expect(Expected::Refused(Refusal::Asleep)) => "refused as asleep",
+        ScriptLine::Expect(Expected::Seen(Look::NoAnswer)) => "seen none",
+        ScriptLine::Expect(
             Expected::Lost {
                 host: 1,
                 cause: Cause::TimedOut,
             },
         ) => "lost in time",
-        Line::Expect(
+        ScriptLine::Expect(
             Expected::SignalWithin {
                 node: 0,
                 signal: 7,
@@ -166,11 +166,11 @@ fn name_of(line: &Line) -> &'static str {
                 high: 710,
             },
         ) => "signal in a range",
-        Line::Expect(Expected::NoMessage { from: 0, to: 1 }) => "no message",
-        Line::Expect(Expected::Table(2)) => "running table",
-        Line::Forget => "forget",
-        Line::Rule(rule) => name_of_rule(rule),
-        Line::Until(
+        ScriptLine::Expect(Expected::NoMessage { from: 0, to: 1 }) => "no message",
+        ScriptLine::Expect(Expected::Table(2)) => "running table",
+        ScriptLine::Forget => "forget",
+        ScriptLine::Rule(rule) => name_of_rule(rule),
+        ScriptLine::Until(
             Slots {
                 extent: Extent::Count(20),
                 ..
@@ -181,7 +181,7 @@ fn name_of(line: &Line) -> &'static str {
                 pattern,
             },
         ) if is_7e(pattern) => "slots until a message",
-        Line::Expect(
+        ScriptLine::Expect(
             Expected::MessageWithin {
                 from: 1,
                 to: 0,
@@ -190,19 +190,19 @@ fn name_of(line: &Line) -> &'static str {
                 since: Since::Last,
             },
         ) if pattern.more => "message after the last one",
-        Line::Expect(
+        ScriptLine::Expect(
             Expected::Frame {
                 frame: Carried::Request,
                 pattern: Some(pattern),
             },
         ) if pattern.more => "frame with a pattern",
-        Line::Until(slots, Expected::Asleep) => match name_of_slots(slots) {
+        ScriptLine::Until(slots, Expected::Asleep) => match name_of_slots(slots) {
             "slots of 200 ms" => "slots of 200 ms until asleep",
             "slots without two nodes" => "slots without two nodes until asleep",
             _ => "anything else",
         },
-        Line::Until(_, Expected::Table(0)) => "slots until a table runs",
-        Line::While(slots, Expected::NoLost { host: None }) => match name_of_slots(slots) {
+        ScriptLine::Until(_, Expected::Table(0)) => "slots until a table runs",
+        ScriptLine::While(slots, Expected::NoLost { host: None }) => match name_of_slots(slots) {
             "slots of 200 ms" => "slots while nothing is lost",
             _ => "anything else",
         },

@@ -4,7 +4,7 @@ use Rattle.std.specs.List.{cons_option}
 use Rattle.lin_core.specs.Core.{past_of}
 use Rattle.lin_core.specs.declared.port.PortId.{PortId}
 use Rattle.lin_core.specs.declared.step.Step.{Step}
-use Rattle.lin_bench.specs.Errors.{error_told, write_of}
+use Rattle.lin_bench.specs.Errors.{error_told, error_write}
 use Rattle.lin_bench.proofs.ToldErrors.{told_step}
 use Rattle.lin_bench.proofs.errors.add_writes.Goals as goal
 use Rattle.lin_bench.proofs.errors.add_writes.Goals.{in-Some+in_ok-push, in_default}
@@ -20,8 +20,8 @@ loop-signal-preserved c =
     (elim c.match-set_after.branch [
       | in-Some+in_ok-push w ↦
           ap (λ (v : Vec (PortId × Step) Global). v.items) w.steps-is ∙ w.in_ok-push.ensures.items ∙ ap (λ x. found ++ x ∷ []) w.write_of.ensures
-          ∙ ap (λ o. found ++ cons_option (option_map (write_of signal) o) []) (sym w.in-Some.is ∙ c.set_after.ensures)
+          ∙ ap (λ o. found ++ cons_option (option_map (error_write signal) o) []) (sym w.in-Some.is ∙ c.set_after.ensures)
       | in_default w ↦
           ap (λ (v : Vec (PortId × Step) Global). v.items) w.steps-is ∙ sym (append-nil found)
-          ∙ ap (λ o. found ++ cons_option (option_map (write_of signal) o) []) (sym w.in_default.is ∙ c.set_after.ensures)
+          ∙ ap (λ o. found ++ cons_option (option_map (error_write signal) o) []) (sym w.in_default.is ∙ c.set_after.ensures)
     ])

@@ -4,7 +4,7 @@ use Rattle.std.specs.Prelude.{codes}
 use Rattle.std.specs.Str.{bytes_eq}
 use Rattle.std.proofs.lemmas.List.{map-append, reverse-append, reverse-reverse, take-append-drop}
 use Rattle.lin_bench.specs.Expectations.{before_last, last_from}
-use Rattle.lin_bench.specs.Fields.{words}
+use Rattle.lin_bench.specs.Fields.{field_texts}
 use Rattle.lin_bench.proofs.Rows.{dropped}
 use Rattle.lin_bench.proofs.expectations.before_last.Goals as goal
 
@@ -17,24 +17,24 @@ by-two fs d n e =
     sym (take-append-drop n fs) ∙ ap (λ l. take n fs ++ l) two
 
 backwards : (fs : List (Bor (List ℕ))) (d : Bor (List ℕ)) (n : ℕ) → length fs ≡ suc (suc n)
-    → reverse (words fs) ≡ (get_or fs (suc n) d).now ∷ (get_or fs n d).now ∷ reverse (words (take n fs))
+    → reverse (field_texts fs) ≡ (get_or fs (suc n) d).now ∷ (get_or fs n d).now ∷ reverse (field_texts (take n fs))
 backwards fs d n e =
     let last = get_or fs n d ∷ get_or fs (suc n) d ∷ [] in
-    ap (λ l. reverse (words l)) (by-two fs d n e) ∙ ap reverse (map-append (λ f. f.now) (take n fs) last)
-    ∙ reverse-append (words (take n fs)) (words last)
+    ap (λ l. reverse (field_texts l)) (by-two fs d n e) ∙ ap reverse (map-append (λ f. f.now) (take n fs) last)
+    ∙ reverse-append (field_texts (take n fs)) (field_texts last)
 
 abbrev ends : List ℕ → List ℕ → Bool
 ends of last = bytes_eq last (codes "last") && bytes_eq of (codes "of")
 
 at-end : (fs : List (Bor (List ℕ))) (d : Bor (List ℕ)) (n : ℕ) → length fs ≡ suc (suc n) → true ≡ ends (get_or fs n d).now (get_or fs (suc n) d).now
-    → Some (words (take n fs)) ≡ before_last (words fs)
-at-end fs d n e h = sym (ap last_from (backwards fs d n e) ∙ rw (← h) (ap Some (reverse-reverse (words (take n fs)))))
+    → Some (field_texts (take n fs)) ≡ before_last (field_texts fs)
+at-end fs d n e h = sym (ap last_from (backwards fs d n e) ∙ rw (← h) (ap Some (reverse-reverse (field_texts (take n fs)))))
 
 not-at-end : (fs : List (Bor (List ℕ))) (d : Bor (List ℕ)) (n : ℕ) → length fs ≡ suc (suc n) → false ≡ ends (get_or fs n d).now (get_or fs (suc n) d).now
-    → None ≡ before_last (words fs)
+    → None ≡ before_last (field_texts fs)
 not-at-end fs d n e h = sym (ap last_from (backwards fs d n e) ∙ rw (← h) refl)
 
-too-short : (fs : List (Bor (List ℕ))) → length fs < 2 → None ≡ before_last (words fs)
+too-short : (fs : List (Bor (List ℕ))) → length fs < 2 → None ≡ before_last (field_texts fs)
 too-short [] h = refl
 too-short (f ∷ []) h = refl
 too-short (f ∷ g ∷ fs) h = absurd (omega arith)

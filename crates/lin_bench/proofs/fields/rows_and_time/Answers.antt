@@ -3,7 +3,7 @@ use Rattle.std.specs.Borrow.{Bor}
 use Rattle.std.specs.Prelude.{codes}
 use Rattle.std.specs.Str.{bytes_eq}
 use Rattle.std.proofs.lemmas.List.{map-append, reverse-append, reverse-reverse, take-append-drop}
-use Rattle.lin_bench.specs.Fields.{rows_and_time, time_from, words}
+use Rattle.lin_bench.specs.Fields.{rows_and_time, time_from, field_texts}
 use Rattle.lin_bench.proofs.Rows.{dropped}
 use Rattle.lin_bench.proofs.fields.rows_and_time.Goals as goal
 
@@ -19,28 +19,28 @@ by-three fs d n e =
     sym (take-append-drop n fs) ∙ ap (λ l. take n fs ++ l) three
 
 backwards : (fs : List (Bor (List ℕ))) (d : Bor (List ℕ)) (n : ℕ) → length fs ≡ suc (suc (suc n))
-    → reverse (words fs) ≡ (get_or fs (suc (suc n)) d).now ∷ (get_or fs (suc n) d).now ∷ (get_or fs n d).now ∷ reverse (words (take n fs))
+    → reverse (field_texts fs) ≡ (get_or fs (suc (suc n)) d).now ∷ (get_or fs (suc n) d).now ∷ (get_or fs n d).now ∷ reverse (field_texts (take n fs))
 backwards fs d n e =
     let last = get_or fs n d ∷ get_or fs (suc n) d ∷ get_or fs (suc (suc n)) d ∷ [] in
-    ap (λ l. reverse (words l)) (by-three fs d n e) ∙ ap reverse (map-append (λ f. f.now) (take n fs) last)
-    ∙ reverse-append (words (take n fs)) (words last)
+    ap (λ l. reverse (field_texts l)) (by-three fs d n e) ∙ ap reverse (map-append (λ f. f.now) (take n fs) last)
+    ∙ reverse-append (field_texts (take n fs)) (field_texts last)
 
 abbrev begins : List ℕ → List ℕ → List ℕ → Bool
 begins before word unit = bytes_eq unit (codes "ms") && bytes_eq word before
 
 at-end : (before : List ℕ) (fs : List (Bor (List ℕ))) (d : Bor (List ℕ)) (n : ℕ) → length fs ≡ suc (suc (suc n))
     → true ≡ begins before (get_or fs n d).now (get_or fs (suc (suc n)) d).now
-    → (words (take n fs), Some (get_or fs (suc n) d).now) ≡ rows_and_time before (words fs)
+    → (field_texts (take n fs), Some (get_or fs (suc n) d).now) ≡ rows_and_time before (field_texts fs)
 at-end before fs d n e h =
-    sym (ap (time_from before (words fs)) (backwards fs d n e)
-    ∙ rw (← h) (ap (λ l. (l, Some (get_or fs (suc n) d).now)) (reverse-reverse (words (take n fs)))))
+    sym (ap (time_from before (field_texts fs)) (backwards fs d n e)
+    ∙ rw (← h) (ap (λ l. (l, Some (get_or fs (suc n) d).now)) (reverse-reverse (field_texts (take n fs)))))
 
 not-at-end : (before : List ℕ) (fs : List (Bor (List ℕ))) (d : Bor (List ℕ)) (n : ℕ) → length fs ≡ suc (suc (suc n))
     → false ≡ begins before (get_or fs n d).now (get_or fs (suc (suc n)) d).now
-    → (words fs, None) ≡ rows_and_time before (words fs)
-not-at-end before fs d n e h = sym (ap (time_from before (words fs)) (backwards fs d n e) ∙ rw (← h) refl)
+    → (field_texts fs, None) ≡ rows_and_time before (field_texts fs)
+not-at-end before fs d n e h = sym (ap (time_from before (field_texts fs)) (backwards fs d n e) ∙ rw (← h) refl)
 
-too-short : (before : List ℕ) (fs : List (Bor (List ℕ))) → length fs < 3 → (words fs, None) ≡ rows_and_time before (words fs)
+too-short : (before : List ℕ) (fs : List (Bor (List ℕ))) → length fs < 3 → (field_texts fs, None) ≡ rows_and_time before (field_texts fs)
 too-short before [] h = refl
 too-short before (f ∷ []) h = refl
 too-short before (f ∷ g ∷ []) h = refl

@@ -1,6 +1,6 @@
 use Rattle.std.proofs.Common.{ap, map, sym}
 use Rattle.lin_text.proofs.Growing.{grows-more, same-growth}
-use Rattle.lin_bench.specs.LineWords.{said, words_text}
+use Rattle.lin_bench.specs.LineWords.{as_word, words_text}
 use Rattle.lin_bench.proofs.Appending.{first-and-rest}
 use Rattle.lin_bench.proofs.line_words.put_words.Goals as goal
 
@@ -8,5 +8,5 @@ pub returns-in-len1-up : goal.returns-in-len1-up
 returns-in-len1-up g c =
     let names = c.args.names.now in
     same-growth
-    (sym (ap (λ ws. words_text (g.N.Naming.language names) (g.N.LineNaming.frames names) (map said ws)) (first-and-rest c.args.words.now c.first-item.result c.in-len1-up.len_at_least c.first-item.is)))
+    (sym (ap (λ ws. words_text (g.N.Naming.language names) (g.N.LineNaming.frames names) (map as_word ws)) (first-and-rest c.args.words.now c.first-item.result c.in-len1-up.len_at_least c.first-item.is)))
     (grows-more c.put_word.ensures c.put_spaced.ensures)

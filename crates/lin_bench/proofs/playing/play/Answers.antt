@@ -4,7 +4,7 @@ use Rattle.std.specs.Vec.Iter.{into_iter_items}
 use Rattle.lin_bench.specs.Bench.{state_of}
 use Rattle.lin_bench.specs.Played.{judged_from, nothing_expected, on_line}
 use Rattle.lin_bench.specs.Strict.{speaks_of_last}
-use Rattle.lin_bench.specs.declared.line.Line.{Line}
+use Rattle.lin_bench.specs.declared.line.ScriptLine.{ScriptLine}
 use Rattle.lin_parts.proofs.Configuring.{few-identities}
 use Rattle.lin_bench.proofs.Few.{full-by-rule}
 use Rattle.lin_bench.proofs.Runs.{all-come, come-first, come-more, judged-first, judged-last, judged-more, line-fails, next-left, none-left}

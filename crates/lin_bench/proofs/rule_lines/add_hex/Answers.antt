@@ -1,5 +1,5 @@
 use Rattle.std.proofs.Common.{◌≡◌, ◌∙◌, ◌-◌, None, sym, ap, arith, drop, length, option_map, take}
-use Rattle.lin_bench.specs.RuleLines.{hex_part, row}
+use Rattle.lin_bench.specs.RuleLines.{hex_part, row_of_pairs}
 use Rattle.lin_bench.specs.declared.rules.Part.TheVariants.{Byte}
 use Rattle.lin_bench.proofs.Rows.{behind, behind-one, is-not-added, row-ends, row-is-over, row-next}
 use Rattle.lin_bench.proofs.rule_lines.add_hex.Goals as goal
@@ -7,19 +7,19 @@ use Rattle.lin_bench.proofs.rule_lines.add_hex.Goals as goal
 pub returns-in-None : goal.returns-in-None
 returns-in-None c =
     let new = c.loop-left.parts.items in
-    let none : row hex_part c.loop-left.left.now ≡ None = row-ends hex_part c.loop-left.left.now (omega arith) (ap (option_map Byte) (sym c.hex_byte.ensures ∙ c.in-None.is)) in
-    is-not-added (row hex_part c.args.signs.now) c.args.parts.now.items new (c.loop-left.invariant ∙ ap (behind new) none)
+    let none : row_of_pairs hex_part c.loop-left.left.now ≡ None = row-ends hex_part c.loop-left.left.now (omega arith) (ap (option_map Byte) (sym c.hex_byte.ensures ∙ c.in-None.is)) in
+    is-not-added (row_of_pairs hex_part c.args.signs.now) c.args.parts.now.items new (c.loop-left.invariant ∙ ap (behind new) none)
 
 pub loop-left-preserved : goal.loop-left-preserved
 loop-left-preserved c =
     let xs = c.loop-left.left.now in
     let before = c.loop-left.parts.items in
-    let rest = row hex_part (take (length xs - 2) (drop 2 xs)) in
+    let rest = row_of_pairs hex_part (take (length xs - 2) (drop 2 xs)) in
     let next = row-next hex_part xs (Byte c.in-Some.byte) (omega arith) (ap (option_map Byte) (sym c.hex_byte.ensures ∙ c.in-Some.is)) in
     c.loop-left.invariant ∙ ap (behind before) next ∙ behind-one before (Byte c.in-Some.byte) rest
     ∙ ap (λ l. behind l rest) (sym c.in_ok-push-in-Some.ensures.items)
 
 pub returns : goal.returns
 returns c =
-    row-is-over hex_part c.loop-left.left.now c.is_empty.result (row hex_part c.args.signs.now) c.args.parts.now.items c.loop-left.parts.items
+    row-is-over hex_part c.loop-left.left.now c.is_empty.result (row_of_pairs hex_part c.args.signs.now) c.args.parts.now.items c.loop-left.parts.items
     (omega arith) c.is_empty.ensures c.loop-left.invariant

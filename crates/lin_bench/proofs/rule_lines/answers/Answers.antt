@@ -5,13 +5,13 @@ use Rattle.std.specs.List.{position, slice_split}
 use Rattle.std.specs.Str.{bytes_eq}
 use Rattle.std.proofs.lemmas.List.{length-drop, take_all}
 use Rattle.std.proofs.lemmas.Result.{err_from_is_err_and}
-use Rattle.lin_bench.specs.Fields.{◌>>=◌, words}
+use Rattle.lin_bench.specs.Fields.{◌>>=◌, field_texts}
 use Rattle.lin_bench.specs.Read.{Fails}
-use Rattle.lin_bench.specs.RuleLines.{answer_form, answers_form, answers_in_turn, is_word}
+use Rattle.lin_bench.specs.RuleLines.{answer_form, answers_form, answers_in_turn, equals_word}
 use Rattle.lin_bench.specs.declared.fault.LineFault.{LineFault}
 use Rattle.lin_bench.specs.declared.fault.LineFault.TheVariants.{Bad, OutOfMemory}
 use Rattle.lin_bench.specs.declared.reason.Reason.{Reason}
-use Rattle.lin_bench.specs.declared.rules.Answer.{Answer}
+use Rattle.lin_bench.specs.declared.rules.RuleAnswer.{RuleAnswer}
 use Rattle.lin_bench.proofs.Places.{split-at, split-nowhere}
 use Rattle.lin_bench.proofs.rule_lines.answers.Goals as goal
 
@@ -20,27 +20,27 @@ then-is word f = bytes_eq f.now word
 
 -- an answer before `then`, and those after it
 first-of : (word : List ℕ) (fs : List (Bor (List ℕ))) (i : ℕ) → word ≡ codes "then" → Some i ≡ position (then-is word) fs
-    → answers_form (words fs) ≡ (answer_form (words (take i fs)) >>= (λ a. answers_form (words (drop (i + 1) fs)) >>= (λ more. Ok (a ∷ more))))
+    → answers_form (field_texts fs) ≡ (answer_form (field_texts (take i fs)) >>= (λ a. answers_form (field_texts (drop (i + 1) fs)) >>= (λ more. Ok (a ∷ more))))
 first-of word fs i same e =
-    ap (λ w. answers_in_turn (slice_split (is_word w) (words fs))) (sym same)
-    ∙ ap answers_in_turn (split-at (is_word word) fs (record { ref_ptr = (0, 0); now = [] }) i e)
-    ∙ ap (λ w. answer_form (words (take i fs)) >>= (λ a. answers_in_turn (slice_split (is_word w) (words (drop (i + 1) fs))) >>= (λ more. Ok (a ∷ more)))) same
+    ap (λ w. answers_in_turn (slice_split (equals_word w) (field_texts fs))) (sym same)
+    ∙ ap answers_in_turn (split-at (equals_word word) fs (record { ref_ptr = (0, 0); now = [] }) i e)
+    ∙ ap (λ w. answer_form (field_texts (take i fs)) >>= (λ a. answers_in_turn (slice_split (equals_word w) (field_texts (drop (i + 1) fs))) >>= (λ more. Ok (a ∷ more)))) same
 
 last-of : (word : List ℕ) (fs : List (Bor (List ℕ))) → word ≡ codes "then" → None ≡ position (then-is word) fs
-    → answers_form (words fs) ≡ (answer_form (words fs) >>= (λ a. Ok (a ∷ [])))
+    → answers_form (field_texts fs) ≡ (answer_form (field_texts fs) >>= (λ a. Ok (a ∷ [])))
 last-of word fs same e =
-    ap (λ w. answers_in_turn (slice_split (is_word w) (words fs))) (sym same)
-    ∙ ap answers_in_turn (split-nowhere (is_word word) fs (record { ref_ptr = (0, 0); now = [] }) e)
+    ap (λ w. answers_in_turn (slice_split (equals_word w) (field_texts fs))) (sym same)
+    ∙ ap answers_in_turn (split-nowhere (equals_word word) fs (record { ref_ptr = (0, 0); now = [] }) e)
 
-abbrev with : List Answer → Result (List Answer) Reason → Result (List Answer) Reason
+abbrev with : List RuleAnswer → Result (List RuleAnswer) Reason → Result (List RuleAnswer) Reason
 with answers r = r >>= (λ more. Ok (answers ++ more))
 
-with-one : (answers : List Answer) (a : Answer) (r : Result (List Answer) Reason)
+with-one : (answers : List RuleAnswer) (a : RuleAnswer) (r : Result (List RuleAnswer) Reason)
     → with answers (r >>= (λ more. Ok (a ∷ more))) ≡ with (answers ++ a ∷ []) r
 with-one answers a (Ok more) = ap Ok (sym (append_assoc answers (a ∷ []) more))
 with-one answers a (Err why) = refl
 
-fails : (e : LineFault) (r : Result Answer Reason) (rest : Answer → Result (List Answer) Reason) (answers : List Answer) → Fails e r
+fails : (e : LineFault) (r : Result RuleAnswer Reason) (rest : RuleAnswer → Result (List RuleAnswer) Reason) (answers : List RuleAnswer) → Fails e r
     → Fails e (with answers (r >>= rest))
 fails (Bad why) r rest answers h = rw h refl
 fails OutOfMemory r rest answers h = tt
@@ -52,7 +52,7 @@ returns-in_err-one c =
     let i = c.in-Some.end in
     let first = first-of c.as_slice.result.now fs i c.as_slice.ensures c.in-Some.ensures.first in
     rw (p.1, p.2, c.loop-end.invariant.same, first)
-    (fails c.in_err-one.field-0.0 (answer_form (words (take i fs))) (λ a. answers_form (words (drop (i + 1) fs)) >>= (λ more. Ok (a ∷ more))) c.loop-end.answers
+    (fails c.in_err-one.field-0.0 (answer_form (field_texts (take i fs))) (λ a. answers_form (field_texts (drop (i + 1) fs)) >>= (λ more. Ok (a ∷ more))) c.loop-end.answers
     c.in_err-one.ensures)
 
 pub loop-end-preserved : goal.loop-end-preserved
@@ -65,10 +65,10 @@ loop-end-preserved c =
       within = rw whole (omega (arith, length-drop (i + 1) fs, c.loop-end.invariant.within));
       same =
           c.loop-end.invariant.same ∙ ap (with c.loop-end.answers) first
-          ∙ ap (λ r. with c.loop-end.answers (r >>= (λ a. answers_form (words (drop (i + 1) fs)) >>= (λ more. Ok (a ∷ more))))) c.in_ok-one.ensures
-          ∙ with-one c.loop-end.answers c.in_ok-one.one (answers_form (words (drop (i + 1) fs)))
-          ∙ ap (λ l. with l (answers_form (words (drop (i + 1) fs)))) (sym c.in_ok-push.ensures)
-          ∙ ap (λ l. with c.push.new.self (answers_form (words l))) (sym whole);
+          ∙ ap (λ r. with c.loop-end.answers (r >>= (λ a. answers_form (field_texts (drop (i + 1) fs)) >>= (λ more. Ok (a ∷ more))))) c.in_ok-one.ensures
+          ∙ with-one c.loop-end.answers c.in_ok-one.one (answers_form (field_texts (drop (i + 1) fs)))
+          ∙ ap (λ l. with l (answers_form (field_texts (drop (i + 1) fs)))) (sym c.in_ok-push.ensures)
+          ∙ ap (λ l. with c.push.new.self (answers_form (field_texts l))) (sym whole);
     }
 
 pub returns-in_err-last : goal.returns-in_err-last
@@ -77,7 +77,7 @@ returns-in_err-last c =
     let fs = c.loop-end.left.now in
     let last = last-of c.as_slice.result.now fs c.as_slice.ensures (sym c.in_default.is ∙ c.word_at.ensures.first) in
     rw (p.1, p.2, c.loop-end.invariant.same, last)
-    (fails c.in_err-last.field-0.0 (answer_form (words fs)) (λ a. Ok (a ∷ [])) c.loop-end.answers c.in_err-last.ensures)
+    (fails c.in_err-last.field-0.0 (answer_form (field_texts fs)) (λ a. Ok (a ∷ [])) c.loop-end.answers c.in_err-last.ensures)
 
 pub returns : goal.returns
 returns c =

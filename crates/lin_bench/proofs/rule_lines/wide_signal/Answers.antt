@@ -2,7 +2,7 @@ use Rattle.std.proofs.Common.{◌≡◌, ◌∙◌, ◌+◌, ◌<◌, ◌∷◌,
 use Rattle.std.specs.Prelude.{find, nat_lt, option_map}
 use Rattle.std.proofs.lemmas.Bool.{le-ltb, lt-ltb}
 use Rattle.lin_parts.specs.declared.parts.ErrorSignal.{ErrorSignal}
-use Rattle.lin_bench.specs.RuleLines.{is_wide}
+use Rattle.lin_bench.specs.RuleLines.{has_several_bits}
 use Rattle.lin_bench.proofs.rule_lines.wide_signal.Goals as goal
 
 here : {A : Type 0} (xs : List A) (i : ℕ) (x : A) → i < length xs → x ≡ get_or xs i x → drop i xs ≡ x ∷ drop (i + 1) xs
@@ -28,13 +28,13 @@ pub returns-then-signal_size-gt1-clause-wide : goal.returns-then-signal_size-gt1
 returns-then-signal_size-gt1-clause-wide c =
     let k = c.args.cluster.now in
     let e = c.error-item.result in
-    let is : is_wide k e ≡ true = subst (λ n. nat_lt 1 n ≡ true) c.signal_size.ensures (lt-ltb 1 c.signal_size.result c.if-signal_size-gt1.true) in
+    let is : has_several_bits k e ≡ true = subst (λ n. nat_lt 1 n ≡ true) c.signal_size.ensures (lt-ltb 1 c.signal_size.result c.if-signal_size-gt1.true) in
     sym (ap (option_map (λ (e : ErrorSignal). e.signal))
-    (found-at (is_wide k) k.errors _ c.loop-error.error-index e c.error_signals-error-items.ensures c.loop-error-test.true c.error-item.is c.loop-error.invariant is))
+    (found-at (has_several_bits k) k.errors _ c.loop-error.error-index e c.error_signals-error-items.ensures c.loop-error-test.true c.error-item.is c.loop-error.invariant is))
 
 pub loop-error-preserved : goal.loop-error-preserved
 loop-error-preserved c =
     let k = c.args.cluster.now in
     let e = c.error-item.result in
-    let is : is_wide k e ≡ false = subst (λ n. nat_lt 1 n ≡ false) c.signal_size.ensures (le-ltb 1 c.signal_size.result c.if-signal_size-gt1.false) in
-    passed-at (is_wide k) k.errors _ c.loop-error.error-index e c.error_signals-error-items.ensures c.loop-error-test.true c.error-item.is c.loop-error.invariant is
+    let is : has_several_bits k e ≡ false = subst (λ n. nat_lt 1 n ≡ false) c.signal_size.ensures (le-ltb 1 c.signal_size.result c.if-signal_size-gt1.false) in
+    passed-at (has_several_bits k) k.errors _ c.loop-error.error-index e c.error_signals-error-items.ensures c.loop-error-test.true c.error-item.is c.loop-error.invariant is

@@ -1,7 +1,7 @@
 use Rattle.std.proofs.Common.{◌≡◌, ◌∙◌, ◌+◌, ap, arith, sym}
 use Rattle.std.specs.Prelude.{filter, flat_map, slice_get}
 use Rattle.lin_core.specs.History.{events}
-use Rattle.lin_bench.specs.Verdicts.{is_of}
+use Rattle.lin_bench.specs.Verdicts.{is_of_kind}
 use Rattle.lin_bench.proofs.Events.{found-behind, none-behind, reached-at, with-entry}
 use Rattle.lin_bench.proofs.LossSearches.{fewer}
 use Rattle.lin_bench.proofs.taken.event_from.Goals as goal
@@ -14,7 +14,7 @@ returns-in-Ok c =
     let found = c.in-Ok.ensures in
     record {
       event_is =
-          sym (ap (slice_get (filter (is_of kind) (flat_map events es))) (sym c.loop-index.invariant.same)
+          sym (ap (slice_get (filter (is_of_kind kind) (flat_map events es))) (sym c.loop-index.invariant.same)
           ∙ found-behind kind es i c.entry.result.now c.events_of.result.now c.loop-index.skip c.in-Ok.event.now (omega arith) c.entry.ensures c.events_of.ensures found.0);
       behind = record {
         within = omega arith;
@@ -41,7 +41,7 @@ returns c =
     let end : c.len.result ≡ i = omega arith in
     let all = fewer c.args.kind es (c.args.from.entry + 1) (i + 1) (omega arith) in
     record {
-      event_is = sym (ap (slice_get (filter (is_of c.args.kind) (flat_map events es))) (sym c.loop-index.invariant.same) ∙ none-behind c.args.kind es i c.loop-index.skip (omega arith));
+      event_is = sym (ap (slice_get (filter (is_of_kind c.args.kind) (flat_map events es))) (sym c.loop-index.invariant.same) ∙ none-behind c.args.kind es i c.loop-index.skip (omega arith));
       behind = record {
         within = omega arith;
         place = rw end (omega (arith, c.loop-index.invariant.same));

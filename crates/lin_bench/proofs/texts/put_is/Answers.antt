@@ -1,5 +1,5 @@
 use Rattle.std.proofs.Common.{ap}
-use Rattle.lin_log.specs.Language.{named}
+use Rattle.lin_log.specs.Language.{named_language}
 use Rattle.lin_text.proofs.Growing.{same-growth}
 use Rattle.lin_bench.specs.Texts.{cluster_text}
 use Rattle.lin_bench.proofs.LineWords.{few-words}

@@ -1,12 +1,12 @@
 use Rattle.std.proofs.Common.{◌≡◌, ◌+◌, ◌<◌, length}
-use Rattle.lin_bench.specs.Fields.{words}
-use Rattle.lin_bench.specs.Words.{last_signal, signal_at}
+use Rattle.lin_bench.specs.Fields.{field_texts}
+use Rattle.lin_bench.specs.Words.{last_signal, signal_in_fields}
 use Rattle.lin_bench.proofs.unmarked.signal_at.Given as goal
 
 abbrev pub invariant-loop-at : goal.invariant-loop-at
 invariant-loop-at l = record {
   within : 0 < l.at → l.at + 1 < length l.all;
-  same : signal_at l.cluster (words l.all) ≡ last_signal l.cluster (words l.all) l.at;
+  same : signal_in_fields l.cluster (field_texts l.all) ≡ last_signal l.cluster (field_texts l.all) l.at;
 }
 
 abbrev pub decreases-loop-at : goal.decreases-loop-at

@@ -2,7 +2,7 @@ use Rattle.std.proofs.Common.{false, refl, subst}
 use Rattle.std.specs.Prelude.{option_map}
 use Rattle.lin_bench.specs.Searches.{Finds, IsBehind, last_end, place_before}
 use Rattle.lin_bench.specs.declared.taken.Search.{Search}
-use Rattle.lin_bench.specs.declared.taken.Taken.{Taken}
+use Rattle.lin_bench.specs.declared.taken.TakenEvents.{TakenEvents}
 use Rattle.lin_bench.proofs.Searches.{IsOneMore, before-found, known-search, next-found, taken-none}
 use Rattle.lin_bench.proofs.verdicts.look_for.Goals as goal
 
@@ -10,7 +10,7 @@ pub returns : goal.returns
 returns c =
     let core = c.args.core.now in
     let t = c.args.taken.now in
-    let u : Taken = record t { searches = c.push.new.self } in
+    let u : TakenEvents = record t { searches = c.push.new.self } in
     let kind = c.args.kind in
     let event = option_map (λ e. e.now) c.event_from.result.0 in
     let end = c.event_from.result.1 in

@@ -2,7 +2,7 @@ use Rattle.std.proofs.Common.{◌≡◌, ◌∙◌, Option, Some, None, refl, su
 use Rattle.std.specs.Prelude.{is_some, option_map}
 use Rattle.lin_bench.specs.Searches.{Finds, last_end}
 use Rattle.lin_bench.specs.declared.taken.Search.{Search}
-use Rattle.lin_bench.specs.declared.taken.Taken.{Taken}
+use Rattle.lin_bench.specs.declared.taken.TakenEvents.{TakenEvents}
 use Rattle.lin_bench.proofs.Searches.{IsOneMore, behind-found, known-search, next-found, taken-found}
 use Rattle.lin_bench.proofs.verdicts.take_next.Goals as goal
 
@@ -14,7 +14,7 @@ pub returns : goal.returns
 returns c =
     let core = c.args.core.now in
     let t = c.args.taken.now in
-    let u : Taken = record t { searches = c.push.new.self } in
+    let u : TakenEvents = record t { searches = c.push.new.self } in
     let kind = c.args.kind in
     let event = option_map (λ e. e.now) c.event_from.result.0 in
     let end = c.event_from.result.1 in

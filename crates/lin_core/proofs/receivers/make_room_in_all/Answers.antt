@@ -4,7 +4,7 @@ use Rattle.std.proofs.Math.ListN.{length-set}
 use Rattle.std.proofs.lemmas.Bool.Decides.{eqb_tells}
 use Rattle.std.proofs.lemmas.Option.{slice_get_read, slice_get_within}
 use Rattle.lin_transport.specs.Receiver.{Reception, ear_of}
-use Rattle.lin_core.specs.kept.Receivers.{AreAlike, receiver_in}
+use Rattle.lin_core.specs.kept.Receivers.{HaveHeardAlike, receiver_in}
 use Rattle.lin_core.specs.declared.link.Direction.{Direction}
 use Rattle.lin_core.specs.declared.link.Direction.TheVariants.{Down, Up}
 use Rattle.lin_core.specs.declared.receivers.Receivers.{Receivers}
@@ -18,7 +18,7 @@ alike-dir : (d : Direction) (x was is : Receivers) → (ear_of is.down ≡ ear_o
 alike-dir Down x was is down up before = (down.0 ∙ before.0, down.1 ∙ before.1)
 alike-dir Up x was is down up before = (ap ear_of up ∙ before.0, ap (λ (r : Reception). r.part) up ∙ before.1)
 
-alike-set : (ys xs : List Receivers) (i : ℕ) (was is : Receivers) → slice_get xs i ≡ Some was → (ear_of is.down ≡ ear_of was.down) × (is.down.part ≡ was.down.part) → is.up ≡ was.up → AreAlike ys xs → AreAlike ys (slice_set xs i is)
+alike-set : (ys xs : List Receivers) (i : ℕ) (was is : Receivers) → slice_get xs i ≡ Some was → (ear_of is.down ≡ ear_of was.down) × (is.down.part ≡ was.down.part) → is.up ≡ was.up → HaveHeardAlike ys xs → HaveHeardAlike ys (slice_set xs i is)
 alike-set ys xs i was is here down up a = record {
   count = length-set xs i is ∙ a.count;
   each = λ h d x y old new. elim (eqb_tells i h) [

@@ -5,7 +5,7 @@ use Rattle.std.proofs.lemmas.Bool.Decides.{eqb_tells, nat_tests}
 use Rattle.std.proofs.lemmas.List.{append-nil}
 use Rattle.std.proofs.lemmas.Option.{slice_get_past, slice_get_read}
 use Rattle.lin_frame.specs.Words.{numbers}
-use Rattle.lin_transport.specs.Sender.{Sending as Sender}
+use Rattle.lin_transport.specs.Sender.{SenderData as Sender}
 use Rattle.lin_core.specs.kept.Hosts.{loss_of, losses_of, host_after_sleep}
 use Rattle.lin_core.specs.declared.event.Event.{Event}
 use Rattle.lin_core.specs.declared.host.Host.{Host}

@@ -3,8 +3,8 @@ use Rattle.std.specs.Prelude.{Some}
 use Rattle.std.proofs.lemmas.Option.{slice_get-get_or, slice_get_read}
 use Rattle.lin_frame.specs.Words.{numbers}
 use Rattle.lin_text.proofs.Growing.{grows-more, same-growth}
-use Rattle.lin_export.specs.Csv.{comma, signal_cells}
-use Rattle.lin_export.specs.KeptCells.{IsKept}
+use Rattle.lin_export.specs.Csv.{after_comma, signal_cells}
+use Rattle.lin_export.specs.KeptCells.{AreCellsOf}
 use Rattle.lin_export.proofs.KeptMore.{kept-set}
 use Rattle.lin_export.proofs.Rows.{cells-more}
 use Rattle.lin_export.proofs.csv.put_coded_values.Goals as goal
@@ -18,7 +18,7 @@ put_coded_signal-requires g c =
     let number = c.loop-signal.invariant.kept.number in
     let count = c.signals-signal-end.ensures.number in
     let inside = c.loop-signal-test.true in
-    subst (λ (n : ℕ). IsKept c.args.coded.now n old) same (c.loop-signal.invariant.kept.each i old (slice_get_read xs (length xs) i old refl (omega arith) c.index_mut.ensures.value))
+    subst (λ (n : ℕ). AreCellsOf c.args.coded.now n old) same (c.loop-signal.invariant.kept.each i old (slice_get_read xs (length xs) i old refl (omega arith) c.index_mut.ensures.value))
 
 pub loop-signal-preserved : goal.loop-signal-preserved
 loop-signal-preserved g c =
@@ -34,7 +34,7 @@ loop-signal-preserved g c =
           (grows-more (c.loop-signal.invariant.text says are)
           (c.put_coded_signal.ensures.text says (are i v (slice_get-get_or c.args.values.now i v (omega arith) ∙ ap Some (sym is)))));
       kept = kept-set c.args.coded.now (length c.args.cluster.now.signals) c.loop-signal.kept.items c.from-index.result new c.loop-signal.invariant.kept
-          (subst (λ (n : ℕ). IsKept c.args.coded.now n new) (sym c.from-index.ensures) c.put_coded_signal.ensures.kept);
+          (subst (λ (n : ℕ). AreCellsOf c.args.coded.now n new) (sym c.from-index.ensures) c.put_coded_signal.ensures.kept);
     }
 
 pub returns-clause-text : goal.returns-clause-text
@@ -42,4 +42,4 @@ returns-clause-text g c = λ says are.
     let number = c.signals-signal-end.ensures.number in
     let t = c.loop-signal-test.false in
     let all : c.loop-signal.signal ≡ length c.args.cluster.now.signals = omega arith in
-    same-growth (ap (λ n. flat_map comma (flat_map (signal_cells (Some c.args.coded.now) says) (numbers n))) all) (c.loop-signal.invariant.text says are)
+    same-growth (ap (λ n. flat_map after_comma (flat_map (signal_cells (Some c.args.coded.now) says) (numbers n))) all) (c.loop-signal.invariant.text says are)

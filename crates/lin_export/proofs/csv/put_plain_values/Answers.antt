@@ -3,7 +3,7 @@ use Rattle.std.specs.Prelude.{Some, None}
 use Rattle.std.proofs.lemmas.Option.{slice_get-get_or}
 use Rattle.lin_frame.specs.Words.{numbers}
 use Rattle.lin_text.proofs.Growing.{grows-more, same-growth}
-use Rattle.lin_export.specs.Csv.{comma, signal_cells}
+use Rattle.lin_export.specs.Csv.{after_comma, signal_cells}
 use Rattle.lin_export.proofs.Rows.{cells-more}
 use Rattle.lin_export.proofs.csv.put_plain_values.Goals as goal
 
@@ -22,4 +22,4 @@ returns g c = λ says are.
     let number = c.signals-signal-end.ensures.number in
     let t = c.loop-signal-test.false in
     let all : c.loop-signal.signal ≡ length c.args.cluster.now.signals = omega arith in
-    same-growth (ap (λ n. flat_map comma (flat_map (signal_cells None says) (numbers n))) all) (c.loop-signal.invariant says are)
+    same-growth (ap (λ n. flat_map after_comma (flat_map (signal_cells None says) (numbers n))) all) (c.loop-signal.invariant says are)

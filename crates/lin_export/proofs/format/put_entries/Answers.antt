@@ -44,7 +44,7 @@ loop-index-preserved g c =
     let e = c.entry-entry.result.now in
     let past : List LogEntry = before es i in
     let v = c.loop-index.invariant in
-    let says = g.F.Format.says c.args.format.now x in
+    let says = g.F.EntryFormat.says c.args.format.now x in
     let next : before es (i + 1) ≡ e ∷ past = before-next es i e c.entry-entry.ensures (omega arith) in
     record {
       told = (
@@ -58,7 +58,7 @@ loop-index-preserved g c =
       ends = c.put_entry.ensures.ends ∙ v.ends;
       fits = c.put_entry.ensures.fits;
       keeps =
-          let P : List LogEntry → Type 0 = λ l. g.F.Format.keeps c.put_entry.new.self x l in
+          let P : List LogEntry → Type 0 = λ l. g.F.EntryFormat.keeps c.put_entry.new.self x l in
           subst P (sym next) (c.put_entry.ensures.keeps past v.kept v.keeps);
     }
 
@@ -69,7 +69,7 @@ returns-in_err-follow-clause-text g c =
     let i = c.loop-index.index in
     let e = c.entry-entry.result.now in
     let past : List LogEntry = before es i in
-    let says = g.F.Format.says c.args.format.now x in
+    let says = g.F.EntryFormat.says c.args.format.now x in
     let v = c.loop-index.invariant in
     puts-some (each_entry says (e ∷ past) (drop (i + 1) es)) c.from_residual.ensures.0
     (sym (next-put says es i e v.told.0 _ c.entry-entry.ensures (omega arith) v.told.2))
@@ -82,12 +82,12 @@ returns g c =
     let es = c.args.log.now.entries in
     let i = c.loop-index.index in
     let v = c.loop-index.invariant in
-    let says = g.F.Format.says c.args.format.now x in
+    let says = g.F.EntryFormat.says c.args.format.now x in
     let whole : before es i ≡ reverse es = ap reverse (take_all i es (omega arith)) in
     let none : drop i es ≡ [] = drop_all i es (omega arith) in
     record {
       text = puts-all (sym (append-nil v.told.0) ∙ ap (λ (l : List LogEntry). v.told.0 ++ each_entry says (before es i) l) (sym none) ∙ v.told.2) v.told.1;
       track = v.kept ∙ ap (track_of x) whole;
-      keeps = let P : List LogEntry → Type 0 = λ l. g.F.Format.keeps c.loop-index.format x l in subst P whole v.keeps;
+      keeps = let P : List LogEntry → Type 0 = λ l. g.F.EntryFormat.keeps c.loop-index.format x l in subst P whole v.keeps;
       ends = v.ends;
     }

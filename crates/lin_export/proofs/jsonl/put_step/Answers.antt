@@ -3,9 +3,9 @@ use Rattle.std.specs.Prelude.{option_map}
 use Rattle.lin_core.specs.History.{open_slot}
 use Rattle.lin_text.proofs.Growing.{same-growth}
 use Rattle.lin_export.specs.Jsonl.{slot_line}
-use Rattle.lin_export.specs.Open.{slot_in}
+use Rattle.lin_export.specs.Open.{tracked_slot}
 use Rattle.lin_export.specs.Track.{TrackData}
-use Rattle.lin_export.specs.WhereTold.{told}
+use Rattle.lin_export.specs.WhereTold.{given_coding}
 use Rattle.lin_export.proofs.Objects.{finish-object, wake-object}
 use Rattle.lin_export.proofs.Rows.{Shows, shows}
 use Rattle.lin_export.proofs.jsonl.put_step.Goals as goal
@@ -13,13 +13,13 @@ use Rattle.lin_export.proofs.jsonl.put_step.Goals as goal
 pub returns-in-Some : goal.returns-in-Some
 returns-in-Some g c = λ past is count are.
     let x = c.args.cluster.now in
-    let t = slot_in c.in-Some.slot in
-    let o : Shows (open_slot past) t = shows (open_slot past) t (ap (option_map slot_in) (sym c.in-Some.is) ∙ c.slot.ensures ∙ ap (λ (d : TrackData). d.slot) is) in
-    let k = told c.args.coded in
+    let t = tracked_slot c.in-Some.slot in
+    let o : Shows (open_slot past) t = shows (open_slot past) t (ap (option_map tracked_slot) (sym c.in-Some.is) ∙ c.slot.ensures ∙ ap (λ (d : TrackData). d.slot) is) in
+    let k = given_coding c.args.coded in
     same-growth (ap (λ (d : TrackData). slot_line x k d.slots d.time d.hurt count t) is ∙ finish-object x k count past c.args.step.now t o c.in-Finish.is)
     (c.put_slot.ensures count are)
 
 pub returns-in-Wake : goal.returns-in-Wake
 returns-in-Wake g c = λ past is count are.
-    same-growth (wake-object c.args.cluster.now (told c.args.coded) count past c.args.step.now c.time.result (c.time.ensures ∙ ap (λ (d : TrackData). d.time) is) c.in-Wake.is)
+    same-growth (wake-object c.args.cluster.now (given_coding c.args.coded) count past c.args.step.now c.time.result (c.time.ensures ∙ ap (λ (d : TrackData). d.time) is) c.in-Wake.is)
     c.put_object_line.ensures

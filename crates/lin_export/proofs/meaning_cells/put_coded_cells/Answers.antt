@@ -3,11 +3,11 @@ use Rattle.std.specs.Prelude.{Option}
 use Rattle.std.specs.Option.{option_map_or}
 use Rattle.lin_log.proofs.Ends.{grows-last}
 use Rattle.lin_text.proofs.Growing.{grows-more, same-growth}
-use Rattle.lin_values.specs.declared.items.CodingType.{CodingType}
-use Rattle.lin_export.specs.Csv.{comma, meaning_cell}
+use Rattle.lin_values.specs.declared.codings.CodingType.{CodingType}
+use Rattle.lin_export.specs.Csv.{after_comma, meaning_cell}
 use Rattle.lin_export.proofs.meaning_cells.put_coded_cells.Goals as goal
 
 pub returns-in-Some : goal.returns-in-Some
 returns-in-Some g c =
-    same-growth (ap (λ (o : Option CodingType). flat_map comma (option_map_or (λ (t : CodingType). meaning_cell c.args.coded.now c.args.signal c.args.value.now ∷ []) o [])) c.in-Some.ensures)
+    same-growth (ap (λ (o : Option CodingType). flat_map after_comma (option_map_or (λ (t : CodingType). meaning_cell c.args.coded.now c.args.signal c.args.value.now ∷ []) o [])) c.in-Some.ensures)
     (grows-last (grows-more c.put_byte.ensures c.put_meaning_cell.ensures))

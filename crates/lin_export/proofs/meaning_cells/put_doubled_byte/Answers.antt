@@ -2,11 +2,11 @@ use Rattle.std.proofs.Common.{◌≡◌, ◌≢◌, ◌==◌, ◌∷◌, [], ℕ
 use Rattle.std.specs.Prelude.{Bool, true, false}
 use Rattle.std.proofs.lemmas.Bool.Decides.{nat_tests}
 use Rattle.lin_text.proofs.Growing.{grows-more, same-growth}
-use Rattle.lin_export.specs.Csv.{doubled}
+use Rattle.lin_export.specs.Csv.{doubled_quote}
 use Rattle.lin_export.proofs.meaning_cells.put_doubled_byte.Goals as goal
 use Rattle.lin_export.proofs.meaning_cells.put_doubled_byte.Goals.{then-byte-eq34, else-byte-eq34}
 
-quote-doubled : (b : ℕ) → b ≡ 34 → 34 ∷ b ∷ [] ≡ doubled b
+quote-doubled : (b : ℕ) → b ≡ 34 → 34 ∷ b ∷ [] ≡ doubled_quote b
 quote-doubled b e = rw e refl
 
 other-by : (b : ℕ) (t : Bool) → (b == 34) ≡ t → b ≢ 34 → b ∷ [] ≡ (if t then 34 ∷ 34 ∷ [] else b ∷ [])

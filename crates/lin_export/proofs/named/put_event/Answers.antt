@@ -1,5 +1,5 @@
 use Rattle.std.proofs.Common.{ap, ◌∷◌}
-use Rattle.lin_log.specs.Language.{named}
+use Rattle.lin_log.specs.Language.{named_language}
 use Rattle.lin_log.specs.Words.{event_words}
 use Rattle.lin_log.proofs.Ends.{grows-ended}
 use Rattle.lin_text.proofs.Growing.{grows-more, same-growth}
@@ -11,5 +11,5 @@ pub returns : goal.returns
 returns g c =
     let x = c.args.cluster.now in
     let e = c.args.event.now in
-    same-growth (ap (λ l. 62 ∷ l) (ended-both (event_words (named x) e) (slot_names x e)))
+    same-growth (ap (λ l. 62 ∷ l) (ended-both (event_words (named_language x) e) (slot_names x e)))
     (grows-more c.put_byte.ensures (grows-more c.put_event.ensures (grows-ended (slot_names x e) c.put_slot_names.ensures c.put_byte-2.ensures)))

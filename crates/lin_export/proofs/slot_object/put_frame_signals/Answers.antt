@@ -5,8 +5,8 @@ use Rattle.lin_parts.specs.Cluster.{signal_of}
 use Rattle.lin_core.proofs.slots.ClusterFrames.{frame-is}
 use Rattle.lin_core.proofs.slots.Hearing.{no_place}
 use Rattle.lin_text.proofs.Growing.{grows-more, same-growth}
-use Rattle.lin_export.specs.Csv.{comma}
-use Rattle.lin_export.specs.Json.{joined, member}
+use Rattle.lin_export.specs.Csv.{after_comma}
+use Rattle.lin_export.specs.Json.{with_commas, member}
 use Rattle.lin_export.specs.Jsonl.{signal_member, signal_value}
 use Rattle.lin_export.proofs.Objects.{joined-more}
 use Rattle.lin_export.proofs.Places.{all-places, is-read, place-inside, places_of, signal-known}
@@ -36,7 +36,7 @@ loop-place-preserved g c =
     let r = is-read x c.args.frame i answer c.data-data.result c.frame_signals-signals.result.now c.layout-layout.result.now c.unpack-value.result
     f c.frame_signals-signals.ensures c.layout-layout.ensures c.data-data.ensures.each (omega arith) (c.unpack-value.ensures no_place) in
     let pairs : List (ℕ × Place) = places_of x c.args.frame in
-    let before : List ℕ → List ℕ = λ l. joined (map (signal_member x answer) (take i pairs)) ++ ((if i == 0 then [] else comma []) ++ l) in
+    let before : List ℕ → List ℕ = λ l. with_commas (map (signal_member x answer) (take i pairs)) ++ ((if i == 0 then [] else after_comma []) ++ l) in
     same-growth
     (sym (joined-more (signal_member x answer) pairs i (0, no_place) r.inside ∙ ap (λ (p : ℕ × Place). before (signal_member x answer p)) r.at
     ∙ ap (λ (v : Value). before (member (signal_of x (get_or c.frame_signals-signals.result.now i 0)).name (signal_value v))) (sym r.value)))
@@ -47,6 +47,6 @@ returns g c =
     let x = c.args.cluster.now in
     let f = frame-is x c.args.frame c.sound.ensures.rules c.requires in
     same-growth
-    (ap (λ (ps : List (ℕ × Place)). joined (map (signal_member x c.args.answer.now) ps))
+    (ap (λ (ps : List (ℕ × Place)). with_commas (map (signal_member x c.args.answer.now) ps))
     (all-places x c.args.frame c.loop-place.place c.frame_signals-signals.result.now f c.frame_signals-signals.ensures (omega arith)))
     c.loop-place.invariant

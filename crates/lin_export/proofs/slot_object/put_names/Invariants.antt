@@ -1,8 +1,8 @@
 use Rattle.std.proofs.Common.{take, map}
 use Rattle.lin_text.specs.Written.{Grows}
-use Rattle.lin_export.specs.Json.{joined}
+use Rattle.lin_export.specs.Json.{with_commas}
 use Rattle.lin_export.specs.Jsonl.{node_text}
 use Rattle.lin_export.proofs.slot_object.put_names.Given as goal
 
 abbrev pub invariant-loop-place : goal.invariant-loop-place
-invariant-loop-place g l = Grows g.W.Write.contents l.initial.out l.out (joined (map (node_text l.cluster) (take l.place l.which)))
+invariant-loop-place g l = Grows g.W.Write.contents l.initial.out l.out (with_commas (map (node_text l.cluster) (take l.place l.which)))

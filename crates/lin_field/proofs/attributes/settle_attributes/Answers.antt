@@ -3,7 +3,7 @@ use Rattle.std.specs.Prelude.{All}
 use Rattle.std.specs.List.{flat_map}
 use Rattle.std.proofs.Math.Seq.{take-append_seam}
 use Rattle.lin_parts.specs.declared.description.Attributes.{Attributes}
-use Rattle.lin_field.specs.Names.{is_node}
+use Rattle.lin_field.specs.Names.{is_loose_node}
 use Rattle.lin_field.specs.Attributes.{draft_nad_warnings, draft_warnings, drafts, line_warnings, responder_nads, settled_draft}
 use Rattle.lin_field.specs.declared.loose.LooseNodes.{LooseNodes}
 use Rattle.lin_field.proofs.DraftedNodes.{are_drafted_nodes}
@@ -19,14 +19,14 @@ all-lent n xs ys long = ap (λ k. take k (xs ++ ys)) (sym long) ∙ take-append_
 pub responder_nads-requires : goal.responder_nads-requires
 responder_nads-requires c =
     let told = c.args.told.now
-    in subst (λ (n : LooseNodes). All (λ (a : Attributes). is_node n a.node ≡ true) c.as_slice.result.now) (ap (λ t. t.nodes) (sym c.told.view_is))
-    (subst (λ (ds : List Attributes). All (λ (a : Attributes). is_node told.nodes a.node ≡ true) ds)
+    in subst (λ (n : LooseNodes). All (λ (a : Attributes). is_loose_node n a.node ≡ true) c.as_slice.result.now) (ap (λ t. t.nodes) (sym c.told.view_is))
+    (subst (λ (ds : List Attributes). All (λ (a : Attributes). is_loose_node told.nodes a.node ≡ true) ds)
     (sym (c.as_slice.ensures.value ∙ c.in_ok-drafts.ensures.drafts)) (are_drafted_nodes told c.args.attributes))
 
 pub settle_drafts-requires : goal.settle_drafts-requires
 settle_drafts-requires c =
     let told = c.args.told.now
-    in subst (λ (ds : List Attributes). All (λ (a : Attributes). is_node told.nodes a.node ≡ true) ds)
+    in subst (λ (ds : List Attributes). All (λ (a : Attributes). is_loose_node told.nodes a.node ≡ true) ds)
     (sym (c.as_mut_slice.ensures.value ∙ c.in_ok-drafts.ensures.drafts)) (are_drafted_nodes told c.args.attributes)
 
 pub returns-clause-settled : goal.returns-clause-settled

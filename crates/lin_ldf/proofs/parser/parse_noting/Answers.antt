@@ -32,8 +32,8 @@ returns-in-Some c =
       first = λ e is other. inl (faulty_first source c.in-Some.first some e is other);
     }
 
-pub returns-in-None : goal.returns-in-None
-returns-in-None c =
+pub returns : goal.returns
+returns c =
     let source = c.args.source.now in
     let are = all_tokens source (sym c.in-None.ensures) in
     let read = subst (λ (ss : List Symbol). Gives (Err c.in-Err.fault) c.file_noting.new.self (file.read ss)) c.new-parser.ensures c.in-Err.ensures in

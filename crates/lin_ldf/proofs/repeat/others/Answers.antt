@@ -9,7 +9,7 @@ use Rattle.lin_ldf.proofs.repeat.others.Goals as goal
 
 pub returns-in_err-item-clause-read : goal.returns-in_err-item-clause-read
 returns-in_err-item-clause-read g c =
-    let i = g.I.Listed.items in
+    let i = g.I.ItemForm.items in
     let p = err_from_is_err_and c.from_residual.result c.from_residual.ensures.1 in
     let at = sym c.is_at.ensures ∙ c.loop-parser-test.true in
     let read = fails_behind (i.form c.loop-parser.state) c.loop-parser.parser c.skip.new.self c.in_err-item.field-0.0 at c.skip.ensures c.in_err-item.ensures.read in
@@ -17,7 +17,7 @@ returns-in_err-item-clause-read g c =
 
 pub loop-parser-preserved : goal.loop-parser-preserved
 loop-parser-preserved g c =
-    let i = g.I.Listed.items in
+    let i = g.I.ItemForm.items in
     let at = sym c.is_at.ensures ∙ c.loop-parser-test.true in
     let read = gives_behind (i.form c.loop-parser.state) c.loop-parser.parser c.skip.new.self _ at c.skip.ensures c.in_ok-item.ensures.read in
     record {
@@ -27,5 +27,5 @@ loop-parser-preserved g c =
 
 pub returns-clause-read : goal.returns-clause-read
 returns-clause-read g c =
-    let i = g.I.Listed.items in
+    let i = g.I.ItemForm.items in
     rw c.new.ensures (several_is_done no_comma i.next (λ s. (comma &> i.form s).read) (λ s. comma_shrinks (i.form s) (i.shrinks s)) c.loop-parser.state c.loop-parser.items.items c.loop-parser.parser ((others i.next i.form c.args.state.now).read c.args.parser.now) (ap not (sym c.is_at.ensures ∙ c.loop-parser-test.false)) c.loop-parser.invariant.read)

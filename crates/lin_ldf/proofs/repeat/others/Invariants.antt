@@ -5,7 +5,7 @@ use Rattle.lin_ldf.proofs.repeat.others.Given as goal
 
 abbrev pub invariant-loop-parser : goal.invariant-loop-parser
 invariant-loop-parser g l =
-    let i = g.I.Listed.items in
+    let i = g.I.ItemForm.items in
     record {
       read : with_front l.items.items ((others i.next i.form l.state).read l.parser) ≡ (others i.next i.form l.fn.state).read l.fn.parser;
       state : l.state ≡ fold i.next l.fn.state l.items.items;

@@ -1,6 +1,6 @@
 use Rattle.std.proofs.Common.{◌≡◌, ℕ, ◌+◌, ◌-◌, ◌<◌, length, drop, ap, subst, ◌∙◌, arith}
 use Rattle.std.proofs.lemmas.List.{drop-drop}
-use Rattle.lin_ldf.specs.Skimming.{Passes, Skims}
+use Rattle.lin_ldf.specs.Skimming.{SkipsPiece, Skims}
 use Rattle.lin_ldf.specs.declared.lexer.Scanned.{Scanned}
 use Rattle.lin_ldf.proofs.Skimming.{passes_within, skims_more}
 use Rattle.lin_ldf.proofs.skim.skimmed.Goals as goal
@@ -12,7 +12,7 @@ loop-end-preserved c =
     let size = c.in-Some.size in
     let before = length text - length rest in
     let within = passes_within c.args.end c.loop-end.open size c.in-Some.now (length rest) c.front_piece.result c.in-Some.ensures.passes c.front_piece.ensures.within in
-    let passes = subst (λ (s : Scanned). Passes c.args.end c.loop-end.open s size c.in-Some.now) c.front_piece.ensures.value c.in-Some.ensures.passes in
+    let passes = subst (λ (s : Scanned). SkipsPiece c.args.end c.loop-end.open s size c.in-Some.now) c.front_piece.ensures.value c.in-Some.ensures.passes in
     let some : 0 < length rest = omega arith in
     let moved : before + size ≡ length text - length c.split_at.result.1.now = omega (arith, within.1, c.loop-end.invariant.short, c.split_at.ensures.back_len) in
     record {

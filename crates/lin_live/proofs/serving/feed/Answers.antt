@@ -1,6 +1,6 @@
 use Rattle.std.proofs.Common.{[], ◌++◌, take, ap, refl, ◌∙◌, arith}
 use Rattle.std.proofs.lemmas.Result.{err_from_is_err_and}
-use Rattle.lin_live.specs.Begun.{added}
+use Rattle.lin_live.specs.Begun.{with_bytes}
 use Rattle.lin_live.proofs.Adding.{answers-none, fed-all, fed-failed, fed-line, fed-unkept}
 use Rattle.lin_live.proofs.Cuts.{none-found}
 use Rattle.lin_live.proofs.Keeping.{held-added}
@@ -22,7 +22,7 @@ returns-in_err-answer_line g c bytes h clean =
     let p = err_from_is_err_and c.from_residual-in_err-answer_line.result c.from_residual-in_err-answer_line.ensures.1 in
     let fed = c.loop-end.invariant.fed bytes h clean in
     let part = take c.in-Some.end c.loop-end.rest.now in
-    let kept = c.in_ok-add.ensures ∙ ap (λ o. added o part) fed.4 ∙ held-added fed.1 part in
+    let kept = c.in_ok-add.ensures ∙ ap (λ o. with_bytes o part) fed.4 ∙ held-added fed.1 part in
     rw (p.1, p.2) (fed-failed g.S.Answering.reply g.S.Answering.is_full c.in_err-answer_line.field-0.0 (g.S.Answering.state c.args.state.now) (g.S.Answering.state c.loop-end.state) (g.S.Answering.state c.answer_line.new.state) (g.W.Write.contents c.args.writer.now) (g.W.Write.contents c.loop-end.writer) (g.W.Write.contents c.answer_line.new.writer) c.loop-end.begun (bytes ++ c.args.piece.now) c.loop-end.rest.now c.in-Some.end fed c.in-Some.ensures (c.in_err-answer_line.ensures (fed.1 ++ part) kept))
 
 pub loop-end-preserved : goal.loop-end-preserved
@@ -31,7 +31,7 @@ loop-end-preserved g c = record {
   fed = λ bytes h clean.
       let fed = c.loop-end.invariant.fed bytes h clean in
       let part = take c.in-Some.end c.loop-end.rest.now in
-      let kept = c.in_ok-add.ensures ∙ ap (λ o. added o part) fed.4 ∙ held-added fed.1 part in
+      let kept = c.in_ok-add.ensures ∙ ap (λ o. with_bytes o part) fed.4 ∙ held-added fed.1 part in
       rw c.split_at.ensures.back (fed-line g.S.Answering.reply g.S.Answering.is_full (g.S.Answering.state c.args.state.now) (g.S.Answering.state c.loop-end.state) (g.S.Answering.state c.answer_line.new.state) (g.W.Write.contents c.args.writer.now) (g.W.Write.contents c.loop-end.writer) (g.W.Write.contents c.answer_line.new.writer) c.loop-end.begun c.clear.new.self (bytes ++ c.args.piece.now) c.loop-end.rest.now c.in-Some.end c.in_ok-answer_line.field-0 fed c.in-Some.ensures (c.in_ok-answer_line.ensures (fed.1 ++ part) kept) c.clear.ensures);
 }
 

@@ -1,5 +1,5 @@
 use Rattle.std.proofs.Common.{◌≡◌, ◌≤◌, ℕ, List, ◌++◌, length}
-use Rattle.lin_live.specs.Begun.{held}
+use Rattle.lin_live.specs.Begun.{bytes_within_line}
 use Rattle.lin_live.specs.Lines.{HasNoLf}
 use Rattle.lin_live.proofs.Adding.{IsFed}
 use Rattle.lin_live.proofs.serving.feed.Given as goal
@@ -8,7 +8,7 @@ use Rattle.lin_live.proofs.serving.feed.Given as goal
 abbrev pub invariant-loop-end : goal.invariant-loop-end
 invariant-loop-end g l = record {
   few : length l.rest ≤ length l.piece;
-  fed : (bytes : List ℕ) → l.fn.begun ≡ held bytes → HasNoLf bytes
+  fed : (bytes : List ℕ) → l.fn.begun ≡ bytes_within_line bytes → HasNoLf bytes
       → IsFed g.S.Answering.reply (g.S.Answering.state l.fn.state) (g.S.Answering.state l.state) (g.W.Write.contents l.fn.writer) (g.W.Write.contents l.writer) l.begun (bytes ++ l.piece) l.rest;
 }
 

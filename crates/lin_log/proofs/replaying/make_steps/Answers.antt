@@ -2,7 +2,7 @@ use Rattle.std.proofs.Common.{◌≡◌, ◌++◌, ◌∷◌, [], ◌∙◌, ap,
 use Rattle.std.proofs.lemmas.Grind.{common_steps}
 use Rattle.lin_core.specs.declared.port.PortId.{PortId}
 use Rattle.lin_core.specs.declared.step.Step.{Step}
-use Rattle.lin_core.specs.Core.{answered}
+use Rattle.lin_core.specs.Core.{entry_with_reply}
 use Rattle.lin_log.specs.Judged.{with_prefix}
 use Rattle.lin_log.proofs.Judging.{log-more, prefixed-more, prefixed-nothing}
 use Rattle.lin_log.proofs.replaying.make_steps.Goals as goal
@@ -22,7 +22,7 @@ loop-fault-preserved c =
     let step : PortId × Step = (c.in-Ok-Some.by, c.in-Ok-Some.step) in
     let next = rw c.in-Ok-Some.field-0-is at c.in-Ok-Some.ensures.step in
     let a = c.loop-fault.invariant.alike in
-    let made : c.make_step.new.core.log ≡ c.loop-fault.core.log ++ answered c.loop-fault.core c.in-Ok-Some.by c.in-Ok-Some.step ∷ [] = search rules in
+    let made : c.make_step.new.core.log ≡ c.loop-fault.core.log ++ entry_with_reply c.loop-fault.core c.in-Ok-Some.by c.in-Ok-Some.step ∷ [] = search rules in
     record {
       made = record {
         steps = m.steps ++ step ∷ [];

@@ -1,6 +1,6 @@
 use Rattle.std.proofs.Common.{◌≡◌, ◌∙◌, ◌<◌, ◌+◌, ℕ, List, ap, arith, length, get_or, set, sym, take}
 use Rattle.std.specs.Prelude.{Option, None}
-use Rattle.lin_parts.specs.Configured.{changed, entry_with, line_with}
+use Rattle.lin_parts.specs.Configured.{changed_items, entry_with, line_with}
 use Rattle.lin_parts.specs.declared.parts.Entry.{Entry}
 use Rattle.lin_parts.specs.declared.parts.Line.{Line}
 use Rattle.lin_parts.proofs.Configuring.{changed-after, changed-item, changed-none, changed-now}
@@ -10,8 +10,8 @@ use Rattle.lin_parts.proofs.configured.set_requests.Goals as goal
 abbrev line_of : Entry → ℕ → Line
 line_of entry delay = record { entry = entry; delay_us = delay }
 
-next-line : (old : List Line) (rs : List (Option (List ℕ))) (lines now : List Line) (k : ℕ) (d : Line) (entry : Entry) → lines ≡ changed line_with old (take k rs) → now ≡ lines → entry ≡ entry_with (get_or now k d).entry (get_or rs k None) → k < length now → k < length rs
-    → set lines k (line_of entry (get_or now k d).delay_us) ≡ changed line_with old (take (k + 1) rs)
+next-line : (old : List Line) (rs : List (Option (List ℕ))) (lines now : List Line) (k : ℕ) (d : Line) (entry : Entry) → lines ≡ changed_items line_with old (take k rs) → now ≡ lines → entry ≡ entry_with (get_or now k d).entry (get_or rs k None) → k < length now → k < length rs
+    → set lines k (line_of entry (get_or now k d).delay_us) ≡ changed_items line_with old (take (k + 1) rs)
 next-line old rs lines now k d entry are same e here there =
     let item : get_or now k d ≡ get_or old k d = ap (λ (xs : List Line). get_or xs k d) (same ∙ are) ∙ changed-item line_with old rs k d in
     let one : line_of entry (get_or now k d).delay_us ≡ line_with (get_or old k d) (get_or rs k None)

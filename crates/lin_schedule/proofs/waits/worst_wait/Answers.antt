@@ -1,6 +1,6 @@
 use Rattle.std.proofs.Common.{ℕ, List, Option, length, sym, subst}
 use Rattle.lin_parts.specs.Cluster.{table_of}
-use Rattle.lin_schedule.specs.Ahead.{AreTimes}
+use Rattle.lin_schedule.specs.Ahead.{AreTimesAhead}
 use Rattle.lin_schedule.specs.Excursions.{AreExcursions}
 use Rattle.lin_schedule.specs.Rounds.{times_in}
 use Rattle.lin_schedule.specs.Walk.{IsLongestWait}
@@ -29,8 +29,8 @@ returns-in-Some c =
     let each : AreExcursions c.args.cluster.now c.args.awaited.now c.args.count c.as_slice-excursions.result.now =
     subst (λ (xs : List (Option Excursion)). AreExcursions c.args.cluster.now c.args.awaited.now c.args.count xs)
     (sym c.as_slice-excursions.ensures.value) c.in_ok-excursions.ensures.each in
-    let known : AreTimes c.args.cluster.now c.args.table c.args.awaited.now c.args.count (times_in slots c.in-Some.last c.as_slice-times.result.now) =
-    subst (λ (xs : List ℕ). AreTimes c.args.cluster.now c.args.table c.args.awaited.now c.args.count (times_in slots c.in-Some.last xs))
+    let known : AreTimesAhead c.args.cluster.now c.args.table c.args.awaited.now c.args.count (times_in slots c.in-Some.last c.as_slice-times.result.now) =
+    subst (λ (xs : List ℕ). AreTimesAhead c.args.cluster.now c.args.table c.args.awaited.now c.args.count (times_in slots c.in-Some.last xs))
     (sym c.as_slice-times.ensures.value) c.in_ok-times-in-Some.ensures.times in
     subst (λ (worst : ℕ). IsLongestWait c.args.cluster.now c.args.table c.args.awaited.now c.args.count worst)
     (sym (c.longest_wait.ensures c.args.awaited.now each))

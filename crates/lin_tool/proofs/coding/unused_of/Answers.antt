@@ -2,7 +2,7 @@ use Rattle.std.proofs.Common.{Option, IfOk, IsPermutation, option_map, subst, sy
 use Rattle.std.specs.Borrow.{Bor}
 use Rattle.lin_tool.specs.Coding.{unused_told}
 use Rattle.lin_tool.proofs.Warned.{unused_found}
-use Rattle.lin_values.specs.declared.items.Codings.{Codings}
+use Rattle.lin_values.specs.declared.codings.Codings.{Codings}
 use Rattle.lin_tool.proofs.coding.unused_of.Goals as goal
 
 pub returns-in-Some : goal.returns-in-Some

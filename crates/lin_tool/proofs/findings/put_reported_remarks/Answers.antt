@@ -4,7 +4,7 @@ use Rattle.std.specs.Prelude.{if◌then◌else◌}
 use Rattle.lin_text.proofs.Growing.{grows-more, same-growth, texts-next}
 use Rattle.lin_tool.specs.Levels.{is_reported}
 use Rattle.lin_tool.specs.Telling.{remark_line}
-use Rattle.lin_field.specs.declared.checking.Remark.{Remark}
+use Rattle.lin_field.specs.declared.field_check.Remark.{Remark}
 use Rattle.lin_tool.specs.declared.levels.NumberRange.{NumberRange}
 use Rattle.lin_tool.proofs.Leveled.{each_kept}
 use Rattle.lin_tool.proofs.findings.put_reported_remarks.Goals as goal

@@ -1,10 +1,10 @@
 use Rattle.std.proofs.Common.{◌∙◌, ap, drop}
 use Rattle.lin_text.proofs.Growing.{grows-more, same-growth}
-use Rattle.lin_tool.specs.Junit.{escaped_text}
+use Rattle.lin_tool.specs.Junit.{xml_text}
 use Rattle.lin_tool.proofs.junit.put_failure.Goals as goal
 
 pub returns : goal.returns
 returns g c = λ text is.
     grows-more c.put_text.ensures
-    (grows-more (same-growth (ap escaped_text (c.without_space.ensures ∙ ap (drop 1) is)) c.put_escaped.ensures)
+    (grows-more (same-growth (ap xml_text (c.without_space.ensures ∙ ap (drop 1) is)) c.put_escaped.ensures)
     (grows-more c.put_text-2.ensures (grows-more c.put_escaped-2.ensures c.put_text-3.ensures)))

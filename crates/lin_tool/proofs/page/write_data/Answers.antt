@@ -1,9 +1,9 @@
 use Rattle.std.proofs.Common.{refl, flat_map}
-use Rattle.lin_export.specs.WhereTold.{told}
+use Rattle.lin_export.specs.WhereTold.{given_coding}
 use Rattle.lin_log.specs.Words.{text}
 use Rattle.lin_export.proofs.Puttings.{writes-more, written-short}
 use Rattle.lin_tool.specs.Page.{cluster_lines, log_head, unmet_line}
-use Rattle.lin_tool.specs.PageFields.{guarded}
+use Rattle.lin_tool.specs.PageFields.{guarded_text}
 use Rattle.lin_tool.proofs.page.write_data.Goals as goal
 
 pub returns-in_err-write_data_head : goal.returns-in_err-write_data_head
@@ -13,8 +13,8 @@ returns-in_err-write_data_head g c =
     let failed = c.from_residual.ensures.0 in
     written-short (flat_map (unmet_line c.args.script x log) c.args.judgements.now) failed refl
     (written-short (text log) failed refl
-    (written-short (log_head x (told c.args.coded)) failed refl
-    (written-short (guarded (cluster_lines x)) failed refl
+    (written-short (log_head x (given_coding c.args.coded)) failed refl
+    (written-short (guarded_text (cluster_lines x)) failed refl
     (rw c.cluster-cluster.ensures at c.write_data_head.ensures))))
 
 pub returns-in_err-write_cluster : goal.returns-in_err-write_cluster
@@ -25,7 +25,7 @@ returns-in_err-write_cluster g c =
     let s1 = rw c.in_ok-write_data_head.was at (rw c.cluster-cluster.ensures at c.write_data_head.ensures) in
     written-short (flat_map (unmet_line c.args.script x log) c.args.judgements.now) failed refl
     (written-short (text log) failed refl
-    (written-short (log_head x (told c.args.coded)) failed refl
+    (written-short (log_head x (given_coding c.args.coded)) failed refl
     (writes-more s1 (rw c.cluster-cluster.ensures at c.write_cluster.ensures))))
 
 pub returns-in_err-write_log_head : goal.returns-in_err-write_log_head

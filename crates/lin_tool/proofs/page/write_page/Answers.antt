@@ -1,6 +1,6 @@
 use Rattle.std.proofs.Common.{◌++◌, [], List, ℕ, Option, Ok, refl, sym, append-nil}
 use Rattle.lin_export.specs.FirstSlots.{first_slots}
-use Rattle.lin_export.specs.WhereTold.{told}
+use Rattle.lin_export.specs.WhereTold.{given_coding}
 use Rattle.lin_text.specs.Written.{WritesText}
 use Rattle.lin_export.proofs.Puttings.{writes-more, written-short}
 use Rattle.lin_tool.specs.Page.{page_data, summary}
@@ -15,7 +15,7 @@ returns-in_err-write_out g c =
     written-short TAIL.now failed refl
     (written-short (first_slots x log) failed refl
     (written-short (MIDDLE.now ++ summary x log) failed refl
-    (written-short (page_data c.args.script x (told c.args.coded) c.args.file.now log c.args.judgements.now) failed refl
+    (written-short (page_data c.args.script x (given_coding c.args.coded) c.args.file.now log c.args.judgements.now) failed refl
     (rw c.as_bytes.ensures.value at c.write_out.ensures))))
 
 pub returns-in_err-write_data : goal.returns-in_err-write_data

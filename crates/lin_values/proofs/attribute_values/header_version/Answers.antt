@@ -26,7 +26,7 @@ loop-parser-smaller c =
     statement-less c.loop-parser.parser c.pass_statement.new.parser (sym c.has_line.ensures ∙ c.loop-parser-test.true) c.in_ok-pass_statement.ensures
 
 -- that of the first line
-read : (c : goal.After-if_read) → IfOk c.if_read.result (λ v. v ≡ header_version (symbols_in c.args.source.now (start_of c.args.source.now).tokens))
+read : (c : goal.After-drop-parser-inside) → IfOk c.if_read.result (λ v. v ≡ header_version (symbols_in c.args.source.now (start_of c.args.source.now).tokens))
 read c =
     let first = found-first is_version c.loop-parser.parser (find is_version (statements (symbols_in c.args.source.now (start_of c.args.source.now).tokens))) (sym c.has_line.ensures ∙ c.loop-parser-test.true) (sym c.is_at_word.ensures ∙ c.if-is_at_word.true) c.loop-parser.invariant in
     subst (λ (o : Option (List Symbol)). IfOk c.if_read.result (λ v. v ≡ version_in o)) (sym first) (c.if_read.ensures (version_line.read c.loop-parser.parser) c.version_line.new.parser c.version_line.ensures)

@@ -3,7 +3,7 @@ use Rattle.lin_values.proofs.CodedSignals.{gathered, kept-all}
 use Rattle.lin_values.specs.Coded.{named_in}
 use Rattle.lin_values.specs.Gathered.{AreNamed}
 use Rattle.lin_values.specs.Kept.{kept_signal}
-use Rattle.lin_values.specs.declared.items.CodingType.{CodingType}
+use Rattle.lin_values.specs.declared.codings.CodingType.{CodingType}
 use Rattle.lin_values.proofs.coded.coded_signals.Goals as goal
 
 pub returns-clause-signals : goal.returns-clause-signals

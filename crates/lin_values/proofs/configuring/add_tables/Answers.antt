@@ -1,5 +1,5 @@
 use Rattle.std.proofs.Common.{◌∙◌, ◌++◌, flat_map, refl, sym}
-use Rattle.lin_values.specs.Configuring.{table_requests, table_warnings}
+use Rattle.lin_values.specs.Configuring.{table_requests, table_command_warnings}
 use Rattle.lin_values.specs.Statements.{statements}
 use Rattle.lin_values.proofs.StatementSteps.{found-all, found-more, statement-less}
 use Rattle.lin_values.proofs.configuring.add_tables.Goals as goal
@@ -14,7 +14,7 @@ loop-parser-preserved c =
     let ids = c.args.identities.now in
     record {
       tables = found-more (table_requests k ids) c.loop-parser.parser c.pass_statement.new.parser c.loop-parser.tables.items c.add_table.new.tables.items (c.args.tables.now.items ++ flat_map (table_requests k ids) (statements c.args.parser.now)) h c.in_ok-pass_statement.ensures c.in_ok-add_table.ensures.tables c.loop-parser.invariant.tables;
-      warned = found-more (table_warnings k ids) c.loop-parser.parser c.pass_statement.new.parser c.loop-parser.warned.items c.add_table.new.warned.items (c.args.warned.now.items ++ flat_map (table_warnings k ids) (statements c.args.parser.now)) h c.in_ok-pass_statement.ensures c.in_ok-add_table.ensures.warned c.loop-parser.invariant.warned;
+      warned = found-more (table_command_warnings k ids) c.loop-parser.parser c.pass_statement.new.parser c.loop-parser.warned.items c.add_table.new.warned.items (c.args.warned.now.items ++ flat_map (table_command_warnings k ids) (statements c.args.parser.now)) h c.in_ok-pass_statement.ensures c.in_ok-add_table.ensures.warned c.loop-parser.invariant.warned;
     }
 
 pub loop-parser-smaller : goal.loop-parser-smaller
@@ -27,5 +27,5 @@ returns c =
     let ids = c.args.identities.now in
     record {
       tables = found-all (table_requests k ids) c.loop-parser.parser c.loop-parser.tables.items (c.args.tables.now.items ++ flat_map (table_requests k ids) (statements c.args.parser.now)) h c.loop-parser.invariant.tables;
-      warned = found-all (table_warnings k ids) c.loop-parser.parser c.loop-parser.warned.items (c.args.warned.now.items ++ flat_map (table_warnings k ids) (statements c.args.parser.now)) h c.loop-parser.invariant.warned;
+      warned = found-all (table_command_warnings k ids) c.loop-parser.parser c.loop-parser.warned.items (c.args.warned.now.items ++ flat_map (table_command_warnings k ids) (statements c.args.parser.now)) h c.loop-parser.invariant.warned;
     }

@@ -4,7 +4,7 @@ use Rattle.lin_cluster.specs.declared.finding.Finding.{Finding}
 use Rattle.lin_ldf.specs.Stream.{start_of}
 use Rattle.lin_ldf.specs.Symbols.{Symbol, symbols_in}
 use Rattle.lin_parts.specs.Cluster.{node_of}
-use Rattle.lin_parts.specs.Configured.{configured}
+use Rattle.lin_parts.specs.Configured.{with_configuration}
 use Rattle.lin_parts.specs.Rules.{AreIdentities}
 use Rattle.lin_parts.specs.declared.parts.Identity.{Identity}
 use Rattle.lin_parts.specs.declared.parts.Parts.{Parts}
@@ -12,7 +12,7 @@ use Rattle.lin_values.specs.Attributes.{node_attributes}
 use Rattle.lin_values.specs.Configuring.{configured_by, identities_by, identities_in, requests_in, section_requests, section_warnings, warnings_by}
 use Rattle.lin_values.specs.Identities.{identities_of, warnings_unless}
 use Rattle.lin_values.specs.Statements.{statements}
-use Rattle.lin_values.specs.declared.attributes.NodeAttributes.{NodeAttributes}
+use Rattle.lin_values.specs.declared.attribute_blocks.NodeAttributes.{NodeAttributes}
 use Rattle.lin_values.specs.declared.configuring.TableRequests.{TableRequests}
 use Rattle.lin_values.specs.declared.identities.NodeIdentity.{NodeIdentity}
 use Rattle.lin_values.proofs.KnownIdentities.{are-identities, limits-kept, KeepsLimits}
@@ -21,10 +21,10 @@ use Rattle.lin_values.proofs.configuring.configure.Goals as goal
 by-blocks : (k : Parts) (ts : List Symbol) (name : List ℕ) (blocks : List NodeAttributes) (ids : List NodeIdentity) → name ≡ (node_of k 0).name → blocks ≡ node_attributes ts → ids ≡ identities_of name blocks → ids ≡ identities_by k ts
 by-blocks k ts name blocks ids n b e = e ∙ ap (λ x. identities_of x blocks) n ∙ ap (identities_of (node_of k 0).name) b
 
-is-configured : (k result : Parts) (ts : List Symbol) (ids : List NodeIdentity) (tables : List TableRequests) (requests : List (List (Option (List ℕ)))) (identities : List Identity) → ids ≡ identities_by k ts → tables ≡ flat_map (section_requests k ids) (statements ts) → requests ≡ requests_in k tables → identities ≡ identities_in k ids → result ≡ configured k identities requests → result ≡ configured_by k ts
+is-configured : (k result : Parts) (ts : List Symbol) (ids : List NodeIdentity) (tables : List TableRequests) (requests : List (List (Option (List ℕ)))) (identities : List Identity) → ids ≡ identities_by k ts → tables ≡ flat_map (section_requests k ids) (statements ts) → requests ≡ requests_in k tables → identities ≡ identities_in k ids → result ≡ with_configuration k identities requests → result ≡ configured_by k ts
 is-configured k result ts ids tables requests identities i t r j e =
-    e ∙ ap (λ x. configured k x requests) j ∙ ap (configured k (identities_in k ids)) (r ∙ ap (requests_in k) t)
-    ∙ ap (λ x. configured k (identities_in k x) (requests_in k (flat_map (section_requests k x) (statements ts)))) i
+    e ∙ ap (λ x. with_configuration k x requests) j ∙ ap (with_configuration k (identities_in k ids)) (r ∙ ap (requests_in k) t)
+    ∙ ap (λ x. with_configuration k (identities_in k x) (requests_in k (flat_map (section_requests k x) (statements ts)))) i
 
 all-warnings : (k : Parts) (ts : List Symbol) (name : List ℕ) (blocks : List NodeAttributes) (ids : List NodeIdentity) (none first all : List Finding) → name ≡ (node_of k 0).name → blocks ≡ node_attributes ts → ids ≡ identities_by k ts → none ≡ [] → first ≡ none ++ flat_map (warnings_unless name) blocks → all ≡ first ++ flat_map (section_warnings k ids) (statements ts) → all ≡ warnings_by k ts
 all-warnings k ts name blocks ids none first all n b i z f e =

@@ -1,6 +1,6 @@
 use Rattle.std.proofs.Common.{◌∙◌, ◌∷◌, [], ◌++◌, ap, flat_map, map, sym}
 use Rattle.lin_values.specs.Configuring.{entry_request, entry_warnings}
-use Rattle.lin_values.specs.Lines.{lines}
+use Rattle.lin_values.specs.Lines.{token_lines}
 use Rattle.lin_values.proofs.LineSteps.{each-all, each-more, line-less, lines-all, lines-more}
 use Rattle.lin_values.proofs.configuring.entry_requests.Goals as goal
 
@@ -10,8 +10,8 @@ loop-requests-preserved c =
     let k = c.args.cluster.now in
     let ids = c.args.identities.now in
     record {
-      requests = each-more (entry_request k ids) c.loop-requests.parser c.pass_line.new.parser c.loop-requests.requests.items c.push.new.self.items (map (entry_request k ids) (lines c.args.parser.now)) h c.pass_line.ensures (c.in_ok-push.ensures.items ∙ ap (λ x. c.loop-requests.requests.items ++ x ∷ []) c.in_ok-entry_request.ensures.request) c.loop-requests.invariant.requests;
-      warned = lines-more (entry_warnings k ids) c.loop-requests.parser c.pass_line.new.parser c.loop-requests.warned.items c.entry_request.new.warned.items (c.args.warned.now.items ++ flat_map (entry_warnings k ids) (lines c.args.parser.now)) h c.pass_line.ensures c.in_ok-entry_request.ensures.warned c.loop-requests.invariant.warned;
+      requests = each-more (entry_request k ids) c.loop-requests.parser c.pass_line.new.parser c.loop-requests.requests.items c.push.new.self.items (map (entry_request k ids) (token_lines c.args.parser.now)) h c.pass_line.ensures (c.in_ok-push.ensures.items ∙ ap (λ x. c.loop-requests.requests.items ++ x ∷ []) c.in_ok-entry_request.ensures.request) c.loop-requests.invariant.requests;
+      warned = lines-more (entry_warnings k ids) c.loop-requests.parser c.pass_line.new.parser c.loop-requests.warned.items c.entry_request.new.warned.items (c.args.warned.now.items ++ flat_map (entry_warnings k ids) (token_lines c.args.parser.now)) h c.pass_line.ensures c.in_ok-entry_request.ensures.warned c.loop-requests.invariant.warned;
     }
 
 pub loop-requests-smaller : goal.loop-requests-smaller
@@ -23,6 +23,6 @@ returns c =
     let k = c.args.cluster.now in
     let ids = c.args.identities.now in
     record {
-      requests = each-all (entry_request k ids) c.loop-requests.parser c.loop-requests.requests.items (map (entry_request k ids) (lines c.args.parser.now)) h c.loop-requests.invariant.requests;
-      warned = lines-all (entry_warnings k ids) c.loop-requests.parser c.loop-requests.warned.items (c.args.warned.now.items ++ flat_map (entry_warnings k ids) (lines c.args.parser.now)) h c.loop-requests.invariant.warned;
+      requests = each-all (entry_request k ids) c.loop-requests.parser c.loop-requests.requests.items (map (entry_request k ids) (token_lines c.args.parser.now)) h c.loop-requests.invariant.requests;
+      warned = lines-all (entry_warnings k ids) c.loop-requests.parser c.loop-requests.warned.items (c.args.warned.now.items ++ flat_map (entry_warnings k ids) (token_lines c.args.parser.now)) h c.loop-requests.invariant.warned;
     }

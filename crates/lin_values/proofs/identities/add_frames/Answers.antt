@@ -1,6 +1,6 @@
 use Rattle.std.proofs.Common.{◌∙◌, ◌++◌, flat_map, map, refl, sym}
-use Rattle.lin_values.specs.Identities.{configurable_frame, line_warnings}
-use Rattle.lin_values.specs.Lines.{lines}
+use Rattle.lin_values.specs.Identities.{configurable_frame, frame_line_warnings}
+use Rattle.lin_values.specs.Lines.{token_lines}
 use Rattle.lin_values.proofs.LineSteps.{each-all, each-more, line-less, lines-all, lines-more}
 use Rattle.lin_values.proofs.identities.add_frames.Goals as goal
 
@@ -11,8 +11,8 @@ pub loop-parser-preserved : goal.loop-parser-preserved
 loop-parser-preserved c =
     let h = sym c.has_line.ensures ∙ c.loop-parser-test.true in
     record {
-      frames = each-more configurable_frame c.loop-parser.parser c.pass_line.new.parser c.loop-parser.frames.items c.add_frame.new.frames.items (c.args.frames.now.items ++ map configurable_frame (lines c.args.parser.now)) h c.pass_line.ensures c.in_ok-add_frame.ensures.frames c.loop-parser.invariant.frames;
-      warned = lines-more line_warnings c.loop-parser.parser c.pass_line.new.parser c.loop-parser.warned.items c.add_frame.new.warned.items (c.args.warned.now.items ++ flat_map line_warnings (lines c.args.parser.now)) h c.pass_line.ensures c.in_ok-add_frame.ensures.warned c.loop-parser.invariant.warned;
+      frames = each-more configurable_frame c.loop-parser.parser c.pass_line.new.parser c.loop-parser.frames.items c.add_frame.new.frames.items (c.args.frames.now.items ++ map configurable_frame (token_lines c.args.parser.now)) h c.pass_line.ensures c.in_ok-add_frame.ensures.frames c.loop-parser.invariant.frames;
+      warned = lines-more frame_line_warnings c.loop-parser.parser c.pass_line.new.parser c.loop-parser.warned.items c.add_frame.new.warned.items (c.args.warned.now.items ++ flat_map frame_line_warnings (token_lines c.args.parser.now)) h c.pass_line.ensures c.in_ok-add_frame.ensures.warned c.loop-parser.invariant.warned;
     }
 
 pub loop-parser-smaller : goal.loop-parser-smaller
@@ -22,6 +22,6 @@ pub returns : goal.returns
 returns c =
     let h = sym c.has_line.ensures ∙ c.loop-parser-test.false in
     record {
-      frames = each-all configurable_frame c.loop-parser.parser c.loop-parser.frames.items (c.args.frames.now.items ++ map configurable_frame (lines c.args.parser.now)) h c.loop-parser.invariant.frames;
-      warned = lines-all line_warnings c.loop-parser.parser c.loop-parser.warned.items (c.args.warned.now.items ++ flat_map line_warnings (lines c.args.parser.now)) h c.loop-parser.invariant.warned;
+      frames = each-all configurable_frame c.loop-parser.parser c.loop-parser.frames.items (c.args.frames.now.items ++ map configurable_frame (token_lines c.args.parser.now)) h c.loop-parser.invariant.frames;
+      warned = lines-all frame_line_warnings c.loop-parser.parser c.loop-parser.warned.items (c.args.warned.now.items ++ flat_map frame_line_warnings (token_lines c.args.parser.now)) h c.loop-parser.invariant.warned;
     }

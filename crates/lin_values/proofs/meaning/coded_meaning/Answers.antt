@@ -5,7 +5,7 @@ use Rattle.lin_values.specs.Coded.{all_codings, first_coding, second_coding, Sig
 use Rattle.lin_values.specs.Meaning.{coded_meaning, meaning_by, meant, plain_signal}
 use Rattle.lin_values.specs.Meant.{Meant}
 use Rattle.lin_values.specs.declared.encoding.Coding.{Coding}
-use Rattle.lin_values.specs.declared.items.PlacedItem.{PlacedItem}
+use Rattle.lin_values.specs.declared.codings.PlacedItem.{PlacedItem}
 use Rattle.lin_values.specs.declared.meaning.Meaning.{Meaning}
 use Rattle.lin_values.proofs.CodingOrder.{second-means}
 use Rattle.lin_values.proofs.meaning.coded_meaning.Goals as goal

@@ -4,7 +4,7 @@ use Rattle.std.specs.List.{list_any}
 use Rattle.lin_values.specs.Coded.{item_by}
 use Rattle.lin_values.specs.Layers.{in_span, IsBefore, IsSomeSpan}
 use Rattle.lin_values.specs.Raws.{in_option_span, sought_part, sought_raw}
-use Rattle.lin_values.specs.declared.layers.Part.{Part}
+use Rattle.lin_values.specs.declared.layers.RangePart.{RangePart}
 use Rattle.lin_values.specs.declared.layers.Span.{Span}
 use Rattle.lin_values.proofs.SoughtParts.{all-sought, more-ahead, more-apart, more-found, more-some, same-ahead, same-found, AreAhead}
 use Rattle.lin_values.proofs.sought.spans_of.Goals as goal
@@ -15,7 +15,7 @@ loop-part-preserved c =
     let ps = c.parts-part-items.result.now in
     let i = c.loop-part.part-index in
     let xs = c.loop-part.spans.items in
-    let q : ℕ → Part → Bool = λ n p. sought_part c.args.encoding.now.items c.args.signal.bits (option_map (λ t. t.now) c.args.sought.now.text) c.args.sought.now.decimals c.args.sought.now.unit.now p n in
+    let q : ℕ → RangePart → Bool = λ n p. sought_part c.args.encoding.now.items c.args.signal.bits (option_map (λ t. t.now) c.args.sought.now.text) c.args.sought.now.decimals c.args.sought.now.unit.now p n in
     elim c.match-part_span.branch [
       | in-Some+in_ok-push w ↦
           let is : c.match-part_span.spans.items ≡ xs ++ w.in-Some.span ∷ [] = ap (λ v. v.items) w.spans-is ∙ w.in_ok-push.ensures.items in
@@ -38,7 +38,7 @@ loop-part-preserved c =
 pub returns-clause-found : goal.returns-clause-found
 returns-clause-found c = λ n h.
     let ps = c.parts-part-items.result.now in
-    let q : Part → Bool = λ p. sought_part c.args.encoding.now.items c.args.signal.bits (option_map (λ t. t.now) c.args.sought.now.text) c.args.sought.now.decimals c.args.sought.now.unit.now p n in
+    let q : RangePart → Bool = λ p. sought_part c.args.encoding.now.items c.args.signal.bits (option_map (λ t. t.now) c.args.sought.now.text) c.args.sought.now.decimals c.args.sought.now.unit.now p n in
     c.loop-part.invariant.found n h
     ∙ ap (list_any q) (take_all c.loop-part.part-index ps c.loop-part-test.false)
     ∙ all-sought c.args.encoding.now.items c.args.signal.bits (option_map (λ t. t.now) c.args.sought.now.text) c.args.sought.now.decimals c.args.sought.now.unit.now ps n c.parts-part-items.ensures.ordered (c.parts-part-items.ensures.found n h)

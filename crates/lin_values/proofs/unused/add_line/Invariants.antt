@@ -1,7 +1,7 @@
 use Rattle.std.proofs.Common.{◌≡◌, List, ◌++◌, take}
 use Rattle.lin_parts.specs.declared.description.Name.{Name}
 use Rattle.lin_values.specs.Gathered.{names_of, type_number, AreNamed}
-use Rattle.lin_values.specs.declared.items.CodingType.{CodingType}
+use Rattle.lin_values.specs.declared.codings.CodingType.{CodingType}
 use Rattle.lin_values.proofs.unused.add_line.Given as goal
 
 abbrev pub invariant-loop-name : goal.invariant-loop-name

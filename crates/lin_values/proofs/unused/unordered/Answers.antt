@@ -1,7 +1,7 @@
 use Rattle.std.proofs.Common.{◌<◌, length, refl, sym, ap, ◌∙◌, arith}
 use Rattle.lin_cluster.specs.FindingsNames.{at_name}
 use Rattle.lin_cluster.specs.declared.finding.FindingKind.TheVariants.{UnusedEncoding}
-use Rattle.lin_values.specs.declared.items.CodingType.{CodingType}
+use Rattle.lin_values.specs.declared.codings.CodingType.{CodingType}
 use Rattle.lin_values.proofs.UnusedEncodings.{unused-step}
 use Rattle.lin_values.proofs.unused.unordered.Goals as goal
 

@@ -1,6 +1,6 @@
 use Rattle.std.proofs.Common.{◌≡◌, ◌∙◌, false, sym, ap, is_some}
 use Rattle.std.proofs.lemmas.Result.{err_from_is_err_and}
-use Rattle.lin_core.specs.Core.{answered, past_of}
+use Rattle.lin_core.specs.Core.{entry_with_reply, past_of}
 use Rattle.lin_core.specs.History.{done, finished_slot}
 use Rattle.lin_bench.proofs.AddedSteps.{plain-fails, plain-made}
 use Rattle.lin_bench.proofs.HeardLinks.{others-finish-none, refused-finishes-none}
@@ -28,11 +28,11 @@ returns c =
       | else-finishes-via-then-finishes+then-may_add+else-is_done w ↦
           let core = ap (λ a. a.core) w.self-then-finishes.view_is in
           let newest =
-          newest-past c.alone.new.self.core (answered c.args.self.now.core c.args.by c.args.step) w.newest.result.now (past_of c.args.self.now.core) c.in_ok-alone.ensures.added.past
+          newest-past c.alone.new.self.core (entry_with_reply c.args.self.now.core c.args.by c.args.step) w.newest.result.now (past_of c.args.self.now.core) c.in_ok-alone.ensures.added.past
           (rw core at w.newest.ensures) in
-          let refused : is_some (done (answered c.args.self.now.core c.args.by c.args.step)) ≡ false = rw newest at (sym w.is_done.ensures ∙ w.if-is_done.false) in
+          let refused : is_some (done (entry_with_reply c.args.self.now.core c.args.by c.args.step)) ≡ false = rw newest at (sym w.is_done.ensures ∙ w.if-is_done.false) in
           plain-made c.args.self.now c.alone.new.self c.args.by c.args.step c.in_ok-alone.ensures.added c.in_ok-alone.ensures.rules
-          (ap is_some (refused-finishes-none (answered c.args.self.now.core c.args.by c.args.step) (past_of c.args.self.now.core) refused))
+          (ap is_some (refused-finishes-none (entry_with_reply c.args.self.now.core c.args.by c.args.step) (past_of c.args.self.now.core) refused))
       | else-finishes-via-then-finishes+else-may_add w ↦
           unruled-made c.args.self.now c.alone.new.self c.args.by c.args.step c.in_ok-alone.ensures.added c.in_ok-alone.ensures.rules (w.may_add.ensures w.if-may_add.false)
       | else-finishes-via-else-finishes w ↦

@@ -5,7 +5,7 @@ use Rattle.std.specs.Option.{option_map, option_map_or}
 use Rattle.indexmap.specs.IndexSet.{contains}
 use Rattle.lin_cluster.specs.Findings.{in_event_member}
 use Rattle.lin_cluster.specs.FindingsNames.{frame_named, is_any_frame}
-use Rattle.lin_cluster.specs.FindingsNodes.{node_of, is_number}
+use Rattle.lin_cluster.specs.FindingsNodes.{number_of_node, is_node_number}
 use Rattle.lin_cluster.specs.Known.{frame_facts}
 use Rattle.lin_cluster.proofs.FindingsLists.{each_step_at, each_all}
 use Rattle.lin_cluster.proofs.FindingsMaps.{seen_more}
@@ -26,8 +26,8 @@ loop-member-preserved c =
           (member_same d members i member c.first_frame-first.result facts (contains nat_eq c.loop-member.publishers.numbers) (is_any_frame d member)
           c.first_frame-first.ensures refl refl c.loop-member.invariant.publishers));
       publishers = λ q.
-          seen_more (λ m. option_map_or (λ g. is_number q (node_of d g.publisher)) (frame_named d m) false) members i member _ _ _ c.loop-member-test.true
-          (publisher_same d q member facts refl ∙ ap (λ m. option_map_or (λ g. is_number q (node_of d g.publisher)) (frame_named d m) false) c.member-item.is) (c.loop-member.invariant.publishers q) (c.in_ok-add_member.ensures.publishers q);
+          seen_more (λ m. option_map_or (λ g. is_node_number q (number_of_node d g.publisher)) (frame_named d m) false) members i member _ _ _ c.loop-member-test.true
+          (publisher_same d q member facts refl ∙ ap (λ m. option_map_or (λ g. is_node_number q (number_of_node d g.publisher)) (frame_named d m) false) c.member-item.is) (c.loop-member.invariant.publishers q) (c.in_ok-add_member.ensures.publishers q);
     }
 
 pub returns : goal.returns

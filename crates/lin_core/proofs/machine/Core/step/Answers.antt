@@ -1,6 +1,6 @@
 use Rattle.std.proofs.Common.{refl, ◌≡◌, ◌<◌, ◌-◌, ◌^◌, length, List, [], ◌∷◌, ◌++◌, ap, sym, ◌∙◌, subst, arith, length-append}
-use Rattle.lin_core.specs.Core.{answered, past_of, CoreData, IsRefused}
-use Rattle.lin_core.specs.kept.State.{stage_data, IsKept, IsMade, IsReady, Stage, stage}
+use Rattle.lin_core.specs.Core.{entry_with_reply, past_of, CoreData, IsRefused}
+use Rattle.lin_core.specs.kept.State.{stage_data, IsConsistent, IsExecuted, IsStepReady, Stage, stage}
 use Rattle.lin_core.specs.Replies.{refusal}
 use Rattle.lin_core.specs.declared.log.LogEntry.{LogEntry}
 use Rattle.lin_core.specs.declared.port.PortId.{PortId}
@@ -15,7 +15,7 @@ use Rattle.lin_core.proofs.kept.Receiving.{heard-same}
 use Rattle.lin_core.proofs.machine.Core.step.Goals.{After-push, in-Some, in-None+in-Ok}
 use Rattle.lin_core.proofs.machine.Core.step.Goals as goal
 
-refused-kept : (a : Stage) (by : PortId) (step : Step) (r : Refusal) (log : List LogEntry) → IsKept a → length a.log < 2 ^ 32 - 1 → IsRefused (stage_data a) by step r → log ≡ a.log ++ refused_entry by step r ∷ [] → IsKept (record a { log = log })
+refused-kept : (a : Stage) (by : PortId) (step : Step) (r : Refusal) (log : List LogEntry) → IsConsistent a → length a.log < 2 ^ 32 - 1 → IsRefused (stage_data a) by step r → log ≡ a.log ++ refused_entry by step r ∷ [] → IsConsistent (record a { log = log })
 refused-kept a by step r log w small is e =
     let x : LogEntry = refused_entry by step r
     in rw e (record {
@@ -52,8 +52,8 @@ pushed c same = c.push.ensures ∙ ap (λ (log : List LogEntry). log ++ entry c 
 record Stepped (c : After-push) : Type 0 where
   setup : c.match-refusal.self-inside.setup ≡ c.self.inside.setup
   log : c.match-refusal.self-inside.log.entries ≡ (at_step c).log
-  answered_is : entry c ≡ answered (stage_data (at_step c)) c.args.by c.args.step
-  kept : (log : List LogEntry) → log ≡ (at_step c).log ++ entry c ∷ [] → IsKept (record (at_step c) { log = log; state = c.match-refusal.self-inside.state })
+  answered_is : entry c ≡ entry_with_reply (stage_data (at_step c)) c.args.by c.args.step
+  kept : (log : List LogEntry) → log ≡ (at_step c).log ++ entry c ∷ [] → IsConsistent (record (at_step c) { log = log; state = c.match-refusal.self-inside.state })
 
 stepped : (c : After-push) → Stepped c
 stepped c = elim c.match-refusal.branch [
@@ -66,9 +66,9 @@ stepped c = elim c.match-refusal.branch [
         kept = λ log e. rw w.self-inside-is (refused-kept (at_step c) c.args.by c.args.step w.in-Some.refusal log c.self.invariant (small c) is (rw w.reply-is at e));
       }
   | in-None+in-Ok w ↦
-      let ready : IsReady (at_step c) c.args.by c.args.step = record { whole = c.self.invariant; allowed = sym (refusal_is c) ∙ w.in-None.is; few = small c }
-      in let made : IsMade (at_step c) c.args.by c.args.step w.in-Ok.events w.make.new.self
-      = subst (λ (log : List LogEntry). IsMade (record (at_step c) { log = log }) c.args.by c.args.step w.in-Ok.events w.make.new.self) c.make_room.ensures.entries w.in-Ok.ensures.makes
+      let ready : IsStepReady (at_step c) c.args.by c.args.step = record { whole = c.self.invariant; allowed = sym (refusal_is c) ∙ w.in-None.is; few = small c }
+      in let made : IsExecuted (at_step c) c.args.by c.args.step w.in-Ok.events w.make.new.self
+      = subst (λ (log : List LogEntry). IsExecuted (record (at_step c) { log = log }) c.args.by c.args.step w.in-Ok.events w.make.new.self) c.make_room.ensures.entries w.in-Ok.ensures.makes
       in record {
         setup = rw w.self-inside-is refl;
         log = rw w.self-inside-is c.make_room.ensures.entries;
@@ -83,6 +83,6 @@ invariant_of-self-2 c = let s = stepped c in rw s.setup (s.kept c.push.new.self.
 pub returns-clause-stepped : goal.returns-clause-stepped
 returns-clause-stepped c =
     let s = stepped c in (
-      subst (λ (d : CoreData). c.push.new.self.entries ≡ d.log ++ answered d c.args.by c.args.step ∷ []) c.self.view_is (pushed c s.log ∙ ap (λ (e : LogEntry). (at_step c).log ++ e ∷ []) s.answered_is),
+      subst (λ (d : CoreData). c.push.new.self.entries ≡ d.log ++ entry_with_reply d c.args.by c.args.step ∷ []) c.self.view_is (pushed c s.log ∙ ap (λ (e : LogEntry). (at_step c).log ++ e ∷ []) s.answered_is),
       (rw s.setup (ap (λ (d : CoreData). d.cluster) c.self.view_is), rw s.setup (ap (λ (d : CoreData). d.opening) c.self.view_is), rw s.setup (ap (λ (d : CoreData). d.capacity) c.self.view_is)),
     )

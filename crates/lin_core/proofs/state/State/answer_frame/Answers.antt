@@ -4,7 +4,7 @@ use Rattle.std.specs.Option.{option_map_or}
 use Rattle.lin_frame.specs.Frame.{answer_of}
 use Rattle.lin_frame.specs.declared.sums.SumKind.{SumKind}
 use Rattle.lin_parts.specs.Cluster.{line_of}
-use Rattle.lin_core.specs.kept.Slots.{frame_by, frame_model}
+use Rattle.lin_core.specs.kept.Slots.{frame_by, response_model}
 use Rattle.lin_core.specs.History.{open_slot}
 use Rattle.lin_core.specs.Signals.{ArePointwise, signal_bytes, value}
 use Rattle.lin_core.specs.kept.State.{Keeps, Stage, stage}
@@ -75,7 +75,7 @@ entry c = done_entry c.args.by (Answer c.args.node) (events c)
 answer-same : (m m' : SumKind) (h h' : ℕ) (bytes : List ℕ) → m ≡ m' → h ≡ h' → answer_of m h bytes ≡ answer_of m' h' bytes
 answer-same m m' h h' bytes e f = rw (e, f) refl
 
-made : (c : After-one) → c.frame_answer-answer.result ≡ answer_of (frame_model (here c).cluster (line_of (here c).cluster (at c).slot.table (at c).slot.entry).entry c.args.frame) (at c).can.0 (signal_bytes (here c).cluster (past_in (here c)) c.args.frame)
+made : (c : After-one) → c.frame_answer-answer.result ≡ answer_of (response_model (here c).cluster (line_of (here c).cluster (at c).slot.table (at c).slot.entry).entry c.args.frame) (at c).can.0 (signal_bytes (here c).cluster (past_in (here c)) c.args.frame)
 made c =
     let a = here c in
     let s = at c in

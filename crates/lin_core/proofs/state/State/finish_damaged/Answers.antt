@@ -1,5 +1,5 @@
 use Rattle.std.proofs.Common.{refl, ◌≡◌, ◌+◌, [], ◌∷◌, ◌++◌, ap, sym, ◌∙◌, arith}
-use Rattle.lin_core.specs.kept.State.{Keeps, Stage, stage, KeepsLate, Passes}
+use Rattle.lin_core.specs.kept.State.{Keeps, Stage, stage, KeepsLate, ClosesSlot}
 use Rattle.lin_core.specs.kept.Slots.{slot_in, pdu_of}
 use Rattle.lin_core.specs.Replies.{finish_events}
 use Rattle.lin_core.specs.declared.event.Event.TheVariants.{Seen, Lost}
@@ -69,7 +69,7 @@ damaged c = damaged-inside (here c) c.args.by (opened c) c.args.sender c.index_m
 abbrev entry : (c : After-two_events) → LogEntry
 entry c = finish_of (here c) c.args.by
 
-passes : (c : After-two_events) → Passes (here c).cluster (opened c).slot (here c).state c.pass_slot-seen.new.self
+passes : (c : After-two_events) → ClosesSlot (here c).cluster (opened c).slot (here c).state c.pass_slot-seen.new.self
 passes c = c.pass_slot-seen.ensures.passes (opened c).slot (opened c).at
 
 kept : (c : After-two_events) → Keeps (here c).cluster (here c).opening (here c).capacity ((here c).log ++ entry c ∷ []) (entry c ∷ past_in (here c)) c.pass_slot-seen.new.self.slot c.pass_slot-seen.new.self.time c.pass_slot-seen.new.self.walker (slice_set c.pass_slot-seen.new.self.hosts.items c.args.sender c.settle.new.self) c.pass_slot-seen.new.self.signals

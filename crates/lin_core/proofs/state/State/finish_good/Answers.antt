@@ -8,8 +8,8 @@ use Rattle.lin_core.specs.kept.Hosts.{host_after_frame, host_after_settling, is_
 use Rattle.lin_core.specs.kept.Slots.{slot_in, IsCarried}
 use Rattle.lin_core.specs.kept.Receivers.{KeepsHeard}
 use Rattle.lin_core.specs.kept.Bus.{KeepsBus}
-use Rattle.lin_core.specs.Links.{Link, Message, Sending, address, host_of, is_to_all, waiting}
-use Rattle.lin_core.specs.kept.State.{Passes, Stage, stage}
+use Rattle.lin_core.specs.Links.{Link, Message, Sending, link_address, host_of, is_to_all, waiting}
+use Rattle.lin_core.specs.kept.State.{ClosesSlot, Stage, stage}
 use Rattle.lin_core.specs.Replies.{finish_events, receiver_of}
 use Rattle.lin_core.specs.declared.event.Event.TheVariants.{Message as MessageEvent, Seen, Sent}
 use Rattle.lin_core.specs.declared.event.Seen.{Seen as HowSeen}
@@ -142,7 +142,7 @@ own c = let g = good c in settles-host (here c) c.args.by (opened c) c.args.send
 abbrev entry : (c : After-index_mut-host) → LogEntry
 entry c = finish_of (here c) c.args.by
 
-passes : (c : After-index_mut-host) → Passes (here c).cluster (opened c).slot (here c).state c.pass_slot-seen.new.self
+passes : (c : After-index_mut-host) → ClosesSlot (here c).cluster (opened c).slot (here c).state c.pass_slot-seen.new.self
 passes c = passes-as (here c).cluster (opened c).slot (here c).state c.pass_slot-seen.new.self c.hear.new.receivers (c.pass_slot-seen.ensures.passes (opened c).slot (opened c).at)
 
 bus_is : (c : After-index_mut-host) → KeepsBus (here c).cluster (entry c ∷ past_in (here c)) c.pass_slot-seen.new.self.bus
@@ -173,14 +173,14 @@ goes c more = (part c more).goes (finish_events (here c).cluster c.args.by (past
 gone-same : (host other : Host) (n k len size : ℕ) → host ≡ other → n ≡ k → len ≡ size → host_after_frame host n len ≡ host_after_frame other k size
 gone-same host other n k len size p q r = rw (p, q, r) refl
 
-after : (c : After-index_mut-host) → (more : c.is_last-last.result ≡ false) → host_after_frame c.index_mut-host.result.now c.message_at-message.result.address (length c.message_at-message.result.bytes.now) ≡ host_after_frame c.index-host.result.now (address (here c).cluster (goes c more).message.link) (length (goes c more).message.bytes)
+after : (c : After-index_mut-host) → (more : c.is_last-last.result ≡ false) → host_after_frame c.index_mut-host.result.now c.message_at-message.result.address (length c.message_at-message.result.bytes.now) ≡ host_after_frame c.index-host.result.now (link_address (here c).cluster (goes c more).message.link) (length (goes c more).message.bytes)
 after c more =
     let g = good c in
     let both : g.message ∷ g.later ≡ (goes c more).message ∷ (goes c more).later = sym g.first ∙ (goes c more).first in
     let one : g.message ≡ (goes c more).message = cc in
     let link = ap (λ (m : Message). m.link) (lent c) in
-    gone-same c.index_mut-host.result.now c.index-host.result.now c.message_at-message.result.address (address (here c).cluster (goes c more).message.link) (length c.message_at-message.result.bytes.now) (length (goes c more).message.bytes) (same c)
-    (c.message_at-message.ensures.address (inr (rw link (there c))) ∙ ap (address (here c).cluster) link ∙ ap (λ (m : Message). address (here c).cluster m.link) one)
+    gone-same c.index_mut-host.result.now c.index-host.result.now c.message_at-message.result.address (link_address (here c).cluster (goes c more).message.link) (length c.message_at-message.result.bytes.now) (length (goes c more).message.bytes) (same c)
+    (c.message_at-message.ensures.address (inr (rw link (there c))) ∙ ap (link_address (here c).cluster) link ∙ ap (λ (m : Message). link_address (here c).cluster m.link) one)
     (size c ∙ ap (λ (m : Message). length m.bytes) one)
 
 pub go_on-requires-clause-some : goal.go_on-requires-clause-some
@@ -204,7 +204,7 @@ returns c =
     let host = c.index-host.result.now in
     let more = c.if-last-2.false in
     let m = (goes b more).message in
-    let new : Host = host_after_frame host (address a.cluster m.link) (length m.bytes) in
+    let new : Host = host_after_frame host (link_address a.cluster m.link) (length m.bytes) in
     let es = finish_events a.cluster c.args.by (past_in a) in
     let k = known_after a.cluster (past_in a) c.args.by es w.sound o.step.known in
     record {

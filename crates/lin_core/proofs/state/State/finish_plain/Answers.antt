@@ -1,5 +1,5 @@
 use Rattle.std.proofs.Common.{refl, ◌≡◌, [], ◌∷◌, ◌++◌, ap, sym, ◌∙◌}
-use Rattle.lin_core.specs.kept.State.{Keeps, Stage, stage, KeepsLate, Passes}
+use Rattle.lin_core.specs.kept.State.{Keeps, Stage, stage, KeepsLate, ClosesSlot}
 use Rattle.lin_core.specs.kept.Slots.{slot_in, is_still, pdu_of}
 use Rattle.lin_core.specs.Replies.{finish_events}
 use Rattle.lin_core.specs.declared.event.Event.TheVariants.{Seen}
@@ -39,7 +39,7 @@ quiet c =
 abbrev entry : (c : After-one) → LogEntry
 entry c = finish_of (here c) c.args.by
 
-passes : (c : After-one) → Passes (here c).cluster (opened c).slot (here c).state c.pass_slot-seen.new.self
+passes : (c : After-one) → ClosesSlot (here c).cluster (opened c).slot (here c).state c.pass_slot-seen.new.self
 passes c = c.pass_slot-seen.ensures.passes (opened c).slot (opened c).at
 
 kept : (c : After-one) → Keeps (here c).cluster (here c).opening (here c).capacity ((here c).log ++ entry c ∷ []) (entry c ∷ past_in (here c)) c.pass_slot-seen.new.self.slot c.pass_slot-seen.new.self.time c.pass_slot-seen.new.self.walker c.pass_slot-seen.new.self.hosts.items c.pass_slot-seen.new.self.signals

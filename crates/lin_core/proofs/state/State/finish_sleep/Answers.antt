@@ -1,6 +1,6 @@
 use Rattle.std.proofs.Common.{refl, ◌≡◌, List, [], ◌∷◌, ◌++◌, ap, sym, ◌∙◌}
 use Rattle.lin_core.specs.History.{seen_of}
-use Rattle.lin_core.specs.kept.State.{Keeps, Stage, stage, KeepsLate, Passes}
+use Rattle.lin_core.specs.kept.State.{Keeps, Stage, stage, KeepsLate, ClosesSlot}
 use Rattle.lin_core.specs.kept.Slots.{slot_in, pdu_of}
 use Rattle.lin_core.specs.Replies.{finish_events}
 use Rattle.lin_core.specs.declared.event.Event.{Event}
@@ -49,7 +49,7 @@ sleeps c =
 abbrev entry : (c : After-sleep_events) → LogEntry
 entry c = finish_of (here c) c.args.by
 
-passes : (c : After-sleep_events) → Passes (here c).cluster (opened c).slot (here c).state c.pass_slot-seen.new.self
+passes : (c : After-sleep_events) → ClosesSlot (here c).cluster (opened c).slot (here c).state c.pass_slot-seen.new.self
 passes c = c.pass_slot-seen.ensures.passes (opened c).slot (opened c).at
 
 kept : (c : After-sleep_events) → Keeps (here c).cluster (here c).opening (here c).capacity ((here c).log ++ entry c ∷ []) (entry c ∷ past_in (here c)) c.pass_slot-seen.new.self.slot c.pass_slot-seen.new.self.time c.pass_slot-seen.new.self.walker c.sleep_events.new.hosts.items c.pass_slot-seen.new.self.signals

@@ -7,7 +7,7 @@ use Rattle.lin_core.specs.kept.Bus.{KeepsBus}
 use Rattle.lin_core.specs.kept.Hosts.{host_after_settling, told_to_all}
 use Rattle.lin_core.specs.kept.Receivers.{KeepsHeard}
 use Rattle.lin_core.specs.kept.Slots.{slot_in}
-use Rattle.lin_core.specs.kept.State.{Passes, Stage, stage}
+use Rattle.lin_core.specs.kept.State.{ClosesSlot, Stage, stage}
 use Rattle.lin_core.specs.Links.{heard_on}
 use Rattle.lin_core.specs.Replies.{finish_events, link_at}
 use Rattle.lin_core.specs.declared.event.Event.{Event}
@@ -56,7 +56,7 @@ frame-is c = frame-inside (here c) c.args.by (opened c) (to-all c) c.open.result
 abbrev entry : (c : After-index_mut-host) → LogEntry
 entry c = finish_of (here c) c.args.by
 
-passes : (c : After-index_mut-host) → Passes (here c).cluster (opened c).slot (here c).state c.pass_slot-seen.new.self
+passes : (c : After-index_mut-host) → ClosesSlot (here c).cluster (opened c).slot (here c).state c.pass_slot-seen.new.self
 passes c = passes-as (here c).cluster (opened c).slot (here c).state c.pass_slot-seen.new.self c.make_room_in_all.new.receivers (c.pass_slot-seen.ensures.passes (opened c).slot (opened c).at)
 
 bus_is : (c : After-index_mut-host) → KeepsBus (here c).cluster (entry c ∷ past_in (here c)) c.pass_slot-seen.new.self.bus

@@ -1,7 +1,7 @@
 use Rattle.std.proofs.Common.{flat_map, take}
 use Rattle.lin_text.specs.Written.{Grows}
 use Rattle.lin_export.specs.ListedSignals.{item_line}
-use Rattle.lin_values.specs.declared.items.PlacedItem.{PlacedItem}
+use Rattle.lin_values.specs.declared.codings.PlacedItem.{PlacedItem}
 use Rattle.lin_export.proofs.listing.signals.put_all_items.Given as goal
 
 abbrev pub invariant-loop-one : goal.invariant-loop-one

@@ -1,6 +1,6 @@
 use Rattle.std.proofs.Common.{List, ℕ, sym, ap, arith}
 use Rattle.lin_text.proofs.Growing.{grows-more, same-growth}
-use Rattle.lin_values.specs.declared.items.CodingType.{CodingType}
+use Rattle.lin_values.specs.declared.codings.CodingType.{CodingType}
 use Rattle.lin_export.specs.ClusterObject.{encoding_object}
 use Rattle.lin_export.proofs.Objects.{joined-more}
 use Rattle.lin_export.proofs.object.encodings.put_all_encodings.Goals as goal

@@ -1,6 +1,6 @@
 use Rattle.std.proofs.Common.{List, ℕ, sym, arith}
 use Rattle.lin_text.proofs.Growing.{grows-more, same-growth}
-use Rattle.lin_values.specs.declared.items.PlacedItem.{PlacedItem}
+use Rattle.lin_values.specs.declared.codings.PlacedItem.{PlacedItem}
 use Rattle.lin_export.specs.ClusterObject.{item_object}
 use Rattle.lin_export.proofs.Objects.{joined-more}
 use Rattle.lin_export.proofs.object.encodings.put_all_items.Goals as goal

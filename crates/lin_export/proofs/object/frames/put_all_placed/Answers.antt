@@ -4,9 +4,9 @@ use Rattle.lin_frame.specs.declared.layout.Place.{Place}
 use Rattle.lin_parts.specs.Cluster.{frame_of}
 use Rattle.lin_core.proofs.slots.ClusterFrames.{FrameIs, frame-is}
 use Rattle.lin_text.proofs.Growing.{grows-more, same-growth}
-use Rattle.lin_export.specs.ClusterObject.{numbered, placed_object}
-use Rattle.lin_export.specs.Csv.{comma}
-use Rattle.lin_export.specs.Json.{joined}
+use Rattle.lin_export.specs.ClusterObject.{numbered_values, placed_object}
+use Rattle.lin_export.specs.Csv.{after_comma}
+use Rattle.lin_export.specs.Json.{with_commas}
 use Rattle.lin_export.specs.ListedFrames.{places}
 use Rattle.lin_export.proofs.Lines.{zip-at, zip-long}
 use Rattle.lin_export.proofs.ListedLines.{no_place}
@@ -41,7 +41,7 @@ loop-index-preserved g c =
     let count = zip-long signals spots f.same in
     let at : get_or all i (0, no_place) ≡ (get_or signals i 0, get_or spots i no_place) = zip-at signals spots i 0 no_place below inside in
     same-growth
-    (ap (λ (p : ℕ × Place). joined (numbered says 0 (take i all)) ++ ((if i == 0 then [] else comma []) ++ says i p)) (sym at)
+    (ap (λ (p : ℕ × Place). with_commas (numbered_values says 0 (take i all)) ++ ((if i == 0 then [] else after_comma []) ++ says i p)) (sym at)
     ∙ sym (joined-numbered says all i (0, no_place) (omega arith)))
     (grows-more c.loop-index.invariant
     (grows-more c.put_separator.ensures (rw (c.frame_signals-signals.ensures, c.as_slice-places.ensures, c.layout.ensures) at c.put_placed.ensures)))
@@ -53,5 +53,5 @@ returns g c =
     let long : length (frame_of x c.args.frame).signals ≡ length c.frame_signals-signals.result.now = ap length (sym c.frame_signals-signals.ensures) in
     let count = zip-long (frame_of x c.args.frame).signals (frame_of x c.args.frame).layout.places f.same in
     same-growth
-    (ap (λ ps. joined (numbered (placed_object x c.args.description.now c.args.frame) 0 ps)) (take_all c.loop-index.index (places (frame_of x c.args.frame)) (omega arith)))
+    (ap (λ ps. with_commas (numbered_values (placed_object x c.args.description.now c.args.frame) 0 ps)) (take_all c.loop-index.index (places (frame_of x c.args.frame)) (omega arith)))
     c.loop-index.invariant

@@ -2,7 +2,7 @@ use Rattle.std.proofs.Common.{◌%◌, ◌∷◌, [], codes}
 use Rattle.std.specs.Prelude.{option_map, slice_get}
 use Rattle.lin_parts.specs.Cluster.{event_name, event_of, named_table}
 use Rattle.lin_export.specs.ClusterObject.{count_member, frames_member, name_member, place_member}
-use Rattle.lin_export.specs.Json.{member, quoted}
+use Rattle.lin_export.specs.Json.{member, quoted_text}
 use Rattle.lin_export.specs.Jsonl.{number_member}
 use Rattle.lin_export.proofs.Objects.{grows-values, puts-all, puts-more, puts-one}
 use Rattle.lin_export.proofs.object.frames.put_event.Goals as goal
@@ -14,7 +14,7 @@ returns g c =
     let event = event_of x e in
     let first =
     name_member (event_name x e) ∷ count_member (codes "id") (event.pid % 64) ∷ count_member (codes "pid") event.pid
-    ∷ member (codes "table") (quoted (named_table x event.table).name) ∷ [] in
+    ∷ member (codes "table") (quoted_text (named_table x event.table).name) ∷ [] in
     grows-values (number_member e) (rw c.from.ensures at c.put_numbered_first.ensures)
     (puts-more
     (puts-all first (rw (c.event_name.ensures, c.from-2.ensures, c.from-3.ensures, c.event_pid-pid.ensures, c.table_name.ensures, c.event_table.ensures) at c.put_members.ensures))

@@ -1,8 +1,8 @@
 use Rattle.std.proofs.Common.{take, map}
 use Rattle.lin_text.specs.Written.{Grows}
-use Rattle.lin_export.specs.Json.{quoted}
-use Rattle.lin_export.specs.Json.{joined}
+use Rattle.lin_export.specs.Json.{quoted_text}
+use Rattle.lin_export.specs.Json.{with_commas}
 use Rattle.lin_export.proofs.object.signals.put_names.Given as goal
 
 abbrev pub invariant-loop-place : goal.invariant-loop-place
-invariant-loop-place g l = Grows g.W.Write.contents l.initial.out l.out (joined (map (λ n. quoted n.text) (take l.place l.names)))
+invariant-loop-place g l = Grows g.W.Write.contents l.initial.out l.out (with_commas (map (λ n. quoted_text n.text) (take l.place l.names)))

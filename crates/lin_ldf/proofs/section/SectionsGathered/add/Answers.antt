@@ -1,6 +1,6 @@
 use Rattle.std.proofs.Common.{◌∙◌, sym, fold}
 use Rattle.lin_ldf.specs.Words.{once}
-use Rattle.lin_ldf.specs.Grammar.{signals, frames, with_frame, sporadic, with_sporadic, event, with_event, attributes, with_block, tables}
+use Rattle.lin_ldf.specs.Grammar.{signals, frames_section, with_frame, sporadic, with_sporadic, event, with_event, attributes, with_block, tables}
 use Rattle.lin_ldf.proofs.Found.{found_alone, found_with}
 use Rattle.lin_ldf.proofs.section.SectionsGathered.add.Goals as goal
 
@@ -14,7 +14,7 @@ pub returns-in-Frames : goal.returns-in-Frames
 returns-in-Frames c =
     let s = c.args.self.now in
     let call = c.used_section-in-Frames in
-    rw (sym c.section_word.ensures ∙ c.in-Frames.is) (found_with call.result call.new.found call.new.state call.new.parser c.args.parser.now (once s.frames (frames s.frame_names)) (fold with_frame s.frame_names) (λ o n. record s { frames = o; frame_names = n }) call.ensures.state call.ensures.read)
+    rw (sym c.section_word.ensures ∙ c.in-Frames.is) (found_with call.result call.new.found call.new.state call.new.parser c.args.parser.now (once s.frames (frames_section s.frame_names)) (fold with_frame s.frame_names) (λ o n. record s { frames = o; frame_names = n }) call.ensures.state call.ensures.read)
 
 pub returns-in-Sporadic : goal.returns-in-Sporadic
 returns-in-Sporadic c =

@@ -1,5 +1,5 @@
 use Rattle.std.proofs.Common.{refl}
-use Rattle.lin_export.specs.ListedFrames.{frames}
+use Rattle.lin_export.specs.ListedFrames.{frame_listing}
 use Rattle.lin_export.specs.ListedSlots.{slots}
 use Rattle.lin_export.proofs.Puttings.{writes-more, written-short}
 use Rattle.lin_tool.proofs.page.data.write_lines.Goals as goal
@@ -8,7 +8,7 @@ pub returns-in_err-write_list : goal.returns-in_err-write_list
 returns-in_err-write_list g c =
     let x = c.args.cluster.now in
     let failed = c.from_residual.ensures.0 in
-    written-short (slots x) failed refl (written-short (frames x) failed refl c.write_list.ensures)
+    written-short (slots x) failed refl (written-short (frame_listing x) failed refl c.write_list.ensures)
 
 pub returns-in_err-write_frames : goal.returns-in_err-write_frames
 returns-in_err-write_frames g c =

@@ -1,6 +1,6 @@
 use Rattle.std.proofs.Common.{arith}
 use Rattle.lin_text.proofs.Growing.{grows-next, grows-nothing}
-use Rattle.lin_values.specs.declared.items.PlacedItem.{PlacedItem}
+use Rattle.lin_values.specs.declared.codings.PlacedItem.{PlacedItem}
 use Rattle.lin_tool.specs.PageMeanings.{logical_line}
 use Rattle.lin_tool.proofs.page.meanings.put_logicals.Goals as goal
 

@@ -1,6 +1,6 @@
 use Rattle.std.proofs.Common.{flat_map, take}
 use Rattle.lin_text.specs.Written.{Grows}
-use Rattle.lin_values.specs.declared.items.PlacedItem.{PlacedItem}
+use Rattle.lin_values.specs.declared.codings.PlacedItem.{PlacedItem}
 use Rattle.lin_tool.specs.PageMeanings.{logical_line}
 use Rattle.lin_tool.proofs.page.meanings.put_logicals.Given as goal
 

@@ -4,16 +4,16 @@ use Rattle.std.proofs.Common.{◌≡◌, ◌∙◌, subst}
 use Rattle.std.specs.Prelude.{ℤ, option_and_then}
 use Rattle.std.specs.Option.{option_map}
 use Rattle.lin_values.specs.Nearest.{distance_above, distance_below, near_of, signal_decimal, IsLeast}
-use Rattle.lin_values.specs.Value.{value}
+use Rattle.lin_values.specs.Value.{scaled_value}
 use Rattle.lin_values.proofs.NextTo.{above-is, below-is, kept, kept-small, readable-small}
 use Rattle.lin_values.proofs.coded.Coded.neighbours.Goals as goal
 
 pub next_to-found-requires : goal.next_to-found-requires
-next_to-found-requires c = kept-small c.units.result (value c.args.number) c.units.ensures (readable-small c.args.number c.requires)
+next_to-found-requires c = kept-small c.units.result (scaled_value c.args.number) c.units.ensures (readable-small c.args.number c.requires)
 
 pub returns-clause-below : goal.returns-clause-below
 returns-clause-below c =
-    let x = value c.args.number in
+    let x = scaled_value c.args.number in
     let e : to_z w128 (of_z w128 c.units.result) ≡ x = kept c.units.result x c.units.ensures (readable-small c.args.number c.requires) in
     let f = c.next_to-found.result in
     c.below.ensures ∙ below-is c.args.self.now c.args.signal x c.args.unit.now (option_map near_of f.below)
@@ -21,7 +21,7 @@ returns-clause-below c =
 
 pub returns-clause-above : goal.returns-clause-above
 returns-clause-above c =
-    let x = value c.args.number in
+    let x = scaled_value c.args.number in
     let e : to_z w128 (of_z w128 c.units.result) ≡ x = kept c.units.result x c.units.ensures (readable-small c.args.number c.requires) in
     let f = c.next_to-found.result in
     c.above.ensures ∙ above-is c.args.self.now c.args.signal x c.args.unit.now (option_map near_of f.above)

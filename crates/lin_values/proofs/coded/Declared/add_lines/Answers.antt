@@ -4,7 +4,7 @@ use Rattle.lin_parts.specs.declared.description.Name.{Name}
 use Rattle.lin_values.proofs.NamedLines.{line-step, names-more}
 use Rattle.lin_values.specs.Coded.{named_in}
 use Rattle.lin_values.specs.Gathered.{AreNamed}
-use Rattle.lin_values.specs.declared.items.CodedLine.{CodedLine}
+use Rattle.lin_values.specs.declared.codings.CodedLine.{CodedLine}
 use Rattle.lin_values.proofs.coded.Declared.add_lines.Goals as goal
 
 pub loop-line-preserved : goal.loop-line-preserved

@@ -3,7 +3,7 @@ use Rattle.std.specs.Prelude.{nat_lt}
 use Rattle.lin_cluster.specs.FindingsNames.{when}
 use Rattle.lin_values.proofs.NamedLines.{twice-step}
 use Rattle.lin_values.specs.Gathered.{DeclaredData}
-use Rattle.lin_values.specs.declared.items.CodingType.{CodingType}
+use Rattle.lin_values.specs.declared.codings.CodingType.{CodingType}
 use Rattle.lin_values.proofs.coded.Declared.add_twice.Goals as goal
 
 pub loop-number-preserved : goal.loop-number-preserved

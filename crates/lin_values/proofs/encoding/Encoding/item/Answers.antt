@@ -1,5 +1,5 @@
 use Rattle.std.proofs.Common.{ap, ◌∙◌}
-use Rattle.lin_values.specs.declared.items.CodingType.{CodingType}
+use Rattle.lin_values.specs.declared.codings.CodingType.{CodingType}
 use Rattle.lin_values.proofs.EncodedItems.{item-read}
 use Rattle.lin_values.proofs.encoding.Encoding.item.Goals as goal
 

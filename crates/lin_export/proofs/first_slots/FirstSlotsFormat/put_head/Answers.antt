@@ -1,5 +1,0 @@
-use Rattle.lin_text.proofs.Growing.{grows-more}
-use Rattle.lin_export.proofs.first_slots.FirstSlotsFormat.put_head.Goals as goal
-
-pub returns : goal.returns
-returns g c = grows-more c.put.ensures c.put-2.ensures

@@ -1,8 +1,0 @@
-use Rattle.std.proofs.Common.{sym, arith}
-use Rattle.std.specs.Fmt.{decimal}
-use Rattle.lin_text.proofs.Growing.{same-growth}
-use Rattle.lin_export.proofs.PlainTexts.{escaped-plain, decimal-plain}
-use Rattle.lin_export.proofs.meanings.put_number.Goals as goal
-
-pub returns : goal.returns
-returns g c = same-growth (sym (escaped-plain (decimal c.args.number) (decimal-plain c.args.number (omega arith)))) c.put_number.ensures

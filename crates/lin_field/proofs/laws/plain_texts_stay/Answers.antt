@@ -1,5 +1,0 @@
-use Rattle.lin_field.proofs.PlainTexts.{plain-stays}
-use Rattle.lin_field.proofs.laws.plain_texts_stay.Goals as goal
-
-pub returns : goal.returns
-returns c = plain-stays

@@ -1,0 +1,6 @@
+use Rattle.lin_text.proofs.Growing.{grows-more}
+use Rattle.lin_field.proofs.plain.declaration_lines.put_frame.Goals as goal
+
+pub returns : goal.returns
+returns g c =
+    grows-more (rw c.as_slice.ensures at c.put_between.ensures) (grows-more c.put_number.ensures (grows-more (rw c.as_slice-2.ensures at c.put.ensures) (grows-more c.put_text.ensures (grows-more c.put_number-2.ensures (grows-more (rw c.as_slice-3.ensures at c.put_all_placed.ensures) c.put_text-2.ensures)))))

@@ -1,0 +1,256 @@
+//! The answers to lines.
+
+ghost use Rattle.std.specs.Prelude.{◌≡◌, ◌++◌, ◌≤◌, IfOk, IfSome, codes, drop, flat_map, length};
+ghost use Rattle.std.specs.Prelude.{reverse, take};
+ghost use Rattle.lin_export.specs.Named.{named_entries};
+ghost use Rattle.lin_export.specs.Track.{track_of};
+ghost use Rattle.lin_export.specs.WhereTold.{given_coding};
+ghost use Rattle.lin_log.specs.Words.{spaced_word, text};
+ghost use Rattle.lin_text.specs.Written.{Grows, WritesText};
+ghost use Rattle.lin_live.specs.Told.{hash_line, idle_text, question_reason_text};
+ghost use Rattle.lin_live.specs.Told.{slot_text, steps_ending, value_shown, verdict_ending};
+
+use crate::answer_value::AnswerValue;
+use crate::reason::Reason;
+use lin_bench::{Pending, Verdict, first_refusal, put_pending, put_reason, put_texts, put_verdict};
+use lin_core::{Core, Event, Listed, Log, Refusal};
+use lin_export::{Track, named_text, put_slot_names};
+use lin_log::{put_entries, put_number, put_table, put_value, put_word};
+use lin_parts::Cluster;
+use lin_text::{TextBuffer, TextWriter, WriteFailed};
+use lin_values::Coded;
+use std::alloc::{AllocError, Global};
+use std::io::Write;
+
+/// A last line that is always the same.
+fn put_ending<W: Write>(out: &mut TextWriter<'_, W>, words: &str)
+    ensures { Grows W.contents out.old out.new (hash_line words.now) }
+{
+    out.put_text("# ");
+    out.put_text(words);
+    out.put_byte(b'\n');
+}
+
+/// Writes that nothing was refused.
+pub(crate) fn write_ok<W: Write>(writer: &mut W, buffer: &mut TextBuffer) -> Result<(), WriteFailed>
+    ensures { WritesText (W.contents writer.old) (W.contents writer.new) result
+        (hash_line (codes "ok")) }
+{
+    let mut out = TextWriter::new(writer, buffer);
+    put_ending(&mut out, "ok");
+    out.finish()
+}
+
+/// Why a line is bad.
+fn put_why<W: Write>(out: &mut TextWriter<'_, W>, reason: &Reason)
+    ensures { Grows W.contents out.old out.new (question_reason_text reason.now) }
+{
+    match reason {
+        Reason::Script(reason) => put_reason(out, reason),
+        Reason::AskForm => out.put_text("missing question after ?"),
+        Reason::UnknownQuestion(fields) => {
+            out.put_text("unknown question ");
+            put_texts(out, " ", fields.as_slice());
+        }
+        Reason::NoNode => out.put_text("no such node"),
+        Reason::NoNodeOrSignal => out.put_text("no such node or signal"),
+        Reason::TooLong => out.put_text("the line has more than 16,777,216 bytes"),
+    }
+}
+
+/// Writes that a line is bad, and why.
+pub(crate) fn write_bad<W: Write>(
+    writer: &mut W,
+    buffer: &mut TextBuffer,
+    reason: &Reason,
+) -> Result<(), WriteFailed>
+    ensures { WritesText (W.contents writer.old) (W.contents writer.new) result
+        (hash_line (codes "bad line: " ++ question_reason_text reason.now)) }
+{
+    let mut out = TextWriter::new(writer, buffer);
+    out.put_text("# ");
+    out.put_text("bad line: ");
+    put_why(&mut out, reason);
+    out.put_byte(b'\n');
+    out.finish()
+}
+
+/// What waits, and what is noted.
+fn put_idle<W: Write>(out: &mut TextWriter<'_, W>, cluster: &Cluster, pending: &[Pending])
+    ensures { Grows W.contents out.old out.new (idle_text cluster.now pending.now) }
+{
+    if pending.is_empty() {
+        out.put_text("idle");
+    } else {
+        put_pending(out, cluster, pending);
+    }
+}
+
+/// The table, the entry and the frame of a slot.
+fn put_slot<W: Write>(
+    out: &mut TextWriter<'_, W>,
+    cluster: &Cluster,
+    table: u16,
+    entry: u16,
+    header: Option<u8>,
+)
+    ensures { Grows W.contents out.old out.new
+        (spaced_word (slot_text cluster.now (table, entry) header)) }
+{
+    put_table(out, cluster, table);
+    put_number(out, entry);
+    let slot = Event::Slot {
+        table,
+        entry,
+        header,
+    };
+    put_slot_names(out, cluster, &slot);
+}
+
+/// What is said to a question, with a space before it.
+fn put_answer<W: Write>(out: &mut TextWriter<'_, W>, cluster: &Cluster, value: &AnswerValue)
+    ensures { Grows W.contents out.old out.new
+        (spaced_word (value_shown cluster.now value.now)) }
+{
+    match value {
+        AnswerValue::Signal(value) => put_value(out, value),
+        AnswerValue::Meant(value, text) => {
+            put_value(out, value);
+            out.put_byte(b' ');
+            out.put(text.as_slice());
+        }
+        AnswerValue::Number(number) => put_number(out, *number),
+        AnswerValue::Pending(pending) => {
+            out.put_byte(b' ');
+            put_idle(out, cluster, pending.as_slice());
+        }
+        AnswerValue::Asleep(true) => out.put_text(" asleep"),
+        AnswerValue::Asleep(false) => out.put_text(" awake"),
+        AnswerValue::Open => out.put_text(" open"),
+        AnswerValue::Slot {
+            table,
+            entry,
+            header,
+        } => put_slot(out, cluster, *table, *entry, *header),
+    }
+}
+
+/// Writes what is said to a question.
+pub(crate) fn write_value<W: Write>(
+    writer: &mut W,
+    buffer: &mut TextBuffer,
+    cluster: &Cluster,
+    value: &AnswerValue,
+) -> Result<(), WriteFailed>
+    ensures { WritesText (W.contents writer.old) (W.contents writer.new) result
+        (hash_line (codes "is " ++ value_shown cluster.now value.now)) }
+{
+    let mut out = TextWriter::new(writer, buffer);
+    out.put_text("# is");
+    put_answer(&mut out, cluster, value);
+    out.put_byte(b'\n');
+    out.finish()
+}
+
+/// That the steps of a line were done, or the first that was refused.
+fn put_steps_ending<W: Write>(out: &mut TextWriter<'_, W>, refusal: Option<Refusal>)
+    ensures { Grows W.contents out.old out.new (steps_ending refusal) }
+{
+    match refusal {
+        None => put_ending(out, "ok"),
+        Some(refusal) => {
+            out.put_text("# refused");
+            put_number(out, refusal.number());
+            put_word(out, refusal.word());
+            out.put_byte(b'\n');
+        }
+    }
+}
+
+/// What a line came to, whose entries are those of the log from one on.
+fn put_verdict_ending<W: Write>(
+    out: &mut TextWriter<'_, W>,
+    core: &Core,
+    from: usize,
+    verdict: &Verdict,
+)
+    ensures { Grows W.contents out.old out.new
+        (verdict_ending core.now.cluster verdict.now (drop from core.now.log)) }
+{
+    match verdict {
+        Verdict::SlotLimit => put_ending(out, "slot limit"),
+        Verdict::Unmet(expected, got) => {
+            out.put_byte(b'#');
+            put_verdict(out, core.cluster(), expected, got);
+        }
+        Verdict::Nothing | Verdict::Met(_) => {
+            put_steps_ending(out, first_refusal(core.log(), from));
+        }
+    }
+}
+
+/// Writes the entries of a line by numbers, which are those of the log from one on, and what it came
+/// to.
+pub(crate) fn write_line<W: Write>(
+    writer: &mut W,
+    buffer: &mut TextBuffer,
+    core: &Core,
+    from: usize,
+    verdict: &Verdict,
+) -> Result<(), WriteFailed>
+    ensures { WritesText (W.contents writer.old) (W.contents writer.new) result
+        (text (drop from core.now.log)
+        ++ verdict_ending core.now.cluster verdict.now (drop from core.now.log)) }
+{
+    let mut out = TextWriter::new(writer, buffer);
+    put_entries(&mut out, core.log(), from);
+    put_verdict_ending(&mut out, core, from, verdict);
+    out.finish()
+}
+
+/// The text of the entries of a log from one on with names, and what is kept of all entries then.
+/// What is kept of those before is made, where it isn't at hand. The error is that it is out of
+/// memory.
+pub(crate) fn with_names(
+    alloc: Global,
+    core: &Core,
+    coded: Option<&Coded>,
+    track: Option<Track>,
+    from: usize,
+) -> Result<(Vec<u8>, Track), AllocError>
+    requires there { from ≤ length core.now.log }
+    requires track { IfSome track (λ track.
+        track ≡ track_of core.now.cluster (reverse (take from core.now.log))) }
+    ensures text { IfOk result (λ made. made.0.items
+        ≡ named_entries core.now.cluster (given_coding coded.entry)
+        (reverse (take from core.now.log)) (drop from core.now.log)) }
+    ensures track { IfOk result (λ made.
+        made.1 ≡ track_of core.now.cluster (reverse core.now.log)) }
+{
+    let mut track = match track {
+        Some(track) => track,
+        None => Track::up_to(alloc, core.cluster(), core.log(), from)?,
+    };
+    let text = named_text(alloc, &mut track, core.cluster(), coded, core.log(), from)?;
+    Ok((text, track))
+}
+
+/// Writes a text of the entries of a line, which are those of the log from one on, and what it came
+/// to.
+pub(crate) fn write_told_line<W: Write>(
+    writer: &mut W,
+    buffer: &mut TextBuffer,
+    core: &Core,
+    from: usize,
+    told: &[u8],
+    verdict: &Verdict,
+) -> Result<(), WriteFailed>
+    ensures { WritesText (W.contents writer.old) (W.contents writer.new) result
+        (told.now
+        ++ verdict_ending core.now.cluster verdict.now (drop from core.now.log)) }
+{
+    let mut out = TextWriter::new(writer, buffer);
+    out.put(told);
+    put_verdict_ending(&mut out, core, from, verdict);
+    out.finish()
+}
