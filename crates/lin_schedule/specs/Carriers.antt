@@ -51,18 +51,22 @@ rank c frames s =
     option_map (λ first. 1 + different_in c (take first (sporadic_of c s)))
     (position (is_among_frames frames) (sporadic_of c s))
 
+-- whether one of these frames is first in rank in a sporadic frame
+abbrev pub is_first : Parts → List ℕ → ℕ → Bool
+is_first c frames s = option_map_or (λ r. r == 1) (rank c frames s) false
+
+-- whether an event-triggered frame lists one of these frames
+abbrev pub lists_one : Parts → List ℕ → ℕ → Bool
+lists_one c frames e = list_any (is_among_frames frames) (event_of c e).frames
+
 -- what carries one of these frames: their own entries, those of sporadic frames in which they are
 -- first in rank, and those of event-triggered frames that list one
 abbrev pub carriers_of_frames : Parts → List ℕ → Carriers
 carriers_of_frames c frames =
     record {
       frames = map (is_among_frames frames) (range_with_len 0 (length c.frames));
-      sporadic =
-          map (λ s. option_map_or (λ r. r == 1) (rank c frames s) false)
-          (range_with_len 0 (length c.sporadic));
-      events =
-          map (λ e. list_any (is_among_frames frames) (event_of c e).frames)
-          (range_with_len 0 (length c.events));
+      sporadic = map (is_first c frames) (range_with_len 0 (length c.sporadic));
+      events = map (lists_one c frames) (range_with_len 0 (length c.events));
       request = false;
       response = false;
     }

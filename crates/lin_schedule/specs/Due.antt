@@ -1,11 +1,12 @@
 -- What is due in a slot.
-use Rattle.std.specs.Prelude.{Bool, false, List, slice_index_or, find}
+use Rattle.std.specs.Prelude.{ℕ, Bool, false, List, slice_index_or, find}
 use Rattle.lin_parts.specs.Cluster.{sporadic_of}
 use Rattle.lin_parts.specs.declared.parts.Parts.{Parts}
 use Rattle.lin_parts.specs.declared.parts.Entry.{Entry}
 use Rattle.lin_parts.specs.declared.parts.Entry.TheVariants.{Frame, Sporadic, Event}
 use Rattle.lin_parts.specs.declared.parts.Entry.TheVariants.{MasterReq}
 use Rattle.lin_parts.specs.declared.parts.Entry.TheVariants.{SlaveResp, Fixed, Quiet}
+use Rattle.lin_schedule.specs.Schedule.{Move, due_line, standing}
 use Rattle.lin_schedule.specs.declared.due.Due.{Due}
 use Rattle.lin_schedule.specs.declared.due.Due.TheVariants.{
   Frame as FrameDue,
@@ -28,3 +29,8 @@ due_for c pending MasterReq = MasterReqDue
 due_for c pending SlaveResp = SlaveRespDue
 due_for c pending (Fixed b) = FixedDue
 due_for c pending Quiet = QuietDue
+
+-- what is due where the schedule opened with this table, after these moves
+abbrev pub due_after : Parts → List Bool → ℕ → List Move → Due
+due_after c pending opening moves =
+    due_for c pending (due_line c (standing c opening moves)).entry

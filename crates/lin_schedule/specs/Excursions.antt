@@ -1,6 +1,6 @@
 -- What is kept of the table that resolves a collision: sums that stand for its lines.
 use Rattle.std.specs.Prelude.{◌≡◌, ℕ, zero, suc, ◌+◌, ◌-◌, ◌*◌, ◌≤◌, max, nat_le, if◌then◌else◌}
-use Rattle.std.specs.Prelude.{List, [], ◌∷◌, length, slice_index, slice_index_or, count_by, All}
+use Rattle.std.specs.Prelude.{List, [], ◌∷◌, length, slice_index, slice_index_or, count_by, All, Bool}
 use Rattle.std.specs.Prelude.{Option, None, IfSome, MatchOption, true, false, ◌<◌}
 use Rattle.lin_parts.specs.declared.parts.Line.{Line}
 use Rattle.lin_parts.specs.declared.parts.Entry.{Entry}
@@ -53,6 +53,12 @@ pub record IsExcursion (k : Carriers) (lines : List Line) (n total : ℕ) (ends 
 -- these sums, as they are kept
 abbrev pub IsSummary : Carriers → List Line → ℕ → Excursion → Type 0
 IsSummary k lines n x = IsExcursion k lines n x.total x.ends.items x.starts.items x.within
+
+-- one more line in front, with this delay, which carries what is waited for or not
+abbrev pub AddsLine : ℕ → Bool → ℕ → Excursion → Excursion → Type 0
+AddsLine delay is_carrying n old new =
+    (k : Carriers) (line : Line) (lines : List Line) → IsSummary k lines n old
+    → line.delay_us ≡ delay → carries k line.entry ≡ is_carrying → IsSummary k (line ∷ lines) n new
 
 -- sums of which no one is above their total, of at most 1,024 delays
 pub record HasSmallSums (x : Excursion) : Type 0 where

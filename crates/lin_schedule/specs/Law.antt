@@ -41,3 +41,9 @@ pub record IsResolvedBy (c : Parts) (opening : ℕ) (moves : List Move) (r : ℕ
   pub main : (standing c opening moves).excursion ≡ None
   pub resolver : resolving c (due_line c (standing c opening moves)).entry ≡ Some r
   pub entries : 0 < length (table_of c r)
+
+-- then whatever clashes in it, its excursion is one
+abbrev pub RunsOnce : Parts → ℕ → List Move → ℕ → Type 0
+RunsOnce c opening moves r =
+    IsResolvedBy c opening moves r
+    → (clashes : List Bool) → IsExcursion c opening moves r clashes

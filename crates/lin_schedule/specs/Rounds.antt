@@ -1,6 +1,6 @@
 -- How the times ahead of main slots are kept: in rows of one time for each main slot, which go back
 -- from a slot `last` that each round passes only with a carrying slot; row n is for n of these.
-use Rattle.std.specs.Prelude.{◌<◌, ◌≤◌, All, ℕ, zero, suc, ◌+◌, ◌-◌, ◌*◌, ◌/◌, ◌%◌, ◌&&◌, ◌||◌, not, max, Bool}
+use Rattle.std.specs.Prelude.{◌≡◌, true, false, Option, MatchOption, ◌<◌, ◌≤◌, All, ℕ, zero, suc, ◌+◌, ◌-◌, ◌*◌, ◌/◌, ◌%◌, ◌&&◌, ◌||◌, not, max, Bool}
 use Rattle.std.specs.Prelude.{nat_lt, nat_le, if◌then◌else◌, List, length, count_by, slice_index}
 use Rattle.lin_parts.specs.Cluster.{table_of, line_of}
 use Rattle.lin_parts.specs.declared.parts.Parts.{Parts}
@@ -8,6 +8,7 @@ use Rattle.lin_parts.specs.declared.parts.Line.{Line}
 use Rattle.lin_parts.specs.declared.parts.Entry.{Entry}
 use Rattle.lin_schedule.specs.Ahead.{ahead_of, longest_from, next_entry, resolving_lines}
 use Rattle.lin_schedule.specs.Carriers.{Carriers, carries, can_collide}
+use Rattle.lin_schedule.specs.declared.after.After.{After}
 
 -- how many of these lines carry it
 abbrev pub carriers_in : Carriers → List Line → ℕ
@@ -42,6 +43,20 @@ pub record AreRows (times : List ℕ) (slots place : ℕ) : Type 0 where
   pub in_row : place < slots
   pub few : length times ≤ 1049600
   pub short : All (λ time. time ≤ length times * 1025000000000) times
+
+-- these rows, and the times in them, as they are kept for one main slot
+abbrev pub HasRows : After → Type 0
+HasRows a = AreRows a.times.now a.slots a.place
+
+abbrev pub after_by : After → ℕ → ℕ
+after_by a = after_of a.times.now a.slots a.place
+
+-- the first main slot that no walk passes without a carrying slot, or none
+abbrev pub IsSureSlot : Parts → Carriers → ℕ → Option ℕ → Type 0
+IsSureSlot c k t slot =
+    MatchOption slot
+    ((i : ℕ) → i < length (table_of c t) → is_sure c k (line_of c t i).entry ≡ false)
+    (λ i. (i < length (table_of c t)) × (is_sure c k (line_of c t i).entry ≡ true))
 
 -- the time that comes after these
 abbrev pub next_time : Parts → Carriers → ℕ → ℕ → List ℕ → ℕ

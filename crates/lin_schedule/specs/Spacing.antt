@@ -15,10 +15,15 @@ use Rattle.lin_schedule.specs.Walk.{Passed, walk, IsUndisturbed, walk_time}
 use Rattle.lin_schedule.specs.declared.spacing.Extremes.{Extremes}
 use Rattle.lin_schedule.specs.declared.spacing.Stretch.{Stretch}
 use Rattle.lin_schedule.specs.declared.spacing.OwnSlots.{OwnSlots}
+use Rattle.lin_schedule.specs.declared.spacing.Walked.{Walked}
 
 -- a table has no entry of the frame's own
 abbrev pub HasNoOwn : Parts → ℕ → ℕ → Type 0
 HasNoOwn c t f = own_entries c t f ≡ 0
+
+-- a main slot of the frame's own
+abbrev pub IsOwnSlot : Parts → ℕ → ℕ → ℕ → Type 0
+IsOwnSlot c t f own = (own < length (table_of c t)) × (is_own f (line_of c t own).entry ≡ true)
 
 -- how many slots of a walk are the frame's own
 abbrev pub own_in : ℕ → List Passed → ℕ
@@ -168,6 +173,11 @@ gaps_of c f line least most gaps =
     then spread gaps (extremes (gaps_in f (resolving_lines c line.entry) least))
     (extremes (gaps_in f (resolving_lines c line.entry) most))
     else gaps
+
+-- the gaps so far with those from one main slot more before them
+abbrev pub gaps_before : Parts → ℕ → Line → Walked → Option Extremes
+gaps_before c f line walked =
+    gaps_of c f line walked.next.shortest walked.next.longest walked.gaps
 
 -- the line of the main slot that is b slots before a main slot
 abbrev pub line_before : Parts → ℕ → ℕ → ℕ → Line

@@ -7,7 +7,8 @@ ghost use Rattle.std.specs.List.{list_any, range_with_len};
 ghost use Rattle.std.specs.Option.{option_map_or};
 ghost use Rattle.lin_parts.specs.Cluster.{event_of};
 ghost use Rattle.lin_parts.specs.Rules.{IsEntry};
-ghost use Rattle.lin_schedule.specs.Carriers.{carries, can_collide, has_signals, is_among_frames, rank};
+ghost use Rattle.lin_schedule.specs.Carriers.{carries, can_collide, has_signals, is_among_frames, is_first};
+ghost use Rattle.lin_schedule.specs.Carriers.{lists_one, rank};
 ghost use Rattle.lin_schedule.specs.Carriers.{different_in, carriers_of_frames, carriers_of_sporadic};
 ghost use Rattle.lin_schedule.specs.Carriers.{carriers_of_requests, carriers_of_responses};
 
@@ -209,8 +210,7 @@ fn frames_among(alloc: Global, cluster: &Cluster, frames: &[u16]) -> Result<Vec<
 // Whether one of these frames is first in rank in a sporadic frame.
 fn is_first(cluster: &Cluster, frames: &[u16], sporadic: u16) -> bool
     requires { sporadic < length cluster.now.sporadic }
-    ensures { result
-        ≡ option_map_or (λ r. r == 1) (rank cluster.now frames.now sporadic) false }
+    ensures { result ≡ is_first cluster.now frames.now sporadic }
 {
     match rank(cluster, frames, sporadic) {
         Some(rank) => rank == 1,
@@ -221,8 +221,7 @@ fn is_first(cluster: &Cluster, frames: &[u16], sporadic: u16) -> bool
 // Of each sporadic frame, whether one of these frames is first in rank in it.
 fn sporadic_first(alloc: Global, cluster: &Cluster, frames: &[u16]) -> Result<Vec<bool>, AllocError>
     ensures { IfOk result (λ flags. flags.items
-        ≡ map (λ s. option_map_or (λ r. r == 1) (rank cluster.now frames.now s) false)
-        (range_with_len 0 (length cluster.now.sporadic))) }
+        ≡ map (is_first cluster.now frames.now) (range_with_len 0 (length cluster.now.sporadic))) }
 {
     (0..cluster.sporadics() as u16)
         .map(|sporadic| is_first(cluster, frames, sporadic))
@@ -232,7 +231,7 @@ fn sporadic_first(alloc: Global, cluster: &Cluster, frames: &[u16]) -> Result<Ve
 // Whether an event-triggered frame lists one of these frames.
 fn is_listed(cluster: &Cluster, frames: &[u16], event: u16) -> bool
     requires { event < length cluster.now.events }
-    ensures { result ≡ list_any (is_among_frames frames.now) (event_of cluster.now event).frames }
+    ensures { result ≡ lists_one cluster.now frames.now event }
 {
     cluster
         .event_frames(event)
@@ -243,8 +242,7 @@ fn is_listed(cluster: &Cluster, frames: &[u16], event: u16) -> bool
 // Of each event-triggered frame, whether it lists one of these frames.
 fn events_among(alloc: Global, cluster: &Cluster, frames: &[u16]) -> Result<Vec<bool>, AllocError>
     ensures { IfOk result (λ flags. flags.items
-        ≡ map (λ e. list_any (is_among_frames frames.now) (event_of cluster.now e).frames)
-        (range_with_len 0 (length cluster.now.events))) }
+        ≡ map (lists_one cluster.now frames.now) (range_with_len 0 (length cluster.now.events))) }
 {
     cluster.sound();
     (0..cluster.events() as u16)

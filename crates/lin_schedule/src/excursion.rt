@@ -1,18 +1,17 @@
 //! What is kept of the table that resolves the collisions of an event-triggered frame.
 
-ghost use Rattle.std.specs.Prelude.{◌≡◌, ◌+◌, ◌*◌, ◌<◌, ◌≤◌, max, ℕ, List, ◌∷◌, All, IfOk, OnOk};
-ghost use Rattle.std.specs.Prelude.{IfSome, MatchOption, length, true, false};
+ghost use Rattle.std.specs.Prelude.{◌≡◌, ◌+◌, ◌*◌, ◌<◌, ◌≤◌, max, ℕ, All, IfOk, IfSome, OnOk};
+ghost use Rattle.std.specs.Prelude.{length};
+ghost use Rattle.std.specs.Option.{option_copied};
 ghost use Rattle.lin_parts.specs.Cluster.{table_of};
 ghost use Rattle.lin_parts.specs.Rules.{IsEntry};
-ghost use Rattle.lin_parts.specs.declared.parts.Line.{Line};
 ghost use Rattle.lin_parts.specs.declared.parts.Parts.{Parts};
-ghost use Rattle.lin_schedule.specs.Ahead.{resolving_lines};
-ghost use Rattle.lin_schedule.specs.Carriers.{Carriers, carries, can_collide};
-ghost use Rattle.lin_schedule.specs.Excursions.{AreExcursions, HaveSmallSums, HasSmallSums, IsSummary};
-ghost use Rattle.lin_schedule.specs.Excursions.{IsExcursionOf};
+ghost use Rattle.lin_schedule.specs.Carriers.{Carriers};
+ghost use Rattle.lin_schedule.specs.Excursions.{AddsLine, AreExcursions, HaveSmallSums, HasSmallSums};
+ghost use Rattle.lin_schedule.specs.Excursions.{IsExcursionOf, IsSummary};
 ghost use Rattle.lin_parts.specs.declared.parts.Entry.TheVariants.{Event};
 ghost use Rattle.lin_schedule.specs.Excursions.{through_by, longest_open, within_from};
-ghost use Rattle.lin_schedule.specs.Rounds.{AreRows, after_of};
+ghost use Rattle.lin_schedule.specs.Rounds.{HasRows, after_by};
 
 use crate::after::After;
 use crate::awaited::{Awaited, can_collide};
@@ -63,33 +62,14 @@ impl Excursion {
         requires delay { delay_us ≤ 1000000000 }
         requires total { self.old.total ≤ 1024000000000 }
         requires ends { All (λ time. time ≤ self.old.total) self.old.ends.items }
-        ensures { (k : Carriers) (line : Line) (lines : List Line)
-            → IsSummary k lines count self.old → line.delay_us ≡ delay_us
-            → carries k line.entry ≡ is_carrying
-            → OnOk result (IsSummary k (line ∷ lines) count self.new) }
-    {
-        if is_carrying {
-            return self.add_carrying(delay_us, count);
-        }
-        self.total += u64::from(delay_us);
-        Ok(())
-    }
-
-    // One more slot that carries it, in front of the others.
-    fn add_carrying(&mut self, delay_us: u32, count: usize) -> Result<(), AllocError>
-        requires some { 1 ≤ count }
-        requires delay { delay_us ≤ 1000000000 }
-        requires total { self.old.total ≤ 1024000000000 }
-        requires ends { All (λ time. time ≤ self.old.total) self.old.ends.items }
-        ensures { (k : Carriers) (line : Line) (lines : List Line)
-            → IsSummary k lines count self.old → line.delay_us ≡ delay_us
-            → carries k line.entry ≡ true
-            → OnOk result (IsSummary k (line ∷ lines) count self.new) }
+        ensures { OnOk result (AddsLine delay_us is_carrying count self.old self.new) }
     {
         let start = self.total + u64::from(delay_us);
-        self.within = self.within_from(start, count);
-        self.ends.push(self.total)?;
-        self.starts.push(start)?;
+        if is_carrying {
+            self.within = self.within_from(start, count);
+            self.ends.push(self.total)?;
+            self.starts.push(start)?;
+        }
         self.total = start;
         Ok(())
     }
@@ -116,9 +96,8 @@ impl Excursion {
         requires some { 1 ≤ wanted }
         requires few { wanted ≤ 1024 }
         requires short { HasSmallSums self.now }
-        requires rows { AreRows after.now.times.now after.now.slots after.now.place }
-        ensures value { result ≡ through_by self.now.total self.now.ends.items wanted
-            (after_of after.now.times.now after.now.slots after.now.place) }
+        requires rows { HasRows after.now }
+        ensures value { result ≡ through_by self.now.total self.now.ends.items wanted (after_by after.now) }
         ensures short { result ≤ 1024000000000 + length after.now.times.now * 1025000000000 }
     {
         let carrying = self.ends.len();
@@ -134,9 +113,8 @@ impl Excursion {
     pub(crate) fn longest(&self, wanted: usize, after: &After) -> u64
         requires few { wanted ≤ 1024 }
         requires short { HasSmallSums self.now }
-        requires rows { AreRows after.now.times.now after.now.slots after.now.place }
-        ensures { result ≡ max self.now.within (longest_open self.now.starts.items wanted
-            (after_of after.now.times.now after.now.slots after.now.place)) }
+        requires rows { HasRows after.now }
+        ensures { result ≡ max self.now.within (longest_open self.now.starts.items wanted (after_by after.now)) }
     {
         let mut longest = self.within;
         for open in 0..self.starts.len().min(wanted) {
@@ -197,8 +175,7 @@ pub(crate) fn excursion_of<'a>(
 ) -> Option<&'a Excursion>
     requires { HaveSmallSums excursions.now }
     ensures is { (c : Parts) (k : Carriers) (n : ℕ) → AreExcursions c k n excursions.now
-        → IsEntry c entry → MatchOption result (can_collide c entry ≡ false)
-        (λ x. (can_collide c entry ≡ true) × IsSummary k (resolving_lines c entry) n x.now) }
+        → IsEntry c entry → IsExcursionOf c k n entry (option_copied result) }
     ensures short { IfSome result (λ x. HasSmallSums x.now) }
 {
     match entry {

@@ -5,8 +5,7 @@ ghost use Rattle.lin_parts.specs.Cluster.{table_of};
 ghost use Rattle.lin_parts.specs.Rules.{IsCluster};
 ghost use Rattle.lin_parts.specs.declared.parts.Parts.{Parts};
 ghost use Rattle.lin_schedule.specs.Schedule.{Move};
-ghost use Rattle.lin_schedule.specs.Law.{HaveOwnOffsets, IsInTurn, IsDueInTurn, IsExcursion};
-ghost use Rattle.lin_schedule.specs.Law.{IsResolvedBy};
+ghost use Rattle.lin_schedule.specs.Law.{HaveOwnOffsets, IsInTurn, IsDueInTurn, RunsOnce};
 
 /// A law over the definitions; there is nothing to run. Times tell the entries of a table apart,
 /// and where nothing clashes its entries are due in turn, round and round (ISO 17987-3, schedule
@@ -24,6 +23,6 @@ pub fn entries_in_turn()
 /// resolving table has entries, and after it the schedule stands as if the slot had not clashed
 /// (ISO 17987-3, event-triggered frames).
 pub fn excursions_run_once()
-    ensures { (c : Parts) (opening : ℕ) (moves : List Move) (r : ℕ) → IsResolvedBy c opening moves r
-        → (clashes : List Bool) → IsExcursion c opening moves r clashes }
+    ensures { (c : Parts) (opening : ℕ) (moves : List Move) (r : ℕ)
+        → RunsOnce c opening moves r }
 {}

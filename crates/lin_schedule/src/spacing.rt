@@ -1,17 +1,15 @@
 //! How far apart the slots of a frame are in schedule tables that run undisturbed.
 
-ghost use Rattle.std.specs.Prelude.{◌≡◌, ◌+◌, ◌<◌, ◌≤◌, IfOk, IfSome, List, None, Some, ◌∷◌, MatchOption, length, max, min, true, ℕ};
+ghost use Rattle.std.specs.Prelude.{◌≡◌, ◌+◌, ◌<◌, ◌≤◌, IfOk, IfSome, List, None, Some, ◌∷◌, MatchOption, length, max, min, ℕ};
 ghost use Rattle.lin_parts.specs.Cluster.{table_of};
-ghost use Rattle.lin_parts.specs.Cluster.{line_of};
 ghost use Rattle.lin_parts.specs.Rules.{IsEntry};
 ghost use Rattle.lin_parts.specs.declared.parts.Entry.TheVariants.{Event};
 ghost use Rattle.lin_parts.specs.declared.parts.Line.{Line};
 ghost use Rattle.lin_parts.specs.declared.parts.Parts.{Parts};
-ghost use Rattle.lin_schedule.specs.Occurs.{is_own};
 ghost use Rattle.lin_schedule.specs.Rounds.{back_from};
-ghost use Rattle.lin_schedule.specs.Spacing.{AreBrief, AreGaps, AreInside, AreStretches, HasItsOwn, HasNoOwn};
+ghost use Rattle.lin_schedule.specs.Spacing.{AreBrief, AreGaps, AreInside, AreStretches, HasItsOwn, HasNoOwn, IsOwnSlot};
 ghost use Rattle.lin_schedule.specs.Spacing.{IsBrief, IsStretch, IsStretchOf, one, own_added};
-ghost use Rattle.lin_schedule.specs.Spacing.{gaps_after, gaps_by, gaps_of, least_of, most_of, next_by};
+ghost use Rattle.lin_schedule.specs.Spacing.{gaps_after, gaps_before, gaps_by, least_of, most_of, next_by};
 ghost use Rattle.lin_schedule.specs.Spacing.{pair, spread, with_gap};
 
 use crate::awaited::can_collide;
@@ -56,8 +54,7 @@ pub fn gaps(
 fn first_own(cluster: &Cluster, table: u16, frame: u16) -> Option<u16>
     requires { table < length cluster.now.tables }
     ensures { MatchOption result (HasNoOwn cluster.now table frame)
-        (λ own. (own < length (table_of cluster.now table))
-        × (is_own frame (line_of cluster.now table own).entry ≡ true)) }
+        (λ own. IsOwnSlot cluster.now table frame own) }
 {
     for slot in 0..cluster.entries(table) as u16 {
         if is_own(cluster.line_at(table, slot).entry, frame) {
@@ -264,8 +261,7 @@ impl Walked {
         ensures most { (c : Parts) → AreStretches c frame stretches.now → IsEntry c line.entry
             → self.new.next.longest ≡ most_of c frame line self.old.next.longest }
         ensures gaps { (c : Parts) → AreStretches c frame stretches.now → IsEntry c line.entry
-            → self.new.gaps ≡ gaps_of c frame line self.old.next.shortest self.old.next.longest
-            self.old.gaps }
+            → self.new.gaps ≡ gaps_before c frame line self.old }
     {
         if is_own(line.entry, frame) {
             self.add_own(line.delay_us);

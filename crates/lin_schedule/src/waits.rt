@@ -1,7 +1,7 @@
 //! How long nodes wait in schedule tables that run undisturbed.
 
-ghost use Rattle.std.specs.Prelude.{◌≡◌, ◌+◌, ◌*◌, ◌/◌, ◌<◌, ◌≤◌, ℕ, suc, List, IfOk, MatchOption};
-ghost use Rattle.std.specs.Prelude.{length, slice_index, true, false};
+ghost use Rattle.std.specs.Prelude.{◌≡◌, ◌+◌, ◌*◌, ◌/◌, ◌<◌, ◌≤◌, ℕ, suc, List, IfOk};
+ghost use Rattle.std.specs.Prelude.{length, slice_index, true};
 ghost use Rattle.lin_parts.specs.Cluster.{table_of, line_of};
 ghost use Rattle.lin_parts.specs.Rules.{IsCluster, IsEntry};
 ghost use Rattle.lin_parts.specs.declared.parts.Parts.{Parts};
@@ -9,7 +9,7 @@ ghost use Rattle.lin_parts.specs.declared.parts.Line.{Line};
 ghost use Rattle.lin_schedule.specs.Carriers.{Carriers};
 ghost use Rattle.lin_schedule.specs.Ahead.{AreTimesAhead, ahead_of, longest_from, next_entry};
 ghost use Rattle.lin_schedule.specs.Excursions.{AreExcursions, HaveSmallSums};
-ghost use Rattle.lin_schedule.specs.Rounds.{AreRows, after_of, back_from, greatest, is_sure};
+ghost use Rattle.lin_schedule.specs.Rounds.{AreRows, HasRows, IsSureSlot, after_by, back_from, greatest, is_sure};
 ghost use Rattle.lin_schedule.specs.Rounds.{longest_of, next_time, times_after, times_in};
 ghost use Rattle.lin_schedule.specs.Walk.{IsWorst};
 
@@ -62,11 +62,7 @@ fn sure_slot(
     requires table { table < length cluster.now.tables }
     requires short { HaveSmallSums excursions.now }
     ensures { (n : ℕ) → AreExcursions cluster.now awaited.now n excursions.now
-        → MatchOption result
-        ((i : ℕ) → i < length (table_of cluster.now table)
-        → is_sure cluster.now awaited.now (line_of cluster.now table i).entry ≡ false)
-        (λ last. (last < length (table_of cluster.now table))
-        × (is_sure cluster.now awaited.now (line_of cluster.now table last).entry ≡ true)) }
+        → IsSureSlot cluster.now awaited.now table result }
 {
     for slot in 0..cluster.entries(table) as u16 {
         if is_sure(awaited, excursions, cluster.line_at(table, slot).entry) {
@@ -198,11 +194,10 @@ fn ahead_of(
     requires delay { line.delay_us ≤ 1000000000 }
     requires some { 1 ≤ wanted }
     requires few { wanted ≤ 1024 }
-    requires rows { AreRows after.now.times.now after.now.slots after.now.place }
+    requires rows { HasRows after.now }
     requires done { slice_index after.now.times.now after.now.place ≡ 0 }
     ensures value { (c : Parts) (n : ℕ) → AreExcursions c awaited.now n excursions.now
-        → IsEntry c line.entry → result ≡ ahead_of c awaited.now line wanted
-        (after_of after.now.times.now after.now.slots after.now.place) }
+        → IsEntry c line.entry → result ≡ ahead_of c awaited.now line wanted (after_by after.now) }
     ensures short { result ≤ suc (length after.now.times.now) * 1025000000000 }
 {
     let left = if awaited.carries(line.entry) {
@@ -254,11 +249,10 @@ fn longest_from(excursions: &[Option<Excursion>], line: Line, count: usize, afte
     requires delay { line.delay_us ≤ 1000000000 }
     requires some { 1 ≤ count }
     requires few { count ≤ 1024 }
-    requires rows { AreRows after.now.times.now after.now.slots after.now.place }
+    requires rows { HasRows after.now }
     requires done { slice_index after.now.times.now after.now.place ≡ 0 }
     ensures { (c : Parts) (k : Carriers) → AreExcursions c k count excursions.now
-        → IsEntry c line.entry → result ≡ longest_from c k line count
-        (after_of after.now.times.now after.now.slots after.now.place) }
+        → IsEntry c line.entry → result ≡ longest_from c k line count (after_by after.now) }
 {
     let straight = after.of(count);
     let delay = u64::from(line.delay_us);

@@ -6,7 +6,7 @@ ghost use Rattle.std.specs.Prelude.{false};
 ghost use Rattle.lin_parts.specs.Cluster.{table_of, line_of};
 ghost use Rattle.lin_parts.specs.Rules.{IsCluster, IsEntry};
 ghost use Rattle.lin_parts.specs.declared.parts.Parts.{Parts};
-ghost use Rattle.lin_schedule.specs.Due.{due_for};
+ghost use Rattle.lin_schedule.specs.Due.{due_for, due_after};
 ghost use Rattle.lin_schedule.specs.Schedule.{Move, Slot, Switch, Restart, due, due_line};
 ghost use Rattle.lin_schedule.specs.Schedule.{resolving, standing};
 ghost use Rattle.lin_schedule.specs.Walker.{Stands, HasEntry, Walks};
@@ -67,8 +67,7 @@ impl Walker {
             (line_of cluster.now self.now.place.0 self.now.place.1).entry }
         ensures stands { (opening : ℕ) (moves : List Move)
             → Stands cluster.now opening self.now moves
-            → result ≡ due_for cluster.now pending.now
-            (due_line cluster.now (standing cluster.now opening moves)).entry }
+            → result ≡ due_after cluster.now pending.now opening moves }
     {
         cluster.sound();
         match cluster.entry(self.table, self.entry) {
