@@ -1,9 +1,10 @@
 -- What a receiver holds, and for which frames and resets it stands.
 use Rattle.std.specs.Prelude.{◌≡◌, ℕ, suc, ◌+◌, ◌*◌, ◌/◌, ◌%◌, ◌≤◌, ◌<◌, ⊤, ◌≢◌, Bool, true}
 use Rattle.std.specs.Prelude.{if◌then◌else◌, List, [], ◌∷◌, ◌++◌, length, slice_index}
-use Rattle.std.specs.Prelude.{Option, Some, None, option_to_list}
+use Rattle.std.specs.Prelude.{Option, Some, None, option_map, option_to_list}
+use Rattle.std.specs.Global.{Vec}
 use Rattle.lin_transport.specs.Transport.{Heard, Ear, functional, begins_message, first_frames, message_in}
-use Rattle.lin_transport.specs.Transport.{message_to, messages_to, heard_to}
+use Rattle.lin_transport.specs.Transport.{all_heard, message_to, messages_for, messages_to, heard_to}
 use Rattle.lin_transport.specs.Transport.Heard.{Frame, Reset}
 
 -- a message of which only a part has come: that part's bytes, and the length of the message
@@ -57,6 +58,10 @@ Holds e (Some part) fs = IsOwn e × AreFirst e.nad part fs
 abbrev pub HasHeard : Reception → List Heard → Type 0
 HasHeard r heard = Holds (ear_of r) r.part (current heard)
 
+-- the bytes of a message, where there is one
+abbrev pub bytes_given : Option (Vec ℕ) → Option (List ℕ)
+bytes_given message = option_map (λ m. m.items) message
+
 -- what a receiver gives for a frame, over what it had heard: with the frame, it reads as many
 -- messages more as it gave
 pub record Reads (old : Reception) (frame : List ℕ) (heard : List Heard) (given : Option (List ℕ))
@@ -65,6 +70,15 @@ pub record Reads (old : Reception) (frame : List ℕ) (heard : List Heard) (give
   pub stands : HasHeard new (heard_to (ear_of old) frame heard)
   pub reads : messages_to (ear_of old) (heard_to (ear_of old) frame heard)
       ≡ messages_to (ear_of old) heard ++ option_to_list given
+
+-- the receiver has heard what is its own of all that was sent
+abbrev pub HasHeardOwn : Reception → List Heard → Type 0
+HasHeardOwn r heard = HasHeard r (all_heard (ear_of r) heard)
+
+-- with one frame more, what is read of all that was sent has this message more, or none
+abbrev pub AddsRead : Ear → List ℕ → List Heard → Option (List ℕ) → Type 0
+AddsRead e frame heard given =
+    messages_for e (Frame frame ∷ heard) ≡ messages_for e heard ++ option_to_list given
 
 -- a frame that begins a piece is read as this message or as none, whatever comes after it
 pub record IsReadAs (frame : List ℕ) (given : Option (List ℕ)) : Type 0 where
@@ -86,6 +100,12 @@ pub record IsContinued (e : Ear) (frame : List ℕ) (fs : List (List ℕ)) (give
   pub holds : Holds e new (fs ++ frame ∷ [])
   pub reads : option_to_list (message_to e (fs ++ frame ∷ []))
       ≡ option_to_list (message_to e fs) ++ option_to_list given
+
+-- the same over whatever was partial so, for a frame to the receiver's own address
+abbrev pub Continues : Option Part → List ℕ → Option (List ℕ) → Option Part → Type 0
+Continues old frame given new =
+    (e : Ear) (fs : List (List ℕ)) → IsOwn e → slice_index frame 0 ≡ e.nad → Holds e old fs
+    → IsContinued e frame fs given new
 
 -- a partial message as it is kept: the buffer has room for all of it, and the counter is that of
 -- the next consecutive frame

@@ -20,9 +20,8 @@ pub fn reads_what_is_sent()
         → ReadsBack ear messages given }
     ensures across { (ear : Ear) (earlier later : List Addressed) (given : List Heard)
         → ReadsAcross ear earlier later given }
-    ensures cut { (ear : Ear) (earlier : List Addressed) (m : Addressed) (k j : ℕ)
-        (later : List Addressed) (given : List Heard)
-        → LacksCut ear earlier m k j later given }
+    ensures cut { (ear : Ear) (earlier later : List Addressed) (m : Addressed) (k j : ℕ)
+        (given : List Heard) → LacksCut ear earlier m k j later given }
     ensures message { (ear : Ear) (m : Addressed) (heard : List Heard) → AddsMessage ear m heard }
     ensures part { (ear : Ear) (m : Addressed) (k : ℕ) (heard : List Heard)
         → AddsNothing ear m k heard }

@@ -1,13 +1,12 @@
 //! The receiver of messages: what it reads of the frames that it hears.
 
-ghost use Rattle.std.specs.Prelude.{◌≡◌, ℕ, ◌<◌, ◌≤◌, ◌∷◌, ◌++◌, [], List, ◌&&◌, eqb, true};
-ghost use Rattle.std.specs.Prelude.{false, slice_index, option_map, option_to_list, vec_capacity};
+ghost use Rattle.std.specs.Prelude.{◌≡◌, ◌<◌, ◌≤◌, ◌∷◌, [], List, ◌&&◌, eqb, true};
+ghost use Rattle.std.specs.Prelude.{false, slice_index, vec_capacity};
 ghost use Rattle.std.specs.Prelude.{IfOk, IfSome, OnOk, OnErr, IsOk, length};
-ghost use Rattle.lin_transport.specs.Transport.{Ear, Heard, all_heard, begins_message, functional};
-ghost use Rattle.lin_transport.specs.Transport.{messages_for};
-ghost use Rattle.lin_transport.specs.Transport.Heard.{Frame, Reset};
-ghost use Rattle.lin_transport.specs.Receiver.{Holds, IsOwn, IsReadAs, IsBegun, IsContinued};
-ghost use Rattle.lin_transport.specs.Receiver.{HasHeard, Reads, ear_of};
+ghost use Rattle.lin_transport.specs.Transport.{Heard, begins_message, functional};
+ghost use Rattle.lin_transport.specs.Transport.Heard.{Reset};
+ghost use Rattle.lin_transport.specs.Receiver.{AddsRead, Continues, HasHeard, HasHeardOwn, Reads};
+ghost use Rattle.lin_transport.specs.Receiver.{IsBegun, IsReadAs, bytes_given, ear_of};
 
 use crate::pci::{CONSECUTIVE_BYTES, CONSECUTIVE_FRAME, FIRST_FRAME, FUNCTIONAL, SINGLE_BYTES};
 use std::alloc::{AllocError, Global};
@@ -66,7 +65,7 @@ impl Model for Receiver {
 fn single(alloc: Global, room: &mut Vec<u8>, frame: &[u8; 8]) -> Result<Option<Vec<u8>>, AllocError>
     requires low { slice_index frame.now 1 < 16 }
     requires empty { room.old.items ≡ [] }
-    ensures reads { IfOk result (λ m. IsReadAs frame.now (option_map (λ v. v.items) m)) }
+    ensures reads { IfOk result (λ m. IsReadAs frame.now (bytes_given m)) }
     ensures few { IfOk result (λ m. IfSome m (λ v. length v.items ≤ 6)) }
     ensures empty { room.new.items ≡ [] }
     ensures ready { 6 ≤ vec_capacity room.old → IsOk result }
@@ -107,9 +106,7 @@ fn begun(alloc: Global, frame: &[u8; 8]) -> Result<Option<Partial>, AllocError>
 // What is partial after a frame that begins no message, and the message that it completes.
 fn continued(partial: Option<Partial>, frame: &[u8; 8]) -> (Option<Partial>, Option<Vec<u8>>)
     requires { 32 ≤ slice_index frame.now 1 }
-    ensures { (ear : Ear) (fs : List (List ℕ)) → IsOwn ear → slice_index frame.now 0 ≡ ear.nad
-        → Holds ear partial fs
-        → IsContinued ear frame.now fs (option_map (λ v. v.items) result.1) result.0 }
+    ensures { Continues partial frame.now (bytes_given result.1) result.0 }
 {
     let Some(partial) = partial else {
         return (None, None);
@@ -191,8 +188,7 @@ impl Receiver {
     // Hears a frame, and gives the message that it completes.
     fn receive(&mut self, frame: &[u8; 8]) -> Result<Option<Vec<u8>>, AllocError>
         ensures reads { (heard : List Heard) → HasHeard self.old heard
-            → IfOk result
-            (λ m. Reads self.old frame.now heard (option_map (λ v. v.items) m) self.new) }
+            → IfOk result (λ m. Reads self.old frame.now heard (bytes_given m) self.new) }
         ensures unchanged { OnErr result (self.new ≡ self.old) }
         ensures memory { OnErr result (begins_message frame.now ≡ true) }
         ensures ready { 1 ≤ self.old.spare → slice_index frame.now 1 < 16 → IsOk result }
@@ -236,13 +232,9 @@ impl Receiver {
     /// `AllocError` where there is no memory for the message. The receiver is then as before.
     pub fn hear(&mut self, frame: &[u8; 8]) -> Result<Option<Vec<u8>>, AllocError>
         ensures reassembles { (heard : List Heard) → HasHeard self.old heard
-            → IfOk result
-            (λ m. Reads self.old frame.now heard (option_map (λ v. v.items) m) self.new) }
-        ensures reads { (given : List Heard) → HasHeard self.old (all_heard (ear_of self.old) given)
-            → IfOk result
-            (λ m. messages_for (ear_of self.old) (Frame frame.now ∷ given)
-            ≡ messages_for (ear_of self.old) given
-            ++ option_to_list (option_map (λ v. v.items) m)) }
+            → IfOk result (λ m. Reads self.old frame.now heard (bytes_given m) self.new) }
+        ensures reads { (heard : List Heard) → HasHeardOwn self.old heard
+            → IfOk result (λ m. AddsRead (ear_of self.old) frame.now heard (bytes_given m)) }
         ensures unchanged { OnErr result (self.new ≡ self.old) }
         ensures memory { OnErr result (begins_message frame.now ≡ true) }
         ensures ready { 1 ≤ self.old.spare → slice_index frame.now 1 < 16 → IsOk result }
