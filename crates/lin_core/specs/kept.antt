@@ -5,4 +5,5 @@ pub mod Hosts
 pub mod Receivers
 pub mod Bus
 pub mod Ready
+pub mod Refusals
 pub mod State

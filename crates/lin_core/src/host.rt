@@ -1,8 +1,8 @@
 //! What the core keeps of a host.
 
 ghost use Rattle.std.specs.Prelude.{◌≡◌, ◌<◌, ◌+◌, ◌^◌, ◌≤◌, ℕ, IfOk, All, IsTrue, ◌↔◌, length};
-ghost use Rattle.std.specs.Prelude.{slice_get, is_some, nat_lt, if◌then◌else◌, None, Some, false};
-ghost use Rattle.lin_core.specs.kept.Hosts.{new_host, host_after_frame, host_after_send, sent_of};
+ghost use Rattle.std.specs.Prelude.{slice_get, is_some, None, Some, false};
+ghost use Rattle.lin_core.specs.kept.Hosts.{if_waiting, new_host, host_after_frame, host_after_send, sent_of};
 ghost use Rattle.lin_core.specs.kept.Hosts.{host_after_settling, sending_size};
 ghost use Rattle.lin_transport.specs.Sender.{SenderData};
 ghost use Rattle.lin_transport.specs.Transport.{frame_count};
@@ -150,7 +150,7 @@ pub(crate) fn next_by(hosts: &[Host], host: u8) -> u32
 pub(crate) fn responder(hosts: &[Host], selected: Option<u8>) -> Option<u8>
     ensures none { selected ≡ None → result ≡ None }
     ensures some { (node : ℕ) (kept : Host) → selected ≡ Some node → slice_get hosts.now node ≡ Some kept
-        → result ≡ (if nat_lt 0 (length kept.queue.items) then Some node else None) }
+        → result ≡ if_waiting kept node }
 {
     match selected {
         Some(node) if queued_by(hosts, node) > 0 => Some(node),

@@ -1,12 +1,11 @@
 //! Messages to all responders, as they are told of them.
 
-ghost use Rattle.std.specs.Prelude.{◌≡◌, ◌<◌, ◌≤◌, ◌+◌, ◌++◌, ◌∷◌, [], ℕ, List, Some, length};
-ghost use Rattle.std.specs.Prelude.{is_some, slice_get, slice_index, true, vec_capacity};
-ghost use Rattle.lin_parts.specs.Cluster.{nad, nodes};
+ghost use Rattle.std.specs.Prelude.{◌≡◌, ◌<◌, ◌≤◌, ◌+◌, ◌++◌, ◌∷◌, [], ℕ, List, length};
+ghost use Rattle.std.specs.Prelude.{slice_index, vec_capacity};
+ghost use Rattle.lin_parts.specs.Cluster.{nodes};
 ghost use Rattle.lin_transport.specs.Transport.{Heard};
-ghost use Rattle.lin_core.specs.kept.Hosts.{told_to_all};
-ghost use Rattle.lin_core.specs.kept.Receivers.{Completes, HaveRoom, HearAll, HearsToo};
-ghost use Rattle.lin_core.specs.declared.receivers.Receivers.{Receivers};
+ghost use Rattle.lin_core.specs.kept.Hosts.{told_one};
+ghost use Rattle.lin_core.specs.kept.Receivers.{Completes, HaveRoom, HearAll, HearsToo, TellsAll};
 
 use crate::event::{Event, Seen};
 use crate::payload::{Events, Payload};
@@ -28,7 +27,7 @@ fn tell_one(
     ensures hears { HearsToo frame.now receivers.old receivers.new }
     ensures told { (heard : List Heard) (m : List ℕ)
         → Completes frame.now m receivers.old.down heard
-        → events.new.items ≡ events.old.items ++ Event.Message 0 node m ∷ [] }
+        → events.new.items ≡ events.old.items ++ told_one node m }
     ensures few { length events.new.items ≤ length events.old.items + 1 }
     ensures room { vec_capacity events.old ≤ vec_capacity events.new }
 {
@@ -56,11 +55,8 @@ fn tell_each(
     requires ready { HaveRoom receivers.old.items }
     requires room { length events.old.items + length receivers.old.items ≤ vec_capacity events.old }
     ensures hears { HearAll setup.now.cluster frame.now receivers.old.items receivers.new.items }
-    ensures told { (heard : ℕ → List Heard) (m : List ℕ)
-        → ((h : ℕ) (r : Receivers) → slice_get receivers.old.items h ≡ Some r
-        → is_some (nad setup.now.cluster h) ≡ true → Completes frame.now m r.down (heard h))
-        → events.new.items
-        ≡ events.old.items ++ told_to_all setup.now.cluster m (length receivers.old.items) }
+    ensures told { TellsAll setup.now.cluster frame.now receivers.old.items
+        (λ told. events.new.items ≡ events.old.items ++ told) }
     ensures few { length events.new.items ≤ length events.old.items + length receivers.old.items }
     ensures room { vec_capacity events.old ≤ vec_capacity events.new }
 {
@@ -94,11 +90,8 @@ pub(crate) fn events_to_all(
     requires ready { HaveRoom receivers.old.items }
     requires room { 2 + length receivers.old.items ≤ vec_capacity room }
     ensures hears { HearAll setup.now.cluster frame.now receivers.old.items receivers.new.items }
-    ensures told { (heard : ℕ → List Heard) (m : List ℕ)
-        → ((h : ℕ) (r : Receivers) → slice_get receivers.old.items h ≡ Some r
-        → is_some (nad setup.now.cluster h) ≡ true → Completes frame.now m r.down (heard h))
-        → result ≡ Event.Seen seen
-        ∷ told_to_all setup.now.cluster m (length receivers.old.items) ++ Event.Sent 0 number ∷ [] }
+    ensures told { TellsAll setup.now.cluster frame.now receivers.old.items
+        (λ told. result ≡ Event.Seen seen ∷ told ++ Event.Sent 0 number ∷ []) }
 {
     let mut events = room;
     events.push(Event::Seen(seen)).unwrap();

@@ -1,14 +1,12 @@
 //! The responses to requests of node configuration that responders have ready (LIN 2.2A, section 4.2).
 
-ghost use Rattle.std.specs.Prelude.{◌≡◌, ◌≤◌, ◌==◌, filter, find, if◌then◌else◌, length, map};
-ghost use Rattle.std.specs.Prelude.{nat_lt, not};
-ghost use Rattle.lin_frame.specs.Words.{numbers};
-ghost use Rattle.lin_parts.specs.Cluster.{line_of, nodes, responses};
+ghost use Rattle.std.specs.Prelude.{◌≡◌, ◌≤◌, ◌==◌, filter, find, length, map, not};
+ghost use Rattle.lin_parts.specs.Cluster.{line_of, responses};
 ghost use Rattle.lin_core.specs.History.{header_is};
 ghost use Rattle.lin_core.specs.Slots.{ready_bytes, has_put, responses_after, responses_to};
 ghost use Rattle.lin_core.specs.Slots.{service_bytes};
 ghost use Rattle.lin_core.specs.kept.Ready.{node_in, response_in};
-ghost use Rattle.lin_core.specs.kept.Slots.{is_due_of, served_by, slot_in, HasDue};
+ghost use Rattle.lin_core.specs.kept.Slots.{due_where, is_served, served_by, slot_in, HasDue};
 
 use crate::bus_state::request_byte;
 use crate::due::due_nodes;
@@ -144,7 +142,7 @@ fn served_nodes(due: Due, ready: &[Response]) -> ArrayVec<u8, NODES>
 
 /// Whether a slot is for a service, where these responses are ready.
 pub(crate) fn is_service(due: Due, ready: &[Response]) -> bool
-    ensures { result ≡ nat_lt 0 (length (served_by due (map node_in ready.now))) }
+    ensures { result ≡ is_served due (map node_in ready.now) }
 {
     match due {
         Due::Fixed => true,
@@ -166,10 +164,7 @@ pub(crate) fn slot_nodes(
     requires count { length pending.now ≡ length cluster.now.frames }
     requires ready { length ready.now ≤ 16 }
     ensures due { result.items
-        ≡ (if nat_lt 0 (length (served_by due (map node_in ready.now)))
-        then served_by due (map node_in ready.now)
-        else filter (is_due_of cluster.now pending.now waits responder due)
-        (numbers (nodes cluster.now))) }
+        ≡ due_where cluster.now pending.now waits responder due (map node_in ready.now) }
     ensures few { length result.items ≤ 16 }
 {
     if is_service(due, ready) {

@@ -1,12 +1,12 @@
 //! The receivers of the links: each reassembles the messages of its link from the frames that it
 //! hears.
 
-ghost use Rattle.std.specs.Prelude.{◌≡◌, ◌<◌, ℕ, [], List, length, option_map, slice_get, Some};
+ghost use Rattle.std.specs.Prelude.{◌≡◌, ◌<◌, ℕ, [], List, length, slice_get, Some};
 ghost use Rattle.std.specs.Prelude.{IfOk, OnErr, OnOk};
-ghost use Rattle.lin_transport.specs.Receiver.{HasHeard, Reads};
+ghost use Rattle.lin_transport.specs.Receiver.{HasHeard, bytes_given};
 ghost use Rattle.lin_transport.specs.Transport.{Heard};
 ghost use Rattle.lin_core.specs.kept.Receivers.{opposite, receiver_in, HaveHeardAlike, AreReset, HaveRoom, HearsOn, IsReset};
-ghost use Rattle.lin_core.specs.kept.Receivers.{KeepsHeard};
+ghost use Rattle.lin_core.specs.kept.Receivers.{KeepsHeard, ReadsIn};
 ghost use Rattle.lin_core.specs.declared.receivers.Receivers.{Receivers};
 
 use crate::link::{Direction, Link};
@@ -33,9 +33,7 @@ impl Receivers {
         frame: &[u8; 8],
     ) -> Result<Option<Vec<u8>>, AllocError>
         ensures hears { (heard : List Heard) → HasHeard (receiver_in dir self.old) heard
-            → IfOk result
-            (λ m. Reads (receiver_in dir self.old) frame.now heard (option_map (λ v. v.items) m)
-            (receiver_in dir self.new)) }
+            → IfOk result (λ m. ReadsIn dir self.old frame.now heard (bytes_given m) self.new) }
         ensures other { receiver_in (opposite dir) self.new ≡ receiver_in (opposite dir) self.old }
         ensures unchanged { OnErr result (self.new ≡ self.old) }
     {
@@ -94,7 +92,7 @@ pub(crate) fn hear(
     requires { link.node < length receivers.old.items }
     ensures hears { IfOk result
         (λ m. HearsOn link frame.now
-        (option_map (λ v. v.items) m) receivers.old.items receivers.new.items) }
+        (bytes_given m) receivers.old.items receivers.new.items) }
     ensures unchanged { OnErr result (receivers.new.items ≡ receivers.old.items) }
 {
     receivers[link.node as usize].hear(link.dir, frame)

@@ -1,15 +1,15 @@
 //! Frames of signals: their bytes, made of values, and the values that the nodes read in them.
 
-ghost use Rattle.std.specs.Prelude.{◌≡◌, ◌<◌, ◌≤◌, ℕ, [], length, map, take, true, All, Some};
-ghost use Rattle.std.specs.Prelude.{option_map, is_some, slice_get, IsTrue, vec_capacity};
-ghost use Rattle.std.specs.Option.{unwrap_or};
-ghost use Rattle.lin_frame.specs.Bits.{fits_place, packed_bytes, unpacked_value};
+ghost use Rattle.std.specs.Prelude.{◌≡◌, ◌<◌, ◌≤◌, ℕ, [], length, map, true, All, Some};
+ghost use Rattle.std.specs.Prelude.{is_some, slice_get, IsTrue, vec_capacity};
+ghost use Rattle.lin_frame.specs.Bits.{fits_place};
 ghost use Rattle.lin_frame.specs.Frame.{answer_of};
 ghost use Rattle.lin_parts.specs.Cluster.{frame_of, signal_of};
 ghost use Rattle.lin_parts.specs.Rules.{place_at};
 ghost use Rattle.lin_core.specs.History.{good};
 ghost use Rattle.lin_core.specs.kept.Slots.{slot_in, IsOpen};
-ghost use Rattle.lin_core.specs.Signals.{place_in, value_in, ArePointwise};
+ghost use Rattle.lin_core.specs.Signals.{frame_bytes, frame_value, ArePointwise, HearsValues};
+ghost use Rattle.lin_core.specs.kept.Signals.{HearsSlot};
 
 use crate::response_frames::frame_by;
 use crate::slot::OpenSlot;
@@ -45,9 +45,7 @@ pub(crate) fn frame_answer(
     requires empty { room.old.items ≡ [] }
     requires room { length (frame_of cluster.now frame).signals ≤ vec_capacity room.old }
     ensures answer { (g : ℕ → Value) → ArePointwise g values.now
-        → result ≡ answer_of model header
-        (packed_bytes (frame_of cluster.now frame).layout
-        (map g (frame_of cluster.now frame).signals)) }
+        → result ≡ answer_of model header (frame_bytes cluster.now g frame) }
     ensures empty { room.new.items ≡ [] }
     ensures room { vec_capacity room.old ≤ vec_capacity room.new }
 {
@@ -66,12 +64,8 @@ pub fn hear_frame(heard: &mut Vec<Value>, cluster: &Cluster, frame: u16, answer:
     requires frame { frame < length cluster.now.frames }
     requires count { length heard.old.items ≡ length cluster.now.signals }
     ensures count { length heard.new.items ≡ length heard.old.items }
-    ensures heard { (g : ℕ → Value) → ArePointwise g heard.old.items
-        → ArePointwise
-        (λ s. unwrap_or
-        (option_map
-        (λ p. unpacked_value p (take 8 answer.now)) (place_in (frame_of cluster.now frame) s))
-        (g s)) heard.new.items }
+    ensures heard { HearsValues (frame_value cluster.now frame answer.now) heard.old.items
+        heard.new.items }
 {
     cluster.sound();
     let data = answer.data();
@@ -90,9 +84,7 @@ pub(crate) fn hear_slot(heard: &mut Vec<Value>, cluster: &Cluster, slot: &OpenSl
     requires count { length heard.old.items ≡ length cluster.now.signals }
     requires good { is_some (good (slot_in slot.now)) ≡ true }
     ensures count { length heard.new.items ≡ length heard.old.items }
-    ensures heard { (g : ℕ → Value) → ArePointwise g heard.old.items
-        → ArePointwise
-        (λ s. unwrap_or (value_in cluster.now (slot_in slot.now) s) (g s)) heard.new.items }
+    ensures heard { HearsSlot cluster.now slot.now heard.old.items heard.new.items }
 {
     let Some(header) = slot.header else {
         return;

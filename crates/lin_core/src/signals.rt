@@ -1,14 +1,13 @@
 //! What the core keeps of signals and frames.
 
 ghost use Rattle.std.specs.Prelude.{◌≡◌, ◌<◌, ◌≤◌, ◌||◌, ◌==◌, ℕ, true, false, [], length, map};
-ghost use Rattle.std.specs.Prelude.{All, IfOk, IfSome, Some, None, is_some, vec_capacity};
+ghost use Rattle.std.specs.Prelude.{All, IfOk, IfSome, Some, None, vec_capacity};
 ghost use Rattle.std.specs.Prelude.{replicate, slice_set, slice_index_or, if◌then◌else◌};
-ghost use Rattle.std.specs.Option.{option_map_or, unwrap_or};
+ghost use Rattle.std.specs.Option.{option_map_or};
 ghost use Rattle.lin_parts.specs.Cluster.{frame_of};
-ghost use Rattle.lin_core.specs.History.{good, is_in};
-ghost use Rattle.lin_core.specs.kept.Signals.{is_cleared};
-ghost use Rattle.lin_core.specs.kept.Slots.{slot_in, IsOpen};
-ghost use Rattle.lin_core.specs.Signals.{value_in, ArePointwise};
+ghost use Rattle.lin_core.specs.History.{is_in};
+ghost use Rattle.lin_core.specs.kept.Signals.{AreCleared, EndsPending, HearsSlot, MarksFrames, is_cleared};
+ghost use Rattle.lin_core.specs.kept.Slots.{IsOpen};
 
 use crate::signal_frames::hear_slot;
 use crate::slot::{OpenSlot, Put};
@@ -89,10 +88,7 @@ impl Signals {
         ensures heard { self.new.heard ≡ self.old.heard }
         ensures room { self.new.room ≡ self.old.room }
         ensures frames { length self.new.pending.items ≡ length cluster.now.frames }
-        ensures pending { (f : ℕ) → f < length cluster.now.frames
-            → slice_index_or self.new.pending.items f false
-            ≡ (if is_in (frame_of cluster.now f).signals signal
-            then true else slice_index_or self.old.pending.items f false) }
+        ensures pending { MarksFrames cluster.now signal self.old.pending.items self.new.pending.items }
     {
         self.values[signal as usize] = value;
         mark(&mut self.pending, cluster.frames_with(signal));
@@ -119,22 +115,13 @@ impl Signals {
     pub(crate) fn finish(&mut self, cluster: &Cluster, slot: &OpenSlot)
         requires slot { IsOpen cluster.now slot.now }
         requires heard { length self.old.heard.items ≡ length cluster.now.signals }
-        requires cleared { All
-            (λ put. IfSome put.cleared
-            (λ f. f < length self.old.pending.items)) slot.now.puts.items }
+        requires cleared { AreCleared self.old.pending.items slot.now.puts.items }
         ensures values { self.new.values ≡ self.old.values }
         ensures room { self.new.room ≡ self.old.room }
         ensures signals { length self.new.heard.items ≡ length self.old.heard.items }
         ensures frames { length self.new.pending.items ≡ length self.old.pending.items }
-        ensures heard { (g : ℕ → Value) → ArePointwise g self.old.heard.items
-            → ArePointwise
-            (λ s. unwrap_or (value_in cluster.now (slot_in slot.now) s) (g s))
-            self.new.heard.items }
-        ensures pending { (f : ℕ)
-            → slice_index_or self.new.pending.items f false
-            ≡ (if is_some (good (slot_in slot.now))
-            then slice_index_or self.old.pending.items f false else
-            (slice_index_or self.old.pending.items f false || is_cleared slot.now.puts.items f)) }
+        ensures heard { HearsSlot cluster.now slot.now self.old.heard.items self.new.heard.items }
+        ensures pending { EndsPending slot.now self.old.pending.items self.new.pending.items }
     {
         if slot.is_good() {
             hear_slot(&mut self.heard, cluster, slot);
@@ -172,7 +159,7 @@ fn restore_one(pending: &mut Vec<bool>, cleared: Option<u16>)
 
 /// The frames whose being pending ended with these responses are pending again.
 fn restore(pending: &mut Vec<bool>, puts: &[Put])
-    requires { All (λ put. IfSome put.cleared (λ f. f < length pending.old.items)) puts.now }
+    requires { AreCleared pending.old.items puts.now }
     ensures frames { length pending.new.items ≡ length pending.old.items }
     ensures pending { (f : ℕ)
         → slice_index_or pending.new.items f false

@@ -1,7 +1,7 @@
 -- No promise rests on this: the hosts' messages.
 use Rattle.std.specs.Prelude.{◌≡◌, ⊤, ℕ, ◌+◌, ◌≤◌, ◌<◌, ◌⊎◌, Bool, true, false, List, [], ◌∷◌, ◌++◌}
 use Rattle.std.specs.Prelude.{drop, flat_map, is_some, if◌then◌else◌, map, take, length, filter, slice_get, Option, Some, None}
-use Rattle.std.specs.Prelude.{option_map}
+use Rattle.std.specs.Prelude.{option_map, nat_lt}
 use Rattle.std.specs.List.{list_any}
 use Rattle.std.specs.Option.{option_map_or}
 use Rattle.lin_frame.specs.Words.{numbers}
@@ -55,6 +55,10 @@ pub record KeepsSender (c : Parts) (past : List LogEntry) (h : ℕ) (host : Host
 -- a host that has sent nothing
 abbrev pub new_host : ℕ → Host
 new_host capacity = record { settled = 0; queue = buffer [] capacity; sender = None; closed = false }
+
+-- a node, where a message of its host waits
+abbrev pub if_waiting : Host → ℕ → Option ℕ
+if_waiting host node = if nat_lt 0 (length host.queue.items) then Some node else None
 
 -- one more message waits, whose step stands at this place in the log
 abbrev pub host_after_send : Host → ℕ → Host
@@ -123,8 +127,11 @@ is_next_to_all c past h =
     list_any (λ (s : Sending). is_to_all s.message.link) (take 1 (waiting c past h))
 
 -- what the responders with an address are told of a message to all, by rising node
+abbrev pub told_one : ℕ → List ℕ → List Event
+told_one h m = MessageEvent 0 h m ∷ []
+
 abbrev pub told_to : Parts → List ℕ → ℕ → List Event
-told_to c m h = if is_some (nad c h) then MessageEvent 0 h m ∷ [] else []
+told_to c m h = if is_some (nad c h) then told_one h m else []
 
 abbrev pub told_to_all : Parts → List ℕ → ℕ → List Event
 told_to_all c m n = flat_map (told_to c m) (numbers n)

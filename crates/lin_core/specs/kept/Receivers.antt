@@ -7,6 +7,8 @@ use Rattle.lin_transport.specs.Receiver.{ear_of, HasHeard, Reads, Reception}
 use Rattle.lin_parts.specs.Cluster.{nad, nodes}
 use Rattle.lin_core.specs.Links.{Link, ear_on, heard_on}
 use Rattle.lin_core.specs.Replies.{link_at}
+use Rattle.lin_core.specs.kept.Hosts.{told_to_all}
+use Rattle.lin_core.specs.declared.event.Event.{Event}
 use Rattle.lin_core.specs.declared.link.Direction.{Direction}
 use Rattle.lin_core.specs.declared.link.Direction.TheVariants.{Down, Up}
 use Rattle.lin_core.specs.History.{LogEntry, Parts}
@@ -20,6 +22,11 @@ receiver_in Up rs = rs.up
 abbrev pub opposite : Direction → Direction
 opposite Down = Up
 opposite Up = Down
+
+-- it hears a frame, over what it had heard, and gives this message or none
+abbrev pub ReadsIn : Direction → Receivers → List ℕ → List Heard → Option (List ℕ) → Receivers → Type 0
+ReadsIn dir old frame heard given new =
+    Reads (receiver_in dir old) frame heard given (receiver_in dir new)
 
 -- a receiver stands for what the receiver of its link is given
 pub record KeepsReceiver (c : Parts) (past : List LogEntry) (l : Link)
@@ -41,7 +48,7 @@ pub record HearsOn (l : Link) (frame : List ℕ) (given : Option (List ℕ))
   pub there : slice_get old l.node ≡ Some was
   pub set : new ≡ slice_set old l.node is
   pub hears : (heard : List Heard) → HasHeard (receiver_in l.dir was) heard
-      → Reads (receiver_in l.dir was) frame heard given (receiver_in l.dir is)
+      → ReadsIn l.dir was frame heard given is
   pub other : receiver_in (opposite l.dir) is ≡ receiver_in (opposite l.dir) was
 
 -- a receiver that was reset, and both of a node
@@ -83,3 +90,15 @@ pub record Completes (frame m : List ℕ) (r : Reception) (heard : List Heard) :
   pub stands : HasHeard r heard
   pub reads : messages_to (ear_of r) (heard_to (ear_of r) frame heard)
       ≡ messages_to (ear_of r) heard ++ m ∷ []
+
+-- it completes this message for the receiver down of each node with an address
+abbrev pub CompletesForAll : Parts → List ℕ → List ℕ → List Receivers → (ℕ → List Heard) → Type 0
+CompletesForAll c frame m receivers heard =
+    (h : ℕ) (r : Receivers) → slice_get receivers h ≡ Some r → is_some (nad c h) ≡ true
+    → Completes frame m r.down (heard h)
+
+-- whatever message it so completes, the events by which the nodes are told of it are so
+abbrev pub TellsAll : Parts → List ℕ → List Receivers → (List Event → Type 0) → Type 0
+TellsAll c frame receivers are =
+    (heard : ℕ → List Heard) (m : List ℕ) → CompletesForAll c frame m receivers heard
+    → are (told_to_all c m (length receivers))

@@ -3,13 +3,13 @@ use Rattle.std.specs.Prelude.{◌≡◌, ℕ, ◌≤◌, ◌<◌, ◌==◌, ◌|
 use Rattle.std.specs.Prelude.{[], ◌∷◌, length, slice_index_or, IsTrue, IfSome, All, vec_capacity}
 use Rattle.std.specs.Prelude.{Option, Some, None, is_some}
 use Rattle.std.specs.List.{list_any}
-use Rattle.std.specs.Option.{option_map_or, unwrap_or}
+use Rattle.std.specs.Option.{option_map_or}
 use Rattle.lin_frame.specs.Bits.{fits_place}
 use Rattle.lin_frame.specs.declared.value.Value.{Value}
 use Rattle.lin_parts.specs.Cluster.{signal_of, frame_of}
 use Rattle.lin_parts.specs.Rules.{place_at}
-use Rattle.lin_core.specs.History.{good, LogEntry, Parts}
-use Rattle.lin_core.specs.Signals.{ArePointwise, value, value_in, heard_value, is_pending}
+use Rattle.lin_core.specs.History.{good, is_in, LogEntry, Parts}
+use Rattle.lin_core.specs.Signals.{ArePointwise, HearsValues, value, value_in, heard_value, is_pending}
 use Rattle.lin_core.specs.Signals.{carried_frame, is_written_since_answer}
 use Rattle.lin_core.specs.kept.Slots.{slot_in}
 use Rattle.lin_core.specs.declared.signals.Signals.{Signals}
@@ -23,6 +23,10 @@ is_cleared ps f = list_any (λ (p : Put). option_map_or (λ g. g == f) p.cleared
 abbrev pub is_cleared_in : Option OpenSlot → ℕ → Bool
 is_cleared_in None f = false
 is_cleared_in (Some s) f = is_cleared s.puts.items f
+
+-- they are frames of which it is kept whether they are pending
+abbrev pub AreCleared : List Bool → List Put → Type 0
+AreCleared flags ps = All (λ (p : Put). IfSome p.cleared (λ f. f < length flags)) ps
 
 -- the only response of a slot: its frame is kept as pending just where a write to one of its
 -- signals stands after it, and no other frame was pending until it
@@ -47,12 +51,30 @@ pub record KeepsSignals (c : Parts) (past : List LogEntry) (slot : Option OpenSl
   pub one : (s : OpenSlot) (p : Put) → slot ≡ Some s → s.puts.items ≡ p ∷ []
       → KeepsOne c past s p signals.pending.items
   pub cleared : (s : OpenSlot) → slot ≡ Some s
-      → All (λ (p : Put). IfSome p.cleared (λ f. f < length signals.pending.items)) s.puts.items
+      → AreCleared signals.pending.items s.puts.items
   pub fits : (s : ℕ) → s < length c.signals
       → IsTrue (fits_place (place_at 0 (signal_of c s)) (value c past s))
   pub room_empty : signals.room.items ≡ []
   pub room_enough : (f : ℕ) → f < length c.frames
       → length (frame_of c f).signals ≤ vec_capacity signals.room
+
+-- the values that are heard after a slot: those that it carries, and all others as before
+abbrev pub HearsSlot : Parts → OpenSlot → List Value → List Value → Type 0
+HearsSlot c slot old new = HearsValues (value_in c (slot_in slot)) old new
+
+-- which frames are pending after a write to a signal
+abbrev pub MarksFrames : Parts → ℕ → List Bool → List Bool → Type 0
+MarksFrames c signal old new =
+    (f : ℕ) → f < length c.frames
+    → slice_index_or new f false
+    ≡ (if is_in (frame_of c f).signals signal then true else slice_index_or old f false)
+
+-- and after a slot: where it isn't seen good, also those that were pending until its responses
+abbrev pub EndsPending : OpenSlot → List Bool → List Bool → Type 0
+EndsPending slot old new =
+    (f : ℕ) → slice_index_or new f false
+    ≡ (if is_some (good (slot_in slot)) then slice_index_or old f false
+    else (slice_index_or old f false || is_cleared slot.puts.items f))
 
 -- the end of a slot: a good one is heard, and the frames that another one carried are pending again
 pub record EndsSlot (c : Parts) (slot : OpenSlot) (signals signals' : Signals) : Type 0 where
@@ -60,8 +82,5 @@ pub record EndsSlot (c : Parts) (slot : OpenSlot) (signals signals' : Signals) :
   pub room : signals'.room ≡ signals.room
   pub heard_count : length signals'.heard.items ≡ length signals.heard.items
   pub count : length signals'.pending.items ≡ length signals.pending.items
-  pub heard : (g : ℕ → Value) → ArePointwise g signals.heard.items
-      → ArePointwise (λ s. unwrap_or (value_in c (slot_in slot) s) (g s)) signals'.heard.items
-  pub pending : (f : ℕ) → slice_index_or signals'.pending.items f false
-      ≡ (if is_some (good (slot_in slot)) then slice_index_or signals.pending.items f false
-      else (slice_index_or signals.pending.items f false || is_cleared slot.puts.items f))
+  pub heard : HearsSlot c slot signals.heard.items signals'.heard.items
+  pub pending : EndsPending slot signals.pending.items signals'.pending.items

@@ -2,11 +2,12 @@
 use Rattle.std.specs.Prelude.{◌≡◌, ⊤, ℕ, ◌+◌, ◌≤◌, ◌<◌, ◌==◌, ◌&&◌, Bool, true, false}
 use Rattle.std.specs.Prelude.{if◌then◌else◌, not, List, [], ◌∷◌, map, length, filter, find}
 use Rattle.std.specs.Prelude.{slice_index, slice_index_or, ◌⊎◌, Option, Some, None, is_some}
-use Rattle.std.specs.Prelude.{option_map, IfSome}
+use Rattle.std.specs.Prelude.{option_map, IfSome, nat_lt}
 use Rattle.std.specs.List.{list_any}
 use Rattle.std.specs.Option.{option_map_or}
 use Rattle.lin_frame.specs.declared.sums.SumKind.{SumKind}
-use Rattle.lin_parts.specs.Cluster.{frame_of, sporadic_of, event_of, line_of}
+use Rattle.lin_frame.specs.Words.{numbers}
+use Rattle.lin_parts.specs.Cluster.{frame_of, sporadic_of, event_of, line_of, nodes}
 use Rattle.lin_parts.specs.Rules.{IsEntry}
 use Rattle.lin_parts.specs.declared.parts.Entry.{Entry}
 use Rattle.lin_parts.specs.declared.parts.Entry.TheVariants.{Frame, Sporadic, Event}
@@ -46,6 +47,10 @@ slot_in s = record {
   left = s.left.items;
   hurt = s.hurt;
 }
+
+-- this is the open slot
+abbrev pub IsOpenSlot : Option OpenSlot → List LogEntry → Type 0
+IsOpenSlot slot past = option_map slot_in slot ≡ open_slot past
 
 -- a slot that opens, and as it is kept
 abbrev pub opening_slot : ℕ → ℕ → Option ℕ → Bool → List ℕ → Slot
@@ -104,6 +109,15 @@ abbrev pub served_by : Due → List ℕ → List ℕ
 served_by FixedDue ready = 0 ∷ []
 served_by SlaveRespDue ready = ready
 served_by due ready = []
+
+-- whether it is for a service, and the nodes that are due in any slot
+abbrev pub is_served : Due → List ℕ → Bool
+is_served due ready = nat_lt 0 (length (served_by due ready))
+
+abbrev pub due_where : Parts → List Bool → Bool → Option ℕ → Due → List ℕ → List ℕ
+due_where c flags waits responder due ready =
+    if is_served due ready then served_by due ready
+    else filter (is_due_of c flags waits responder due) (numbers (nodes c))
 
 -- the frame of a node's response in a slot for an entry, under its header, and in the open slot
 abbrev pub frame_by : Parts → Entry → ℕ → ℕ → Option ℕ

@@ -13,7 +13,7 @@ use Rattle.lin_core.specs.History.{is_clash, open_slot, time, LogEntry, Step, Pa
 use Rattle.lin_core.specs.Logs.{LogData}
 use Rattle.lin_core.specs.Replies.{done_events}
 use Rattle.lin_core.specs.Slots.{moves, responses_after}
-use Rattle.lin_core.specs.kept.Slots.{slot_in, IsThere}
+use Rattle.lin_core.specs.kept.Slots.{slot_in, IsOpenSlot, IsThere}
 use Rattle.lin_core.specs.kept.Signals.{EndsSlot, KeepsSignals}
 use Rattle.lin_core.specs.kept.Hosts.{KeepsHost, KeepsSender}
 use Rattle.lin_core.specs.kept.Receivers.{KeepsHeard}
@@ -35,7 +35,7 @@ use Rattle.lin_core.specs.declared.state.State.{State}
 pub record Keeps (c : Parts) (opening capacity : ℕ) (log past : List LogEntry)
     (slot : Option OpenSlot) (clock : ℕ) (walker : Position) (hosts : List Host)
     (signals : Signals) : Type 0 where
-  pub slot_is : option_map slot_in slot ≡ open_slot past
+  pub slot_is : IsOpenSlot slot past
   pub slot_there : IsThere c slot
   pub clock_is : clock ≡ time c past
   pub clock_few : time c past ≤ 10 ^ 9 * length past

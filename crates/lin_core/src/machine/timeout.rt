@@ -1,7 +1,5 @@
 //! Timeouts.
 
-ghost use Rattle.std.specs.Prelude.{◌≡◌, ◌<◌, None, is_some};
-
 use crate::event::Event;
 use crate::host::{begun_by, next_by};
 use crate::link::{Cause, Link};
@@ -15,15 +13,12 @@ use crate::state::State;
 use crate::step::Step;
 
 impl Core {
-    ghost use Rattle.lin_parts.specs.Cluster.{nodes};
     ghost use Rattle.lin_core.specs.Core.{past_of};
-    ghost use Rattle.lin_core.specs.History.{open_slot};
-    ghost use Rattle.lin_core.specs.Replies.{begun_on};
+    ghost use Rattle.lin_core.specs.kept.Refusals.{KnowsBegun};
 
     /// Whether a message is begun on a link, where no slot is open.
     pub(super) fn is_begun(&self, link: Link) -> bool
-        ensures { link.node < nodes self.now.cluster → open_slot (past_of self.now) ≡ None
-            → is_some (begun_on self.now.cluster (past_of self.now) link.node link.dir) ≡ result }
+        ensures { KnowsBegun self.now.cluster (past_of self.now) link result }
     {
         let hosts = self.state.hosts.as_slice();
         let host = link.sender();

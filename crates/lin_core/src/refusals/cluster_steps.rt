@@ -1,9 +1,9 @@
 //! When a write, a switch, an ask for sleep or a wake is refused.
 
-ghost use Rattle.std.specs.Prelude.{◌≡◌, ℕ, List, option_map};
+ghost use Rattle.std.specs.Prelude.{◌≡◌, ℕ, List};
 ghost use Rattle.lin_parts.specs.declared.parts.Parts.{Parts};
-ghost use Rattle.lin_core.specs.History.{asleep, open_slot};
-ghost use Rattle.lin_core.specs.kept.Slots.{slot_in};
+ghost use Rattle.lin_core.specs.History.{asleep};
+ghost use Rattle.lin_core.specs.kept.Slots.{IsOpenSlot};
 ghost use Rattle.lin_core.specs.Replies.{refusal};
 ghost use Rattle.lin_core.specs.declared.log.LogEntry.{LogEntry};
 
@@ -56,7 +56,7 @@ pub(crate) fn refuse_switch(
     by: PortId,
     table: u16,
 ) -> Option<Refusal>
-    ensures { (capacity : ℕ) (past : List LogEntry) → option_map slot_in slot.now ≡ open_slot past
+    ensures { (capacity : ℕ) (past : List LogEntry) → IsOpenSlot slot.now past
         → result ≡ refusal cluster.now capacity past by (Step.Switch table) }
 {
     if table as usize >= cluster.tables() {

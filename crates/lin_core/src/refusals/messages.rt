@@ -1,11 +1,9 @@
 //! When a send, a timeout or a close is refused.
 
-ghost use Rattle.std.specs.Prelude.{◌≡◌, ◌≢◌, ◌||◌, ℕ, ◌<◌, List, None, length, option_map, is_some};
+ghost use Rattle.std.specs.Prelude.{◌≡◌, ◌≢◌, ◌||◌, ℕ, ◌<◌, List};
 ghost use Rattle.lin_parts.specs.Cluster.{nodes};
-ghost use Rattle.lin_core.specs.History.{is_host_closed, open_slot};
-ghost use Rattle.lin_core.specs.kept.Slots.{slot_in};
-ghost use Rattle.lin_core.specs.Links.{waiting};
-ghost use Rattle.lin_core.specs.Replies.{begun_on, has_route, has_responder_address, most_message_bytes, refusal};
+ghost use Rattle.lin_core.specs.kept.Refusals.{KnowsClosed, KnowsQueue, RefusesTimeout};
+ghost use Rattle.lin_core.specs.Replies.{has_route, has_responder_address, most_message_bytes, refusal};
 ghost use Rattle.lin_transport.specs.Transport.{functional};
 ghost use Rattle.lin_core.specs.declared.log.LogEntry.{LogEntry};
 
@@ -67,21 +65,25 @@ fn has_address(cluster: &Cluster, from: u8, to: u8) -> bool
         || (to == 0 && from != 0 && cluster.nad(from).is_some())
 }
 
-/// Why a send is refused, where this many messages of the sender wait, and it is closed or not.
+/// How many messages of a host wait, how many may, and whether it is closed.
+#[derive(Clone, Copy)]
+pub(crate) struct Queue {
+    pub(crate) waiting: usize,
+    pub(crate) capacity: usize,
+    pub(crate) is_closed: bool,
+}
+
+/// Why a send is refused, where the sender's queue is so.
 pub(crate) fn refuse_send(
     cluster: &Cluster,
-    capacity: usize,
-    queued: usize,
-    shut: bool,
+    queue: Queue,
     by: PortId,
     from: u8,
     to: u8,
     message: &Payload,
 ) -> Option<Refusal>
-    ensures { (past : List LogEntry)
-        → (from < nodes cluster.now
-        → (length (waiting cluster.now past from) ≡ queued) × (is_host_closed past from ≡ shut))
-        → result ≡ refusal cluster.now capacity past by (Step.Send from to message.now) }
+    ensures { (past : List LogEntry) → KnowsQueue cluster.now past from queue
+        → result ≡ refusal cluster.now queue.capacity past by (Step.Send from to message.now) }
 {
     let nodes = cluster.nodes();
     if from as usize >= nodes || (to as usize >= nodes && to != FUNCTIONAL) {
@@ -94,10 +96,10 @@ pub(crate) fn refuse_send(
     if length == 0 || length > longest(to) {
         return Some(Refusal::BadLength);
     }
-    if shut {
+    if queue.is_closed {
         return Some(Refusal::Closed);
     }
-    if queued >= capacity {
+    if queue.waiting >= queue.capacity {
         return Some(Refusal::QueueFull);
     }
     if !may_act(by, from) {
@@ -114,10 +116,7 @@ pub(crate) fn refuse_timeout(
     by: PortId,
     link: Link,
 ) -> Option<Refusal>
-    ensures { (capacity : ℕ) (past : List LogEntry) → option_map slot_in slot.now ≡ open_slot past
-        → (link.node < nodes cluster.now → open_slot past ≡ None
-        → is_some (begun_on cluster.now past link.node link.dir) ≡ begun)
-        → result ≡ refusal cluster.now capacity past by (Step.Timeout link.node link.dir) }
+    ensures { RefusesTimeout cluster.now slot.now begun by link result }
 {
     if link.node as usize >= cluster.nodes() {
         return Some(Refusal::NoSuchNode);
@@ -137,7 +136,7 @@ pub(crate) fn refuse_timeout(
 /// Why a close is refused, where the host is closed or not.
 pub(crate) fn refuse_close(cluster: &Cluster, shut: bool, by: PortId, host: u8) -> Option<Refusal>
     ensures { (capacity : ℕ) (past : List LogEntry)
-        → (host < nodes cluster.now → is_host_closed past host ≡ shut)
+        → KnowsClosed cluster.now past host shut
         → result ≡ refusal cluster.now capacity past by (Step.Close host) }
 {
     if host as usize >= cluster.nodes() {

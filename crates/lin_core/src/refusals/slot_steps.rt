@@ -1,8 +1,8 @@
 //! When a step of a slot is refused.
 
-ghost use Rattle.std.specs.Prelude.{◌≡◌, ℕ, ◌<◌, List, option_map};
-ghost use Rattle.lin_core.specs.History.{asleep, open_slot};
-ghost use Rattle.lin_core.specs.kept.Slots.{slot_in, IsOpen, IsThere};
+ghost use Rattle.std.specs.Prelude.{◌≡◌, ℕ, ◌<◌, List};
+ghost use Rattle.lin_core.specs.History.{asleep};
+ghost use Rattle.lin_core.specs.kept.Slots.{slot_in, IsOpen, IsOpenSlot, IsThere};
 ghost use Rattle.lin_core.specs.Replies.{refusal, may, passes_in};
 ghost use Rattle.lin_parts.specs.declared.parts.Parts.{Parts};
 ghost use Rattle.lin_core.specs.declared.log.LogEntry.{LogEntry};
@@ -30,7 +30,7 @@ fn may_answer(by: PortId, node: u8) -> bool
 /// Why an open is refused, where the cluster is asleep or not.
 pub(crate) fn refuse_open(slot: &Slot, sleeping: bool, by: PortId) -> Option<Refusal>
     ensures { (c : Parts) (capacity : ℕ) (past : List LogEntry)
-        → option_map slot_in slot.now ≡ open_slot past → sleeping ≡ asleep past
+        → IsOpenSlot slot.now past → sleeping ≡ asleep past
         → result ≡ refusal c capacity past by Step.Open }
 {
     if sleeping {
@@ -47,9 +47,9 @@ pub(crate) fn refuse_open(slot: &Slot, sleeping: bool, by: PortId) -> Option<Ref
 
 /// Why an answer, or a response left out, is refused.
 pub(crate) fn refuse_answer(cluster: &Cluster, slot: &Slot, by: PortId, node: u8) -> Option<Refusal>
-    ensures answer { (capacity : ℕ) (past : List LogEntry) → option_map slot_in slot.now ≡ open_slot past
+    ensures answer { (capacity : ℕ) (past : List LogEntry) → IsOpenSlot slot.now past
         → result ≡ refusal cluster.now capacity past by (Step.Answer node) }
-    ensures leave { (capacity : ℕ) (past : List LogEntry) → option_map slot_in slot.now ≡ open_slot past
+    ensures leave { (capacity : ℕ) (past : List LogEntry) → IsOpenSlot slot.now past
         → result ≡ refusal cluster.now capacity past by (Step.Leave node) }
 {
     if node as usize >= cluster.nodes() {
@@ -91,7 +91,7 @@ pub(crate) fn refuse_hurt(
     bytes: &[u8],
 ) -> Option<Refusal>
     requires { IsThere cluster.now slot.now }
-    ensures { (capacity : ℕ) (past : List LogEntry) → option_map slot_in slot.now ≡ open_slot past
+    ensures { (capacity : ℕ) (past : List LogEntry) → IsOpenSlot slot.now past
         → result ≡ refusal cluster.now capacity past by (Step.Hurt bytes.now) }
 {
     if !slot.is_open() {
@@ -116,7 +116,7 @@ pub(crate) fn refuse_hurt(
 /// Why a finish is refused.
 pub(crate) fn refuse_finish(slot: &Slot, by: PortId) -> Option<Refusal>
     ensures { (c : Parts) (capacity : ℕ) (past : List LogEntry)
-        → option_map slot_in slot.now ≡ open_slot past
+        → IsOpenSlot slot.now past
         → result ≡ refusal c capacity past by Step.Finish }
 {
     if !slot.is_open() {
