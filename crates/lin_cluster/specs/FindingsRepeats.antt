@@ -1,5 +1,5 @@
 -- The first two of the numbers that have one value, in place of all of them.
-use Rattle.std.specs.Prelude.{◌≡◌, ℕ, List, count_by, Option, Bool, ◌==◌, ◌&&◌, nat_lt, nat_eq}
+use Rattle.std.specs.Prelude.{◌≡◌, ℕ, List, count_by, Option, Bool, ◌==◌, ◌&&◌, ◌||◌, nat_lt, nat_eq}
 use Rattle.std.specs.Prelude.{false}
 use Rattle.std.specs.Option.{option_map_or}
 use Rattle.indexmap.specs.IndexMap.{IndexMap, get}
@@ -13,6 +13,10 @@ has_one uses x = option_map_or (λ u. is_up_to x u.first) uses false
 
 abbrev pub has_two : Option Uses → Number → Bool
 has_two uses x = option_map_or (λ u. option_map_or (is_up_to x) u.second false) uses false
+
+-- the same with one more, by whether that stands up to the place too
+abbrev pub has_two_with : Option Uses → Number → Bool → Bool
+has_two_with uses x more = has_two uses x || (has_one uses x && more)
 
 -- whether another number has the value of a number and stands up to its place
 abbrev pub is_use : Number → Number → Bool

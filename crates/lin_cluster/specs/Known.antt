@@ -78,6 +78,10 @@ frame_facts d f = record {
 abbrev pub AreFrameFacts : Description → List FrameFacts → Type 0
 AreFrameFacts d facts = facts ≡ map (frame_facts d) d.frames
 
+-- what is known of the frame with a name
+abbrev pub facts_named : Description → Name → Option FrameFacts
+facts_named d n = option_map (frame_facts d) (frame_named d n)
+
 -- the sizes of each sporadic and each event-triggered frame
 abbrev pub AreSizes : Description → List (Option ℕ) → List (Option ℕ) → Type 0
 AreSizes d sporadic events =

@@ -1,6 +1,6 @@
 //! What is wrong with a description, and why there is no cluster.
 
-ghost use Rattle.std.specs.Prelude.{◌≡◌};
+ghost use Rattle.std.specs.Prelude.{◌≡◌, ◌≤◌, [], map, slice_index_or};
 ghost use Rattle.lin_cluster.specs.Kinds.{finding_at, finding_name, number_of};
 
 use lin_parts::Location;
@@ -123,6 +123,16 @@ impl FindingKind {
             FindingKind::ValueOutside => 39,
             FindingKind::ZeroScale => 40,
             FindingKind::KindOfSignal => 41,
+            _ => self.warning_number(),
+        }
+    }
+
+    /// The number of a warning about a description that is valid, 51 to 65 or 68 to 78.
+    fn warning_number(self) -> u8
+        requires { 51 ≤ number_of self }
+        ensures { result ≡ number_of self }
+    {
+        match self {
             FindingKind::UnplacedSignal => 51,
             FindingKind::UnusedFrame => 52,
             FindingKind::UnscheduledFrame => 53,
@@ -148,10 +158,93 @@ impl FindingKind {
             FindingKind::NotConfigurable => 75,
             FindingKind::BadIndex => 76,
             FindingKind::OtherPid => 77,
-            FindingKind::BadIdentity => 78,
+            _ => 78,
         }
     }
 }
+
+/// The names of findings, by their numbers; numbers that no finding has are left free.
+static NAMES: [&str; 79] = [
+    "",
+    "UnknownName",
+    "WrongPublisher",
+    "BadId",
+    "IdTwice",
+    "BadSize",
+    "SignalOutside",
+    "SignalsOverlap",
+    "BadInit",
+    "SlotTooShort",
+    "ZeroDelay",
+    "BadNad",
+    "NadTwice",
+    "BadEventFrame",
+    "BadSporadic",
+    "NestedCollision",
+    "EmptyTable",
+    "LimitPassed",
+    "MixedChecksum",
+    "NoSize",
+    "NoTable",
+    "WideSignal",
+    "Rounded",
+    "ExtraMark",
+    "InitialNad",
+    "ByteOrder",
+    "HeaderLine",
+    "UnknownWord",
+    "",
+    "",
+    "",
+    "BadEncoding",
+    "EncodingTwice",
+    "UnknownEncoding",
+    "UnknownSignal",
+    "RepresentedTwice",
+    "MinAboveMax",
+    "RangesOverlap",
+    "LogicalTwice",
+    "ValueOutside",
+    "ZeroScale",
+    "KindOfSignal",
+    "",
+    "",
+    "",
+    "",
+    "",
+    "",
+    "",
+    "",
+    "",
+    "UnplacedSignal",
+    "UnusedFrame",
+    "UnscheduledFrame",
+    "NoSubscriber",
+    "OwnSubscriber",
+    "OffTimeBase",
+    "NoAddress",
+    "BadResponseError",
+    "BadConfigurable",
+    "UnusedEncoding",
+    "EventMemberBeside",
+    "SporadicMemberBeside",
+    "UnresolvedMember",
+    "ResolvingEntry",
+    "NoResponseError",
+    "",
+    "",
+    "AttributeTwice",
+    "BadAttribute",
+    "TimeoutTooShort",
+    "BadCommand",
+    "UnknownCommand",
+    "NoResponder",
+    "NoProduct",
+    "NotConfigurable",
+    "BadIndex",
+    "OtherPid",
+    "BadIdentity",
+];
 
 /// What is wrong, and where: the finding's number (1 to 27, 31 to 41, 51 to 65 or 68 to 78), line and column,
 /// and for a slot that is too short (9) the time in microseconds that it needs; otherwise 0. Findings are
@@ -184,73 +277,17 @@ impl Finding {
     pub fn name(&self) -> &'static str
         ensures { result.now ≡ finding_name self.now.number }
     {
-        match self.number {
-            1 => "UnknownName",
-            2 => "WrongPublisher",
-            3 => "BadId",
-            4 => "IdTwice",
-            5 => "BadSize",
-            6 => "SignalOutside",
-            7 => "SignalsOverlap",
-            8 => "BadInit",
-            9 => "SlotTooShort",
-            10 => "ZeroDelay",
-            11 => "BadNad",
-            12 => "NadTwice",
-            13 => "BadEventFrame",
-            14 => "BadSporadic",
-            15 => "NestedCollision",
-            16 => "EmptyTable",
-            17 => "LimitPassed",
-            18 => "MixedChecksum",
-            19 => "NoSize",
-            20 => "NoTable",
-            21 => "WideSignal",
-            22 => "Rounded",
-            23 => "ExtraMark",
-            24 => "InitialNad",
-            25 => "ByteOrder",
-            26 => "HeaderLine",
-            27 => "UnknownWord",
-            31 => "BadEncoding",
-            32 => "EncodingTwice",
-            33 => "UnknownEncoding",
-            34 => "UnknownSignal",
-            35 => "RepresentedTwice",
-            36 => "MinAboveMax",
-            37 => "RangesOverlap",
-            38 => "LogicalTwice",
-            39 => "ValueOutside",
-            40 => "ZeroScale",
-            41 => "KindOfSignal",
-            51 => "UnplacedSignal",
-            52 => "UnusedFrame",
-            53 => "UnscheduledFrame",
-            54 => "NoSubscriber",
-            55 => "OwnSubscriber",
-            56 => "OffTimeBase",
-            57 => "NoAddress",
-            58 => "BadResponseError",
-            59 => "BadConfigurable",
-            60 => "UnusedEncoding",
-            61 => "EventMemberBeside",
-            62 => "SporadicMemberBeside",
-            63 => "UnresolvedMember",
-            64 => "ResolvingEntry",
-            65 => "NoResponseError",
-            68 => "AttributeTwice",
-            69 => "BadAttribute",
-            70 => "TimeoutTooShort",
-            71 => "BadCommand",
-            72 => "UnknownCommand",
-            73 => "NoResponder",
-            74 => "NoProduct",
-            75 => "NotConfigurable",
-            76 => "BadIndex",
-            77 => "OtherPid",
-            78 => "BadIdentity",
-            _ => "",
-        }
+        name_at(NAMES.as_slice(), self.number as usize)
+    }
+}
+
+/// The name with a number, or none.
+fn name_at(names: &[&'static str], number: usize) -> &'static str
+    ensures { result.now ≡ slice_index_or (map (λ n. n.now) names.now) number [] }
+{
+    match names.get(number) {
+        Some(name) => *name,
+        None => "",
     }
 }
 

@@ -5,9 +5,8 @@ ghost use Rattle.std.specs.Prelude.{◌≡◌, List, ℕ, OnOk, IfOk, Some, None
 ghost use Rattle.std.specs.List.{position_or_len};
 ghost use Rattle.std.specs.Option.{option_copied, option_or};
 ghost use Rattle.std.specs.Str.{bytes_eq};
-ghost use Rattle.indexmap.specs.IndexMap.{get_by};
 ghost use Rattle.lin_cluster.specs.FindingsNames.{same_name};
-ghost use Rattle.lin_cluster.specs.Names.{NumbersFirst};
+ghost use Rattle.lin_cluster.specs.Names.{NumbersFirst, under};
 
 use indexmap::IndexMap;
 use lin_parts::description::{Attributes, Name};
@@ -54,9 +53,8 @@ pub fn add<'a, V: Copy>(
 ) -> Result<(), AllocError>
     ensures { OnOk result
         ((q : List ℕ)
-        → get_by (λ k. bytes_eq q k.now) map.new
-        ≡ option_or (get_by (λ k. bytes_eq q k.now) map.old)
-        (if bytes_eq name.now q then Some value else None)) }
+        → under map.new q
+        ≡ option_or (under map.old q) (if bytes_eq name.now q then Some value else None)) }
 {
     if !map.contains_key(&name) {
         map.insert(name, value)?;

@@ -8,10 +8,10 @@ ghost use Rattle.std.specs.Option.{option_map, option_map_or};
 ghost use Rattle.indexmap.specs.IndexSet.{contains};
 ghost use Rattle.lin_cluster.specs.Findings.{in_event_member};
 ghost use Rattle.lin_cluster.specs.FindingsMembers.{is_bad_after, is_wrong_after, is_mixed_after};
-ghost use Rattle.lin_cluster.specs.FindingsMembers.{in_member_after};
-ghost use Rattle.lin_cluster.specs.FindingsNames.{frame_named, is_any_frame};
+ghost use Rattle.lin_cluster.specs.FindingsMembers.{in_member_after, in_member_by, AddsPublisher};
+ghost use Rattle.lin_cluster.specs.FindingsNames.{frame_named};
 ghost use Rattle.lin_cluster.specs.FindingsNodes.{is_node_number, is_responder_number};
-ghost use Rattle.lin_cluster.specs.Known.{frame_facts};
+ghost use Rattle.lin_cluster.specs.Known.{facts_named, frame_facts};
 
 use super::facts::FrameFacts;
 use super::judged::DeclarationFacts;
@@ -40,9 +40,7 @@ fn add_publisher(
     frame: Option<FrameFacts>,
 ) -> Result<(), AllocError>
     ensures { OnOk result
-        ((q : ℕ) → contains nat_eq publishers.new q
-        ≡ (contains nat_eq publishers.old q
-        || option_map_or (λ f. is_node_number q f.publisher) frame false)) }
+        (AddsPublisher (contains nat_eq publishers.old) frame (contains nat_eq publishers.new)) }
 {
     if let Some(frame) = frame {
         if let Some(node) = frame.publisher {
@@ -146,13 +144,9 @@ fn add_member(
     ensures found { OnOk result
         (found.new.items
         ≡ found.old.items
-        ++ in_member_after first (contains nat_eq publishers.old) (is_any_frame judged.now member.now)
-        (option_map (frame_facts judged.now) (frame_named judged.now member.now)) member.now) }
-    ensures publishers { OnOk result
-        ((q : ℕ) → contains nat_eq publishers.new q
-        ≡ (contains nat_eq publishers.old q
-        || option_map_or (λ f. is_node_number q f.publisher)
-        (option_map (frame_facts judged.now) (frame_named judged.now member.now)) false)) }
+        ++ in_member_by judged.now first (contains nat_eq publishers.old) member.now) }
+    ensures publishers { OnOk result (AddsPublisher (contains nat_eq publishers.old)
+        (facts_named judged.now member.now) (contains nat_eq publishers.new)) }
 {
     let frame = judged.frame(member);
     let is_known = judged.is_any_frame(frame, member);

@@ -1,12 +1,8 @@
 //! Signals overlap (7): they share bits of their frame, or stand in it twice.
 
-ghost use Rattle.std.specs.Prelude.{◌≡◌, ◌++◌, ◌+◌, ◌<◌, ◌||◌, ◌↔◌, ◌⊎◌, ℕ, Bool, true, nat_eq};
-ghost use Rattle.std.specs.Prelude.{IfOk, IsSome, OnOk, false};
-ghost use Rattle.std.specs.Option.{option_map_or};
-ghost use Rattle.lin_cluster.specs.FindingsNames.{at_number, when};
-ghost use Rattle.lin_cluster.specs.FindingsRanges.{HasBit, IsRanges};
-ghost use Rattle.lin_cluster.specs.FindingsPlaces.{IsTaken, has_bit_between};
-ghost use Rattle.lin_cluster.specs.declared.finding.FindingKind.TheVariants.{SignalsOverlap};
+ghost use Rattle.std.specs.Prelude.{◌≡◌, ◌++◌, ◌↔◌, true, OnOk};
+ghost use Rattle.lin_cluster.specs.FindingsRanges.{IsRanges};
+ghost use Rattle.lin_cluster.specs.FindingsPlaces.{AddsBits, FindsOverlap, IsTaken};
 
 use super::facts::SignalFacts;
 use super::ranges::{Ranges, add_range, is_met};
@@ -38,14 +34,8 @@ pub(super) fn overlap(
     signal: Option<SignalFacts>,
 ) -> Result<(), AllocError>
     requires { IsRanges ranges.now }
-    ensures { OnOk result
-        ((taken : ℕ → Bool)
-        → (IsSome signal → (size : ℕ)
-        → (taken size ≡ true) ↔ IsTaken twice ranges.now placed.now size)
-        → found.new.items
-        ≡ found.old.items
-        ++ when (option_map_or (λ s. taken s.size) signal false)
-        (at_number SignalsOverlap placed.now.offset)) }
+    ensures { OnOk result (FindsOverlap twice ranges.now placed.now signal
+        (λ overlap. found.new.items ≡ found.old.items ++ overlap)) }
 {
     if let Some(signal) = signal {
         let is_wrong = is_taken(twice, ranges, placed, signal.size);
@@ -66,11 +56,7 @@ pub(super) fn add_bits(
 ) -> Result<(), AllocError>
     requires { IsRanges ranges.old }
     ensures apart { OnOk result (IsRanges ranges.new) }
-    ensures meets { OnOk result
-        ((a b : ℕ) → a < b
-        → HasBit ranges.new a b ↔
-        (HasBit ranges.old a b
-        ⊎ (option_map_or (λ s. has_bit_between a b placed.now s.size) signal false ≡ true))) }
+    ensures meets { OnOk result (AddsBits ranges.old placed.now signal ranges.new) }
 {
     if let Some(signal) = signal {
         if 0 < signal.size {

@@ -1,17 +1,13 @@
 //! Signals in their frames: unknown name (1), wrong publisher (2), signal outside (6) and, by
 //! `overlaps`, signals overlap (7).
 
-ghost use Rattle.std.specs.Prelude.{◌≡◌, ◌++◌, ◌<◌, ◌||◌, ◌↔◌, ◌⊎◌, ℕ, Bool, true, false, nat_eq};
-ghost use Rattle.std.specs.Prelude.{IsSome, OnOk};
+ghost use Rattle.std.specs.Prelude.{◌≡◌, ◌++◌, ◌||◌, ℕ, false, nat_eq, OnOk};
 ghost use Rattle.std.specs.List.{flat_map, enumerate_from};
-ghost use Rattle.std.specs.Option.{option_map_or};
 ghost use Rattle.lin_cluster.specs.Findings.{in_placed};
 ghost use Rattle.lin_cluster.specs.FindingsNodes.{are_two};
-ghost use Rattle.lin_cluster.specs.FindingsNames.{at_number, when};
-ghost use Rattle.lin_cluster.specs.FindingsPlaces.{IsTaken, has_number, in_placed_by, is_outside_by};
-ghost use Rattle.lin_cluster.specs.FindingsPlaces.{has_bit_between};
-ghost use Rattle.lin_cluster.specs.FindingsRanges.{HasBit, IsRanges};
-ghost use Rattle.lin_cluster.specs.declared.finding.FindingKind.TheVariants.{SignalsOverlap};
+ghost use Rattle.lin_cluster.specs.FindingsPlaces.{AddsBits, FindsPlaced, has_number, in_placed_by};
+ghost use Rattle.lin_cluster.specs.FindingsPlaces.{is_outside_by};
+ghost use Rattle.lin_cluster.specs.FindingsRanges.{IsRanges};
 
 use super::facts::{AllSignalFacts, SignalFacts};
 use super::numbers::{NumberSet, no_numbers, stands_twice};
@@ -95,25 +91,14 @@ fn add_placed(
     known: (usize, Option<SignalFacts>),
 ) -> Result<(), AllocError>
     requires { IsRanges earlier.old.ranges }
-    ensures found { OnOk result
-        ((taken : ℕ → Bool)
-        → (IsSome known.1 → (size : ℕ)
-        → (taken size ≡ true) ↔
-        IsTaken (has_number earlier.old.numbers known.0) earlier.old.ranges placed.now size)
-        → found.new.items
-        ≡ found.old.items
-        ++ in_placed_by frame.now publisher placed.now known.1
-        ++ when (option_map_or (λ s. taken s.size) known.1 false)
-        (at_number SignalsOverlap placed.now.offset)) }
+    ensures found { OnOk result (FindsPlaced earlier.old frame.now publisher placed.now known
+        found.old.items found.new.items) }
     ensures apart { OnOk result (IsRanges earlier.new.ranges) }
     ensures numbers { OnOk result
         ((q : ℕ) → has_number earlier.new.numbers q
         ≡ (has_number earlier.old.numbers q || nat_eq known.0 q)) }
     ensures ranges { OnOk result
-        ((a b : ℕ) → a < b
-        → HasBit earlier.new.ranges a b ↔
-        (HasBit earlier.old.ranges a b
-        ⊎ (option_map_or (λ s. has_bit_between a b placed.now s.size) known.1 false ≡ true))) }
+        (AddsBits earlier.old.ranges placed.now known.1 earlier.new.ranges) }
 {
     let (number, signal) = known;
     let twice = stands_twice(&mut earlier.numbers, number)?;

@@ -4,7 +4,7 @@ ghost use Rattle.std.specs.Prelude.{◌≡◌, ◌&&◌, ◌||◌, List, OnOk, I
 ghost use Rattle.std.specs.Option.{option_copied, option_map_or};
 ghost use Rattle.indexmap.specs.IndexMap.{get};
 ghost use Rattle.lin_cluster.specs.Identifiers.{is_up_to, is_repeated};
-ghost use Rattle.lin_cluster.specs.FindingsRepeats.{has_one, has_two, is_use, CountsUses};
+ghost use Rattle.lin_cluster.specs.FindingsRepeats.{has_one, has_two, has_two_with, is_use, CountsUses};
 ghost use Rattle.lin_parts.specs.declared.description.Number.{Number};
 
 use indexmap::IndexMap;
@@ -71,8 +71,7 @@ fn with_use(uses: Option<&Uses>, id: Number) -> Uses
         → is_up_to x result.first ≡ (has_one (option_copied uses.entry) x || is_up_to x id) }
     ensures second { (x : Number)
         → option_map_or (is_up_to x) result.second false
-        ≡ (has_two (option_copied uses.entry) x
-        || (has_one (option_copied uses.entry) x && is_up_to x id)) }
+        ≡ has_two_with (option_copied uses.entry) x (is_up_to x id) }
 {
     match uses {
         Some(uses) => {
@@ -101,8 +100,7 @@ fn count(uses: &mut IndexMap<u32, Uses>, id: Number) -> Result<(), AllocError>
     ensures two { OnOk result
         ((x : Number)
         → has_two (get nat_eq uses.new x.value) x
-        ≡ (has_two (get nat_eq uses.old x.value) x
-        || (has_one (get nat_eq uses.old x.value) x && is_use x id))) }
+        ≡ has_two_with (get nat_eq uses.old x.value) x (is_use x id)) }
 {
     let more = with_use(uses.get(&id.value), id);
     uses.insert(id.value, more)?;
