@@ -102,8 +102,8 @@ pub record IsContinued (e : Ear) (frame : List ℕ) (fs : List (List ℕ)) (give
       ≡ option_to_list (message_to e fs) ++ option_to_list given
 
 -- the same over whatever was partial so, for a frame to the receiver's own address
-abbrev pub Continues : Option Part → List ℕ → Option (List ℕ) → Option Part → Type 0
-Continues old frame given new =
+abbrev pub ContinuesPart : Option Part → List ℕ → Option (List ℕ) → Option Part → Type 0
+ContinuesPart old frame given new =
     (e : Ear) (fs : List (List ℕ)) → IsOwn e → slice_index frame 0 ≡ e.nad → Holds e old fs
     → IsContinued e frame fs given new
 

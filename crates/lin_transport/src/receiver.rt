@@ -5,7 +5,7 @@ ghost use Rattle.std.specs.Prelude.{false, slice_index, vec_capacity};
 ghost use Rattle.std.specs.Prelude.{IfOk, IfSome, OnOk, OnErr, IsOk, length};
 ghost use Rattle.lin_transport.specs.Transport.{Heard, begins_message, functional};
 ghost use Rattle.lin_transport.specs.Transport.Heard.{Reset};
-ghost use Rattle.lin_transport.specs.Receiver.{AddsRead, Continues, HasHeard, HasHeardOwn, Reads};
+ghost use Rattle.lin_transport.specs.Receiver.{AddsRead, ContinuesPart, HasHeard, HasHeardOwn, Reads};
 ghost use Rattle.lin_transport.specs.Receiver.{IsBegun, IsReadAs, bytes_given, ear_of};
 
 use crate::pci::{CONSECUTIVE_BYTES, CONSECUTIVE_FRAME, FIRST_FRAME, FUNCTIONAL, SINGLE_BYTES};
@@ -106,7 +106,7 @@ fn begun(alloc: Global, frame: &[u8; 8]) -> Result<Option<Partial>, AllocError>
 // What is partial after a frame that begins no message, and the message that it completes.
 fn continued(partial: Option<Partial>, frame: &[u8; 8]) -> (Option<Partial>, Option<Vec<u8>>)
     requires { 32 ≤ slice_index frame.now 1 }
-    ensures { Continues partial frame.now (bytes_given result.1) result.0 }
+    ensures { ContinuesPart partial frame.now (bytes_given result.1) result.0 }
 {
     let Some(partial) = partial else {
         return (None, None);
