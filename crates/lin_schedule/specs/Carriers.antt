@@ -83,13 +83,15 @@ carriers_of_sporadic s =
     }
 
 -- the entries of the master request frame, and of the slave response frame
+abbrev pub diagnostic_carriers : Bool → Bool → Carriers
+diagnostic_carriers request response =
+    record { frames = []; sporadic = []; events = []; request = request; response = response }
+
 abbrev pub carriers_of_requests : Carriers
-carriers_of_requests =
-    record { frames = []; sporadic = []; events = []; request = true; response = false }
+carriers_of_requests = diagnostic_carriers true false
 
 abbrev pub carriers_of_responses : Carriers
-carriers_of_responses =
-    record { frames = []; sporadic = []; events = []; request = false; response = true }
+carriers_of_responses = diagnostic_carriers false true
 
 -- whether answers can collide in an entry's slot: two frames of its event-triggered frame have a
 -- signal, which may be written, and so both may be pending

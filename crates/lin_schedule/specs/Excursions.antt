@@ -6,6 +6,7 @@ use Rattle.lin_parts.specs.declared.parts.Line.{Line}
 use Rattle.lin_parts.specs.declared.parts.Entry.{Entry}
 use Rattle.lin_parts.specs.declared.parts.Entry.TheVariants.{Event}
 use Rattle.lin_parts.specs.declared.parts.Parts.{Parts}
+use Rattle.lin_parts.specs.Rules.{IsEntry}
 use Rattle.lin_schedule.specs.Ahead.{through, longest_inside, resolving_lines}
 use Rattle.lin_schedule.specs.Carriers.{Carriers, carries, can_collide}
 use Rattle.lin_schedule.specs.declared.excursion.Excursion.{Excursion}
@@ -81,3 +82,7 @@ pub record AreExcursions (c : Parts) (k : Carriers) (n : ℕ)
     (xs : List (Option Excursion)) : Type 0 where
   pub number : length xs ≡ length c.events
   pub each : (e : ℕ) → e < length xs → IsExcursionOf c k n (Event e) (slice_index_or xs e None)
+
+-- and this is an entry of the cluster
+abbrev pub HasExcursions : Parts → Carriers → ℕ → List (Option Excursion) → Entry → Type 0
+HasExcursions c k n xs entry = AreExcursions c k n xs × IsEntry c entry

@@ -74,3 +74,7 @@ greatest f (suc n) = max (greatest f n) (f n)
 abbrev pub longest_of : Parts → Carriers → ℕ → ℕ → ℕ → List ℕ → ℕ → ℕ
 longest_of c k t last n times i =
     longest_from c k (line_of c t i) n (times_after c t last times i)
+
+-- and from all main slots
+abbrev pub longest_in : Parts → Carriers → ℕ → ℕ → ℕ → List ℕ → ℕ
+longest_in c k t last n times = greatest (longest_of c k t last n times) (length (table_of c t))

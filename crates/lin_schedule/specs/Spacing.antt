@@ -7,6 +7,7 @@ use Rattle.lin_parts.specs.declared.parts.Line.{Line}
 use Rattle.lin_parts.specs.declared.parts.Entry.{Entry}
 use Rattle.lin_parts.specs.declared.parts.Entry.TheVariants.{Event}
 use Rattle.lin_parts.specs.Cluster.{line_of, table_of}
+use Rattle.lin_parts.specs.Rules.{IsEntry}
 use Rattle.lin_schedule.specs.Ahead.{resolving_lines}
 use Rattle.lin_schedule.specs.Carriers.{can_collide}
 use Rattle.lin_schedule.specs.Occurs.{is_own, own_entries}
@@ -123,6 +124,10 @@ pub record AreStretches (c : Parts) (f : ℕ) (stretches : List (Option Stretch)
   pub number : length stretches ≡ length c.events
   pub each : (e : ℕ) → e < length stretches
       → IsStretchOf c f (Event e) (slice_index_or stretches e None)
+
+-- and this is an entry of the cluster
+abbrev pub HasStretches : Parts → ℕ → List (Option Stretch) → Entry → Type 0
+HasStretches c f stretches entry = AreStretches c f stretches × IsEntry c entry
 
 -- own slots inside slots that last so long
 abbrev pub AreInside : ℕ → OwnSlots → Type 0

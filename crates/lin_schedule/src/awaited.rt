@@ -11,6 +11,7 @@ ghost use Rattle.lin_schedule.specs.Carriers.{carries, can_collide, has_signals,
 ghost use Rattle.lin_schedule.specs.Carriers.{lists_one, rank};
 ghost use Rattle.lin_schedule.specs.Carriers.{different_in, carriers_of_frames, carriers_of_sporadic};
 ghost use Rattle.lin_schedule.specs.Carriers.{carriers_of_requests, carriers_of_responses};
+ghost use Rattle.lin_schedule.specs.Carriers.{diagnostic_carriers};
 
 use lin_parts::{Cluster, Entry};
 use std::alloc::{AllocError, Global};
@@ -77,30 +78,31 @@ impl Awaited {
         })
     }
 
-    /// A master request frame.
-    pub fn request(alloc: Global) -> Awaited
-        ensures { result ≡ carriers_of_requests }
+    // Diagnostic frames: the master request frame, the slave response frame, or both.
+    fn diagnostic(alloc: Global, request: bool, response: bool) -> Awaited
+        ensures { result ≡ diagnostic_carriers request response }
     {
         Awaited {
             frames: Vec::new(alloc),
             sporadic: Vec::new(alloc),
             events: Vec::new(alloc),
-            request: true,
-            response: false,
+            request,
+            response,
         }
+    }
+
+    /// A master request frame.
+    pub fn request(alloc: Global) -> Awaited
+        ensures { result ≡ carriers_of_requests }
+    {
+        Awaited::diagnostic(alloc, true, false)
     }
 
     /// A slave response frame.
     pub fn response(alloc: Global) -> Awaited
         ensures { result ≡ carriers_of_responses }
     {
-        Awaited {
-            frames: Vec::new(alloc),
-            sporadic: Vec::new(alloc),
-            events: Vec::new(alloc),
-            request: false,
-            response: true,
-        }
+        Awaited::diagnostic(alloc, false, true)
     }
 
     // Whether an entry's slot carries it, unless the answers collide.

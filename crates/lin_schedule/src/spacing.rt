@@ -7,7 +7,7 @@ ghost use Rattle.lin_parts.specs.declared.parts.Entry.TheVariants.{Event};
 ghost use Rattle.lin_parts.specs.declared.parts.Line.{Line};
 ghost use Rattle.lin_parts.specs.declared.parts.Parts.{Parts};
 ghost use Rattle.lin_schedule.specs.Rounds.{back_from};
-ghost use Rattle.lin_schedule.specs.Spacing.{AreBrief, AreGaps, AreInside, AreStretches, HasItsOwn, HasNoOwn, IsOwnSlot};
+ghost use Rattle.lin_schedule.specs.Spacing.{AreBrief, AreGaps, AreInside, AreStretches, HasItsOwn, HasNoOwn, HasStretches, IsOwnSlot};
 ghost use Rattle.lin_schedule.specs.Spacing.{IsBrief, IsStretch, IsStretchOf, one, own_added};
 ghost use Rattle.lin_schedule.specs.Spacing.{gaps_after, gaps_before, gaps_by, least_of, most_of, next_by};
 ghost use Rattle.lin_schedule.specs.Spacing.{pair, spread, with_gap};
@@ -256,11 +256,11 @@ impl Walked {
         requires brief { AreBrief stretches.now }
         ensures shortest { self.new.next.shortest ≤ self.old.next.shortest + 1025000000000 }
         ensures longest { self.new.next.longest ≤ self.old.next.longest + 1025000000000 }
-        ensures least { (c : Parts) → AreStretches c frame stretches.now → IsEntry c line.entry
+        ensures least { (c : Parts) → HasStretches c frame stretches.now line.entry
             → self.new.next.shortest ≡ least_of c frame line self.old.next.shortest }
-        ensures most { (c : Parts) → AreStretches c frame stretches.now → IsEntry c line.entry
+        ensures most { (c : Parts) → HasStretches c frame stretches.now line.entry
             → self.new.next.longest ≡ most_of c frame line self.old.next.longest }
-        ensures gaps { (c : Parts) → AreStretches c frame stretches.now → IsEntry c line.entry
+        ensures gaps { (c : Parts) → HasStretches c frame stretches.now line.entry
             → self.new.gaps ≡ gaps_before c frame line self.old }
     {
         if is_own(line.entry, frame) {

@@ -8,9 +8,9 @@ ghost use Rattle.lin_parts.specs.declared.parts.Parts.{Parts};
 ghost use Rattle.lin_parts.specs.declared.parts.Line.{Line};
 ghost use Rattle.lin_schedule.specs.Carriers.{Carriers};
 ghost use Rattle.lin_schedule.specs.Ahead.{AreTimesAhead, ahead_of, longest_from, next_entry};
-ghost use Rattle.lin_schedule.specs.Excursions.{AreExcursions, HaveSmallSums};
-ghost use Rattle.lin_schedule.specs.Rounds.{AreRows, HasRows, IsSureSlot, after_by, back_from, greatest, is_sure};
-ghost use Rattle.lin_schedule.specs.Rounds.{longest_of, next_time, times_after, times_in};
+ghost use Rattle.lin_schedule.specs.Excursions.{AreExcursions, HasExcursions, HaveSmallSums};
+ghost use Rattle.lin_schedule.specs.Rounds.{AreRows, HasRows, IsSureSlot, after_by, back_from, is_sure};
+ghost use Rattle.lin_schedule.specs.Rounds.{longest_in, next_time, times_in};
 ghost use Rattle.lin_schedule.specs.Walk.{IsWorst};
 
 use crate::after::After;
@@ -43,13 +43,21 @@ pub fn worst_wait(
     let excursions = excursions(alloc, cluster, awaited, count)?;
     let excursions = excursions.as_slice();
     match sure_slot(cluster, table, awaited, excursions) {
-        Some(last) => {
-            let times = times_ahead(alloc, cluster, table, awaited, excursions, last, count)?;
+        Some(slot) => {
+            let last = MainSlot { table, slot };
+            let times = times_ahead(alloc, cluster, last, awaited, excursions, count)?;
             let times = times.as_slice();
-            Ok(Some(longest_wait(cluster, table, excursions, last, count, times)))
+            Ok(Some(longest_wait(cluster, last, excursions, count, times)))
         }
         None => Ok(None),
     }
+}
+
+// A slot of a table that runs undisturbed, by the number of its entry.
+#[derive(Clone, Copy)]
+struct MainSlot {
+    table: u16,
+    slot: u16,
 }
 
 // The first main slot that no walk passes without a slot that carries it.
@@ -88,29 +96,28 @@ fn is_sure(awaited: &Awaited, excursions: &[Option<Excursion>], entry: Entry) ->
 fn times_ahead(
     alloc: Global,
     cluster: &Cluster,
-    table: u16,
+    last: MainSlot,
     awaited: &Awaited,
     excursions: &[Option<Excursion>],
-    last: u16,
     count: usize,
 ) -> Result<Vec<u64>, AllocError>
-    requires table { table < length cluster.now.tables }
+    requires table { last.table < length cluster.now.tables }
     requires short { HaveSmallSums excursions.now }
-    requires last { last < length (table_of cluster.now table) }
+    requires last { last.slot < length (table_of cluster.now last.table) }
     requires few { count ≤ 1024 }
     requires excursions { AreExcursions cluster.now awaited.now count excursions.now }
-    requires sure { is_sure cluster.now awaited.now (line_of cluster.now table last).entry ≡ true }
-    ensures times { IfOk result (λ times. AreTimesAhead cluster.now table awaited.now count
-        (times_in (length (table_of cluster.now table)) last times.items)) }
+    requires sure { is_sure cluster.now awaited.now (line_of cluster.now last.table last.slot).entry ≡ true }
+    ensures times { IfOk result (λ times. AreTimesAhead cluster.now last.table awaited.now count
+        (times_in (length (table_of cluster.now last.table)) last.slot times.items)) }
     ensures rows { IfOk result (λ times.
-        AreRows times.items (length (table_of cluster.now table)) last) }
+        AreRows times.items (length (table_of cluster.now last.table)) last.slot) }
     ensures done { IfOk result (λ times. (place : ℕ)
-        → place < length (table_of cluster.now table) → slice_index times.items place ≡ 0) }
+        → place < length (table_of cluster.now last.table) → slice_index times.items place ≡ 0) }
 {
-    let slots = cluster.entries(table);
+    let slots = cluster.entries(last.table);
     let mut times = vec![in alloc; 0u64; slots]?;
     for _made in 0..slots * count {
-        let time = next_time(cluster, table, awaited, excursions, last, times.as_slice());
+        let time = next_time(cluster, last, awaited, excursions, times.as_slice());
         times.push(time)?;
     }
     Ok(times)
@@ -153,32 +160,31 @@ fn after<'a>(slots: u16, last: u16, slot: u16, times: &'a [u64]) -> After<'a>
 // The time that comes after these.
 fn next_time(
     cluster: &Cluster,
-    table: u16,
+    last: MainSlot,
     awaited: &Awaited,
     excursions: &[Option<Excursion>],
-    last: u16,
     times: &[u64],
 ) -> u64
-    requires table { table < length cluster.now.tables }
+    requires table { last.table < length cluster.now.tables }
     requires short { HaveSmallSums excursions.now }
-    requires rows { AreRows times.now (length (table_of cluster.now table)) last }
-    requires first { length (table_of cluster.now table) ≤ length times.now }
-    requires few { length times.now < 1025 * length (table_of cluster.now table) }
-    requires done { (place : ℕ) → place < length (table_of cluster.now table)
+    requires rows { AreRows times.now (length (table_of cluster.now last.table)) last.slot }
+    requires first { length (table_of cluster.now last.table) ≤ length times.now }
+    requires few { length times.now < 1025 * length (table_of cluster.now last.table) }
+    requires done { (place : ℕ) → place < length (table_of cluster.now last.table)
         → slice_index times.now place ≡ 0 }
     ensures value { (n : ℕ) → AreExcursions cluster.now awaited.now n excursions.now
-        → result ≡ next_time cluster.now awaited.now table last times.now }
+        → result ≡ next_time cluster.now awaited.now last.table last.slot times.now }
     ensures short { result ≤ suc (length times.now) * 1025000000000 }
 {
-    let slots = cluster.entries(table) as u16;
+    let slots = cluster.entries(last.table) as u16;
     let place = times.len() % slots as usize;
-    let slot = back_from(slots, last, place as u16);
+    let slot = back_from(slots, last.slot, place as u16);
     ahead_of(
         awaited,
         excursions,
-        cluster.line_at(table, slot),
+        cluster.line_at(last.table, slot),
         times.len() / slots as usize,
-        &after(slots, last, slot, times),
+        &after(slots, last.slot, slot, times),
     )
 }
 
@@ -196,8 +202,8 @@ fn ahead_of(
     requires few { wanted ≤ 1024 }
     requires rows { HasRows after.now }
     requires done { slice_index after.now.times.now after.now.place ≡ 0 }
-    ensures value { (c : Parts) (n : ℕ) → AreExcursions c awaited.now n excursions.now
-        → IsEntry c line.entry → result ≡ ahead_of c awaited.now line wanted (after_by after.now) }
+    ensures value { (c : Parts) (n : ℕ) → HasExcursions c awaited.now n excursions.now line.entry
+        → result ≡ ahead_of c awaited.now line wanted (after_by after.now) }
     ensures short { result ≤ suc (length after.now.times.now) * 1025000000000 }
 {
     let left = if awaited.carries(line.entry) {
@@ -216,28 +222,26 @@ fn ahead_of(
 // The longest wait from a slot of the table.
 fn longest_wait(
     cluster: &Cluster,
-    table: u16,
+    last: MainSlot,
     excursions: &[Option<Excursion>],
-    last: u16,
     count: usize,
     times: &[u64],
 ) -> u64
-    requires table { table < length cluster.now.tables }
+    requires table { last.table < length cluster.now.tables }
     requires short { HaveSmallSums excursions.now }
-    requires rows { AreRows times.now (length (table_of cluster.now table)) last }
+    requires rows { AreRows times.now (length (table_of cluster.now last.table)) last.slot }
     requires some { 1 ≤ count }
     requires few { count ≤ 1024 }
-    requires done { (place : ℕ) → place < length (table_of cluster.now table)
+    requires done { (place : ℕ) → place < length (table_of cluster.now last.table)
         → slice_index times.now place ≡ 0 }
     ensures { (k : Carriers) → AreExcursions cluster.now k count excursions.now
-        → result ≡ greatest (longest_of cluster.now k table last count times.now)
-        (length (table_of cluster.now table)) }
+        → result ≡ longest_in cluster.now k last.table last.slot count times.now }
 {
-    let slots = cluster.entries(table) as u16;
+    let slots = cluster.entries(last.table) as u16;
     let mut longest: u64 = 0;
     for slot in 0..slots {
-        let line = cluster.line_at(table, slot);
-        let after = after(slots, last, slot, times);
+        let line = cluster.line_at(last.table, slot);
+        let after = after(slots, last.slot, slot, times);
         longest = longest.max(longest_from(excursions, line, count, &after));
     }
     longest
@@ -251,8 +255,8 @@ fn longest_from(excursions: &[Option<Excursion>], line: Line, count: usize, afte
     requires few { count ≤ 1024 }
     requires rows { HasRows after.now }
     requires done { slice_index after.now.times.now after.now.place ≡ 0 }
-    ensures { (c : Parts) (k : Carriers) → AreExcursions c k count excursions.now
-        → IsEntry c line.entry → result ≡ longest_from c k line count (after_by after.now) }
+    ensures { (c : Parts) (k : Carriers) → HasExcursions c k count excursions.now line.entry
+        → result ≡ longest_from c k line count (after_by after.now) }
 {
     let straight = after.of(count);
     let delay = u64::from(line.delay_us);

@@ -34,15 +34,15 @@ loop-back-preserved c =
           let former = c.loop-back.invariant.known each in
           let least : ℕ = least_before parts t f own back in
           let most : ℕ = most_before parts t f own back in (
-            c.add_main.ensures.least parts each there
+            c.add_main.ensures.least parts (each, there)
                 ∙ ap (least_of parts f line) former.0
                 ∙ ap (λ (l : Line). least_of parts f l least) line_is
                 ∙ ap (least_before parts t f own) (sym (add-one back)),
-            c.add_main.ensures.most parts each there
+            c.add_main.ensures.most parts (each, there)
                 ∙ ap (most_of parts f line) former.1
                 ∙ ap (λ (l : Line). most_of parts f l most) line_is
                 ∙ ap (most_before parts t f own) (sym (add-one back)),
-            c.add_main.ensures.gaps parts each there
+            c.add_main.ensures.gaps parts (each, there)
                 ∙ ap (λ (x : ℕ). gaps_of parts f line x long gaps) former.0
                 ∙ ap (λ (x : ℕ). gaps_of parts f line least x gaps) former.1
                 ∙ ap (gaps_of parts f line least most) former.2

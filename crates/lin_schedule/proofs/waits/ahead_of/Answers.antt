@@ -8,7 +8,7 @@ use Rattle.lin_schedule.proofs.waits.ahead_of.Goals as goal
 use Rattle.lin_schedule.proofs.waits.ahead_of.Goals.{then-carries, else-carries, in-Some, in-None}
 
 pub returns-clause-value : goal.returns-clause-value
-returns-clause-value c = λ c' n xs there.
+returns-clause-value c = λ c' n known.
     let k : Carriers = c.args.awaited.now in
     let wanted : ℕ = c.args.wanted in
     let slots : ℕ = c.args.after.now.slots in
@@ -25,9 +25,9 @@ returns-clause-value c = λ c' n xs there.
     elim c.match-excursion_of.branch [
       | in-Some w ↦
           let whole = ahead_of-summary c' k n c.args.line wanted after w.in-Some.excursion.now done c.requires.some
-          (w.in-Some.ensures.is c' k n xs there) in
+          (w.in-Some.ensures.is c' k n known.0 known.1) in
           cc (whole, w.through.ensures.value, w.longer-is, straight_is, w.max-longer.ensures, c.from.ensures)
       | in-None w ↦
-          let whole = ahead_of-straight c' k c.args.line wanted after (w.in-None.ensures.is c' k n xs there) in
+          let whole = ahead_of-straight c' k c.args.line wanted after (w.in-None.ensures.is c' k n known.0 known.1) in
           cc (whole, w.longer-is, straight_is, c.from.ensures)
     ]

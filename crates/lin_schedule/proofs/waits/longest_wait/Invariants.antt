@@ -7,4 +7,4 @@ use Rattle.lin_schedule.proofs.waits.longest_wait.Given as goal
 abbrev pub invariant-loop-slot : goal.invariant-loop-slot
 invariant-loop-slot l =
     (k : Carriers) → AreExcursions l.cluster k l.count l.excursions
-    → l.longest ≡ greatest (longest_of l.cluster k l.table l.last l.count l.times) l.slot
+    → l.longest ≡ greatest (longest_of l.cluster k l.last.table l.last.slot l.count l.times) l.slot

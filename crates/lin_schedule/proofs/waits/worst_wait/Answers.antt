@@ -29,13 +29,13 @@ returns-in-Some c =
     let each : AreExcursions c.args.cluster.now c.args.awaited.now c.args.count c.as_slice-excursions.result.now =
     subst (λ (xs : List (Option Excursion)). AreExcursions c.args.cluster.now c.args.awaited.now c.args.count xs)
     (sym c.as_slice-excursions.ensures.value) c.in_ok-excursions.ensures.each in
-    let known : AreTimesAhead c.args.cluster.now c.args.table c.args.awaited.now c.args.count (times_in slots c.in-Some.last c.as_slice-times.result.now) =
-    subst (λ (xs : List ℕ). AreTimesAhead c.args.cluster.now c.args.table c.args.awaited.now c.args.count (times_in slots c.in-Some.last xs))
+    let known : AreTimesAhead c.args.cluster.now c.args.table c.args.awaited.now c.args.count (times_in slots c.in-Some.slot c.as_slice-times.result.now) =
+    subst (λ (xs : List ℕ). AreTimesAhead c.args.cluster.now c.args.table c.args.awaited.now c.args.count (times_in slots c.in-Some.slot xs))
     (sym c.as_slice-times.ensures.value) c.in_ok-times-in-Some.ensures.times in
     subst (λ (worst : ℕ). IsLongestWait c.args.cluster.now c.args.table c.args.awaited.now c.args.count worst)
     (sym (c.longest_wait.ensures c.args.awaited.now each))
     (greatest-wait c.args.cluster.now c.sound.ensures.rules c.args.table c.requires.table c.args.awaited.now c.args.count c.requires.some
-    (times_in slots c.in-Some.last c.as_slice-times.result.now) known)
+    (times_in slots c.in-Some.slot c.as_slice-times.result.now) known)
 
 pub returns : goal.returns
 returns c =
