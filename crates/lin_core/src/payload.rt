@@ -62,6 +62,9 @@ pub(crate) enum Held {
     Listed(Vec<Event>),
 }
 
+/// The events of a step, or that there is no memory for them.
+pub(crate) type MadeEvents = Result<Events, AllocError>;
+
 /// The events of a step. Contracts see them as a list.
 #[derive(Drop)]
 pub struct Events {

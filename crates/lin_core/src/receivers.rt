@@ -3,10 +3,10 @@
 
 ghost use Rattle.std.specs.Prelude.{◌≡◌, ◌<◌, ℕ, [], List, length, slice_get, Some};
 ghost use Rattle.std.specs.Prelude.{IfOk, OnErr, OnOk};
-ghost use Rattle.lin_transport.specs.Receiver.{HasHeard, bytes_given};
+ghost use Rattle.lin_transport.specs.Receiver.{bytes_given};
 ghost use Rattle.lin_transport.specs.Transport.{Heard};
 ghost use Rattle.lin_core.specs.kept.Receivers.{opposite, receiver_in, HaveHeardAlike, AreReset, HaveRoom, HearsOn, IsReset};
-ghost use Rattle.lin_core.specs.kept.Receivers.{KeepsHeard, ReadsIn};
+ghost use Rattle.lin_core.specs.kept.Receivers.{HasHeardIn, KeepsHeard, ReceivesIn};
 ghost use Rattle.lin_core.specs.declared.receivers.Receivers.{Receivers};
 
 use crate::link::{Direction, Link};
@@ -32,8 +32,8 @@ impl Receivers {
         dir: Direction,
         frame: &[u8; 8],
     ) -> Result<Option<Vec<u8>>, AllocError>
-        ensures hears { (heard : List Heard) → HasHeard (receiver_in dir self.old) heard
-            → IfOk result (λ m. ReadsIn dir self.old frame.now heard (bytes_given m) self.new) }
+        ensures hears { (heard : List Heard) → HasHeardIn dir self.old heard
+            → IfOk result (λ m. ReceivesIn dir self.old frame.now heard (bytes_given m) self.new) }
         ensures other { receiver_in (opposite dir) self.new ≡ receiver_in (opposite dir) self.old }
         ensures unchanged { OnErr result (self.new ≡ self.old) }
     {

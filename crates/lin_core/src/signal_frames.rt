@@ -8,7 +8,7 @@ ghost use Rattle.lin_parts.specs.Cluster.{frame_of, signal_of};
 ghost use Rattle.lin_parts.specs.Rules.{place_at};
 ghost use Rattle.lin_core.specs.History.{good};
 ghost use Rattle.lin_core.specs.kept.Slots.{slot_in, IsOpen};
-ghost use Rattle.lin_core.specs.Signals.{frame_bytes, frame_value, ArePointwise, HearsValues};
+ghost use Rattle.lin_core.specs.Signals.{packed_frame, value_in_frame, ArePointwise, HearsValues};
 ghost use Rattle.lin_core.specs.kept.Signals.{HearsSlot};
 
 use crate::response_frames::frame_by;
@@ -45,7 +45,7 @@ pub(crate) fn frame_answer(
     requires empty { room.old.items ≡ [] }
     requires room { length (frame_of cluster.now frame).signals ≤ vec_capacity room.old }
     ensures answer { (g : ℕ → Value) → ArePointwise g values.now
-        → result ≡ answer_of model header (frame_bytes cluster.now g frame) }
+        → result ≡ answer_of model header (packed_frame cluster.now g frame) }
     ensures empty { room.new.items ≡ [] }
     ensures room { vec_capacity room.old ≤ vec_capacity room.new }
 {
@@ -64,7 +64,7 @@ pub fn hear_frame(heard: &mut Vec<Value>, cluster: &Cluster, frame: u16, answer:
     requires frame { frame < length cluster.now.frames }
     requires count { length heard.old.items ≡ length cluster.now.signals }
     ensures count { length heard.new.items ≡ length heard.old.items }
-    ensures heard { HearsValues (frame_value cluster.now frame answer.now) heard.old.items
+    ensures heard { HearsValues (value_in_frame cluster.now frame answer.now) heard.old.items
         heard.new.items }
 {
     cluster.sound();

@@ -36,3 +36,19 @@ pub enum Step {
     /// A host sends no more messages; those that wait still go.
     Close { host: u8 },
 }
+
+/// A message that a step sends, with its sender and its receiver.
+#[derive(Clone, Copy)]
+pub(crate) struct SendStep<'a> {
+    pub(crate) from: u8,
+    pub(crate) to: u8,
+    pub(crate) message: &'a Payload,
+}
+
+/// A value that a step writes, with the node that writes it and its signal.
+#[derive(Clone, Copy)]
+pub(crate) struct WriteStep<'a> {
+    pub(crate) node: u8,
+    pub(crate) signal: u16,
+    pub(crate) value: &'a Value,
+}

@@ -23,9 +23,13 @@ abbrev pub opposite : Direction → Direction
 opposite Down = Up
 opposite Up = Down
 
+-- what it has heard
+abbrev pub HasHeardIn : Direction → Receivers → List Heard → Type 0
+HasHeardIn dir rs heard = HasHeard (receiver_in dir rs) heard
+
 -- it hears a frame, over what it had heard, and gives this message or none
-abbrev pub ReadsIn : Direction → Receivers → List ℕ → List Heard → Option (List ℕ) → Receivers → Type 0
-ReadsIn dir old frame heard given new =
+abbrev pub ReceivesIn : Direction → Receivers → List ℕ → List Heard → Option (List ℕ) → Receivers → Type 0
+ReceivesIn dir old frame heard given new =
     Reads (receiver_in dir old) frame heard given (receiver_in dir new)
 
 -- a receiver stands for what the receiver of its link is given
@@ -47,8 +51,8 @@ pub record HearsOn (l : Link) (frame : List ℕ) (given : Option (List ℕ))
   pub is : Receivers
   pub there : slice_get old l.node ≡ Some was
   pub set : new ≡ slice_set old l.node is
-  pub hears : (heard : List Heard) → HasHeard (receiver_in l.dir was) heard
-      → ReadsIn l.dir was frame heard given is
+  pub hears : (heard : List Heard) → HasHeardIn l.dir was heard
+      → ReceivesIn l.dir was frame heard given is
   pub other : receiver_in (opposite l.dir) is ≡ receiver_in (opposite l.dir) was
 
 -- a receiver that was reset, and both of a node

@@ -29,6 +29,9 @@ use Rattle.lin_core.specs.declared.setup.Setup.{Setup}
 use Rattle.lin_core.specs.declared.signals.Signals.{Signals}
 use Rattle.lin_core.specs.declared.slot.OpenSlot.{OpenSlot}
 use Rattle.lin_core.specs.declared.state.State.{State}
+use Rattle.lin_core.specs.declared.step.SendStep.{SendStep}
+use Rattle.lin_core.specs.declared.step.Step.TheVariants.{Send, Write}
+use Rattle.lin_core.specs.declared.step.WriteStep.{WriteStep}
 
 -- the open slot, the time, the walker, the queues and the signals are those of this log, whose
 -- newest entry stands first in `past`
@@ -140,3 +143,10 @@ abbrev pub ExecutesStep : {E : Type 0} → Stage → PortId → Step → Result 
 ExecutesStep a by step result new =
     MatchResult result (λ events. IsExecuted a by step events new)
     (λ e. IsConsistent (record a { state = new }))
+
+-- the steps of a message that is sent, and of a value that is written
+abbrev pub send_step : SendStep → Step
+send_step sent = Send sent.from sent.to sent.message.now
+
+abbrev pub write_step : WriteStep → Step
+write_step written = Write written.node written.signal written.value.now

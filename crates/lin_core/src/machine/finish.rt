@@ -8,7 +8,7 @@ use crate::log::Log;
 use crate::machine::{three_events, two_events};
 use crate::messages::message_at;
 use crate::messages_to_all::events_to_all;
-use crate::payload::{Events, Payload};
+use crate::payload::{Events, MadeEvents, Payload};
 use crate::pdu::Pdu;
 use crate::port::PortId;
 use crate::receivers::{hear, make_room_in_all, reset_all};
@@ -33,7 +33,7 @@ impl State {
     ghost use Rattle.lin_core.specs.declared.pdu.Pdu.TheVariants.{OfMessage, Sleep};
 
     /// A finish of a slot by which no message moves on, and the cluster stays awake.
-    pub(super) fn finish_plain(&mut self, setup: &Setup, log: &Log, by: PortId) -> Events
+    fn finish_plain(&mut self, setup: &Setup, log: &Log, by: PortId) -> Events
         requires ready { IsStepReady (stage setup.now log.now self.old) by Step.Finish }
         requires still { (s : OpenedSlot) → open_slot (reverse log.now.entries) ≡ Some s
             → is_still (pdu_of s) s.hurt ≡ true }
@@ -44,13 +44,7 @@ impl State {
     }
 
     /// A finish of a slot with a damaged frame of a host's message, which is lost.
-    pub(super) fn finish_damaged(
-        &mut self,
-        setup: &Setup,
-        log: &Log,
-        by: PortId,
-        sender: u8,
-    ) -> Result<Events, AllocError>
+    fn finish_damaged(&mut self, setup: &Setup, log: &Log, by: PortId, sender: u8) -> MadeEvents
         requires ready { IsStepReady (stage setup.now log.now self.old) by Step.Finish }
         requires carried { (s : OpenedSlot) → open_slot (reverse log.now.entries) ≡ Some s
             → (pdu_of s ≡ OfMessage sender) × (s.hurt ≡ true) }
@@ -71,7 +65,7 @@ impl State {
 
     /// A finish of a slot with a good frame to all responders: each of them that has an address is
     /// told of the message.
-    fn finish_to_all(&mut self, setup: &Setup, log: &Log, by: PortId) -> Result<Events, AllocError>
+    fn finish_to_all(&mut self, setup: &Setup, log: &Log, by: PortId) -> MadeEvents
         requires ready { IsStepReady (stage setup.now log.now self.old) by Step.Finish }
         requires carried { IsCarried (reverse log.now.entries) 0 false }
         requires all { is_next_to_all setup.now.cluster (reverse log.now.entries) 0 ≡ true }
@@ -90,13 +84,7 @@ impl State {
 
     /// A finish of a slot with a good frame of a host's message: the message goes on, or it is
     /// whole, and its receiver is told of it.
-    fn finish_good(
-        &mut self,
-        setup: &Setup,
-        log: &Log,
-        by: PortId,
-        sender: u8,
-    ) -> Result<Events, AllocError>
+    fn finish_good(&mut self, setup: &Setup, log: &Log, by: PortId, sender: u8) -> MadeEvents
         requires ready { IsStepReady (stage setup.now log.now self.old) by Step.Finish }
         requires carried { IsCarried (reverse log.now.entries) sender false }
         ensures { ExecutesStep (stage setup.now log.now self.old) by Step.Finish result self.new }
@@ -136,12 +124,7 @@ impl State {
 
     /// A finish of a slot with the sleep frame, seen good: the cluster goes to sleep, and each
     /// message that is begun is lost.
-    pub(super) fn finish_sleep(
-        &mut self,
-        setup: &Setup,
-        log: &Log,
-        by: PortId,
-    ) -> Result<Events, AllocError>
+    fn finish_sleep(&mut self, setup: &Setup, log: &Log, by: PortId) -> MadeEvents
         requires ready { IsStepReady (stage setup.now log.now self.old) by Step.Finish }
         requires asleep { (s : OpenedSlot) → open_slot (reverse log.now.entries) ≡ Some s
             → (pdu_of s ≡ Sleep) × (s.hurt ≡ false) }
@@ -154,12 +137,7 @@ impl State {
     }
 
     /// A finish.
-    pub(super) fn finish(
-        &mut self,
-        setup: &Setup,
-        log: &Log,
-        by: PortId,
-    ) -> Result<Events, AllocError>
+    pub(super) fn finish(&mut self, setup: &Setup, log: &Log, by: PortId) -> MadeEvents
         requires ready { IsStepReady (stage setup.now log.now self.old) by Step.Finish }
         ensures { ExecutesStep (stage setup.now log.now self.old) by Step.Finish result self.new }
     {

@@ -9,60 +9,46 @@ use crate::link::Link;
 use crate::log::Log;
 use crate::machine::no_events;
 use crate::messages::next_bytes;
-use crate::payload::{Events, Payload};
+use crate::payload::{Events, MadeEvents, Payload};
 use crate::port::PortId;
 use crate::ready::{is_service, service_bytes, slot_nodes};
 use crate::setup::Setup;
 use crate::signal_frames::frame_answer;
 use crate::slot::{Put, is_sleep_asked, opening_events};
 use crate::state::State;
-use crate::step::Step;
+use crate::step::{SendStep, Step, WriteStep};
 use lin_frame::{SumKind, Value, answer};
-use std::alloc::AllocError;
 
 impl State {
     ghost use Rattle.lin_core.specs.kept.Slots.{frame_answered};
     ghost use Rattle.lin_core.specs.Core.{IsSmall};
     ghost use Rattle.lin_core.specs.History.{open_slot, Slot as OpenedSlot};
     ghost use Rattle.lin_core.specs.kept.State.{stage, IsExecuted, IsStepReady, ExecutesStep};
+    ghost use Rattle.lin_core.specs.kept.State.{send_step, write_step};
 
     /// A send that is accepted: its place in the log joins the sender's queue.
-    fn send(
-        &mut self,
-        setup: &Setup,
-        log: &Log,
-        by: PortId,
-        from: u8,
-        to: u8,
-        message: &Payload,
-    ) -> Events
-        requires { IsStepReady (stage setup.now log.now self.old) by (Step.Send from to message.now) }
-        ensures { IsExecuted (stage setup.now log.now self.old) by
-            (Step.Send from to message.now) result self.new }
+    fn send(&mut self, setup: &Setup, log: &Log, by: PortId, sent: SendStep<'_>) -> Events
+        requires { IsStepReady (stage setup.now log.now self.old) by (send_step sent) }
+        ensures { IsExecuted (stage setup.now log.now self.old) by (send_step sent) result self.new }
     {
         let place = log.len() as u32;
-        let host = &mut self.hosts[from as usize];
+        let host = &mut self.hosts[sent.from as usize];
         let number = host.settled + host.queue.len() as u32 + 1;
         host.accept(place);
-        Events::one(Event::Accepted { host: from, number })
+        Events::one(Event::Accepted {
+            host: sent.from,
+            number,
+        })
     }
 
     /// A write: the signal has the value, and its frames are pending.
-    fn write(
-        &mut self,
-        setup: &Setup,
-        log: &Log,
-        by: PortId,
-        node: u8,
-        signal: u16,
-        value: &Value,
-    ) -> Events
-        requires { IsStepReady (stage setup.now log.now self.old) by
-            (Step.Write node signal value.now) }
+    fn write(&mut self, setup: &Setup, log: &Log, by: PortId, written: WriteStep<'_>) -> Events
+        requires { IsStepReady (stage setup.now log.now self.old) by (write_step written) }
         ensures { IsExecuted (stage setup.now log.now self.old) by
-            (Step.Write node signal value.now) result self.new }
+            (write_step written) result self.new }
     {
-        self.signals.write(&setup.cluster, signal, *value);
+        self.signals
+            .write(&setup.cluster, written.signal, *written.value);
         no_events(setup)
     }
 
@@ -76,7 +62,7 @@ impl State {
     }
 
     /// An open: the slot that the schedule names begins.
-    fn open(&mut self, setup: &Setup, log: &Log, by: PortId) -> Result<Events, AllocError>
+    fn open(&mut self, setup: &Setup, log: &Log, by: PortId) -> MadeEvents
         requires ready { IsStepReady (stage setup.now log.now self.old) by Step.Open }
         ensures { ExecutesStep (stage setup.now log.now self.old) by Step.Open result self.new }
     {
@@ -235,24 +221,32 @@ impl State {
     /// Makes a step that isn't refused: the events of it. An error means out of memory, and nothing
     /// is changed.
     #[inline(always)]
-    pub(super) fn make(
-        &mut self,
-        setup: &Setup,
-        log: &Log,
-        by: PortId,
-        step: &Step,
-    ) -> Result<Events, AllocError>
+    pub(super) fn make(&mut self, setup: &Setup, log: &Log, by: PortId, step: &Step) -> MadeEvents
         requires ready { IsStepReady (stage setup.now log.now self.old) by step.now }
         ensures makes { ExecutesStep (stage setup.now log.now self.old) by step.now result self.new }
         ensures small { IsSmall step.now → IsOk result }
     {
         match step {
-            Step::Send { from, to, message } => Ok(self.send(setup, log, by, *from, *to, message)),
+            Step::Send { from, to, message } => {
+                let sent = SendStep {
+                    from: *from,
+                    to: *to,
+                    message,
+                };
+                Ok(self.send(setup, log, by, sent))
+            }
             Step::Write {
                 by: node,
                 signal,
                 value,
-            } => Ok(self.write(setup, log, by, *node, *signal, value)),
+            } => {
+                let written = WriteStep {
+                    node: *node,
+                    signal: *signal,
+                    value,
+                };
+                Ok(self.write(setup, log, by, written))
+            }
             Step::Open => self.open(setup, log, by),
             Step::Answer { node } => Ok(self.answer(setup, log, by, *node)),
             Step::Leave { node } => Ok(self.leave(setup, log, by, *node)),

@@ -72,11 +72,11 @@ pub(crate) fn refuse_switch(
 }
 
 /// Why an ask for sleep is refused, where the cluster is asleep or not.
-pub(crate) fn refuse_ask_sleep(sleeping: bool, by: PortId) -> Option<Refusal>
-    ensures { (c : Parts) (capacity : ℕ) (past : List LogEntry) → sleeping ≡ asleep past
+pub(crate) fn refuse_ask_sleep(sleeps: bool, by: PortId) -> Option<Refusal>
+    ensures { (c : Parts) (capacity : ℕ) (past : List LogEntry) → sleeps ≡ asleep past
         → result ≡ refusal c capacity past by Step.AskSleep }
 {
-    if sleeping {
+    if sleeps {
         return Some(Refusal::Asleep);
     }
     match by {
@@ -86,11 +86,11 @@ pub(crate) fn refuse_ask_sleep(sleeping: bool, by: PortId) -> Option<Refusal>
 }
 
 /// Why a wake is refused, where the cluster is asleep or not.
-pub(crate) fn refuse_wake(sleeping: bool, by: PortId) -> Option<Refusal>
-    ensures { (c : Parts) (capacity : ℕ) (past : List LogEntry) → sleeping ≡ asleep past
+pub(crate) fn refuse_wake(sleeps: bool, by: PortId) -> Option<Refusal>
+    ensures { (c : Parts) (capacity : ℕ) (past : List LogEntry) → sleeps ≡ asleep past
         → result ≡ refusal c capacity past by Step.Wake }
 {
-    if !sleeping {
+    if !sleeps {
         return Some(Refusal::Awake);
     }
     match by {

@@ -2,18 +2,18 @@
 
 ghost use Rattle.std.specs.Prelude.{◌≡◌, ◌≢◌, ◌||◌, ℕ, ◌<◌, List};
 ghost use Rattle.lin_parts.specs.Cluster.{nodes};
+ghost use Rattle.lin_core.specs.kept.State.{send_step};
 ghost use Rattle.lin_core.specs.kept.Refusals.{KnowsClosed, KnowsQueue, RefusesTimeout};
 ghost use Rattle.lin_core.specs.Replies.{has_route, has_responder_address, most_message_bytes, refusal};
 ghost use Rattle.lin_transport.specs.Transport.{functional};
 ghost use Rattle.lin_core.specs.declared.log.LogEntry.{LogEntry};
 
 use crate::link::Link;
-use crate::payload::Payload;
 use crate::port::PortId;
 use crate::refusals::may_act;
 use crate::reply::Refusal;
 use crate::slot::Slot;
-use crate::step::Step;
+use crate::step::{SendStep, Step};
 use lin_parts::Cluster;
 use lin_transport::FUNCTIONAL;
 
@@ -78,14 +78,13 @@ pub(crate) fn refuse_send(
     cluster: &Cluster,
     queue: Queue,
     by: PortId,
-    from: u8,
-    to: u8,
-    message: &Payload,
+    sent: SendStep<'_>,
 ) -> Option<Refusal>
-    ensures { (past : List LogEntry) → KnowsQueue cluster.now past from queue
-        → result ≡ refusal cluster.now queue.capacity past by (Step.Send from to message.now) }
+    ensures { (past : List LogEntry) → KnowsQueue cluster.now past sent.from queue
+        → result ≡ refusal cluster.now queue.capacity past by (send_step sent) }
 {
     let nodes = cluster.nodes();
+    let SendStep { from, to, message } = sent;
     if from as usize >= nodes || (to as usize >= nodes && to != FUNCTIONAL) {
         return Some(Refusal::NoSuchNode);
     }

@@ -28,12 +28,12 @@ fn may_answer(by: PortId, node: u8) -> bool
 }
 
 /// Why an open is refused, where the cluster is asleep or not.
-pub(crate) fn refuse_open(slot: &Slot, sleeping: bool, by: PortId) -> Option<Refusal>
+pub(crate) fn refuse_open(slot: &Slot, sleeps: bool, by: PortId) -> Option<Refusal>
     ensures { (c : Parts) (capacity : ℕ) (past : List LogEntry)
-        → IsOpenSlot slot.now past → sleeping ≡ asleep past
+        → IsOpenSlot slot.now past → sleeps ≡ asleep past
         → result ≡ refusal c capacity past by Step.Open }
 {
-    if sleeping {
+    if sleeps {
         return Some(Refusal::Asleep);
     }
     if slot.is_open() {

@@ -14,10 +14,10 @@ returns c =
     let k = known-inside a w in
     record {
       told = c.no_events.ensures;
-      kept = write-keeps a.cluster a.opening a.capacity a.log (past_in a) a.state.slot a.state.time a.state.walker a.state.hosts.items a.state.signals c.write.new.self c.args.by c.args.node c.args.signal c.args.value.now
+      kept = write-keeps a.cluster a.opening a.capacity a.log (past_in a) a.state.slot a.state.time a.state.walker a.state.hosts.items a.state.signals c.write.new.self c.args.by c.args.written.node c.args.written.signal c.args.written.value.now
           w.sound k c.requires.allowed
           (record { values = c.write.ensures.values; heard = c.write.ensures.heard; room = c.write.ensures.room; count = c.write.ensures.frames; pending = c.write.ensures.pending }) w.kept;
-      late = write-late a.cluster (past_in a) c.args.by c.args.node c.args.signal c.args.value.now a.state.bus a.state.hosts.items w.sound k w.late;
-      heard = heard-same a.cluster (past_in a) (done_of a c.args.by (Write c.args.node c.args.signal c.args.value.now) ∷ past_in a) a.state.receivers.items (λ l i. refl) w.heard;
+      late = write-late a.cluster (past_in a) c.args.by c.args.written.node c.args.written.signal c.args.written.value.now a.state.bus a.state.hosts.items w.sound k w.late;
+      heard = heard-same a.cluster (past_in a) (done_of a c.args.by (Write c.args.written.node c.args.written.signal c.args.written.value.now) ∷ past_in a) a.state.receivers.items (λ l i. refl) w.heard;
       ready = w.ready;
     }
