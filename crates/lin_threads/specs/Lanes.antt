@@ -63,6 +63,12 @@ pub record Serves (base : ℕ) (log : List LogEntry) (lane : Lane) : Type 0 wher
   pub notes : sent lane.notes ≡ notes_told (port_of lane) base lane.seen lane.part log
   pub given : lane.given ≡ length (sent lane.notes)
 
+-- and with the next entry of the log, where it is this one
+abbrev pub ServesNext : Lane → LogEntry → Lane → Type 0
+ServesNext old e new =
+    (base : ℕ) (log : List LogEntry) → Serves base log old → slice_get log old.seen ≡ Some e
+    → Serves base log new
+
 -- one more entry: the core's answer to a step of the port, one that it may give
 pub record AddsEntry (port : PortId) (old new : CoreData) : Type 0 where
   pub step : Step

@@ -39,6 +39,11 @@ TellsGrowth c log base l =
     ≡ reading c (reverse (take base log)) l
     ++ messages_from (host_of l) (notes (drop base log) (port_on l))
 
+-- the same of a link to or from a node with an address
+abbrev pub TellsLink : CoreData → ℕ → Link → Type 0
+TellsLink core base l =
+    is_some (nad core.cluster l.node) ≡ true → TellsGrowth core.cluster core.log base l
+
 -- the messages of the link's sender among these notes are, in order, the first of those by which
 -- the reading of the link grew since a place of the log
 abbrev pub BeginsGrowth : Parts → List LogEntry → ℕ → Link → List Note → Type 0
@@ -52,3 +57,8 @@ abbrev pub BeginsGrowths : CoreData → ℕ → PortId → List Note → Type 0
 BeginsGrowths core base port taken =
     (l : Link) → is_some (nad core.cluster l.node) ≡ true → port_on l ≡ port
     → BeginsGrowth core.cluster core.log base l taken
+
+-- and where they are the first of all notes of the port since then
+abbrev pub TakesGrowths : CoreData → ℕ → PortId → List Note → Type 0
+TakesGrowths core base port taken =
+    IsPrefix taken (notes (drop base core.log) port) → BeginsGrowths core base port taken

@@ -228,8 +228,7 @@ pub fn run_cluster<R: Threads + Wait + Copy + Send + 'static>(
     ensures own { IfOk result (λ r. OnlyOwn (drop (first_entry pump) r.core.log)) }
     ensures receipts { IfOk result (λ r.
         AllZip (IsSettledReceipt (drop (first_entry pump) r.core.log))
-        (handed_in players.hosts.items players.nodes.items)
-        r.receipts.items) }
+        (handed_in players.hosts.items players.nodes.items) r.receipts.items) }
     ensures lists { IfOk result (λ r. AllZip IsByList
         (no_lists players.hosts.items ++ node_lists players.nodes.items plan.leave.items)
         r.receipts.items) }

@@ -9,13 +9,12 @@ use lin_core::{Core, Event, LogEntry, PortId, Refusal, Reply};
 use std::alloc::{AllocError, Global};
 
 impl Lane {
-    ghost use Rattle.std.specs.Prelude.{◌≡◌, ◌<◌, ◌≤◌, ◌+◌, ◌-◌, ◌^◌, ◌⊎◌, ◌∷◌, [], ℕ, List, Some};
+    ghost use Rattle.std.specs.Prelude.{◌≡◌, ◌<◌, ◌≤◌, ◌+◌, ◌-◌, ◌^◌, ◌⊎◌, ◌∷◌, [], ℕ};
     ghost use Rattle.std.specs.Prelude.{true, false, length, MatchResult, MatchBool, IfOk, OnOk};
-    ghost use Rattle.lin_threads.specs.Lanes.{GoesOn, PushesNotes, TellsEvent, Serves, SameLane, port_of};
+    ghost use Rattle.lin_threads.specs.Lanes.{GoesOn, PushesNotes, TellsEvent, Serves, ServesNext, SameLane, port_of};
     ghost use Rattle.lin_threads.specs.Lanes.{HasNoRoom};
     ghost use Rattle.lin_threads.specs.Steps.{event_notes};
     ghost use Rattle.rtrb.specs.Ring.{known_free, sent};
-    ghost use Rattle.std.specs.List.{slice_get};
     ghost use Rattle.lin_core.specs.declared.log.LogEntry.{LogEntry};
     ghost use Rattle.lin_core.specs.declared.reply.Reply.TheVariants.{Done, Refused};
 
@@ -61,11 +60,8 @@ impl Lane {
     fn tell_events(&mut self, alloc: Global, events: &[Event]) -> Result<bool, AllocError>
         requires { self.old.seen < 2 ^ 32 }
         ensures same { SameLane self.old self.new }
-        ensures serves { (base : ℕ) (log : List LogEntry) (e : LogEntry)
-            → Serves base log self.old
-            → slice_get log self.old.seen ≡ Some e
-            → e.reply ≡ Done events.now
-            → Serves base log self.new }
+        ensures serves { (e : LogEntry) → e.reply ≡ Done events.now
+            → ServesNext self.old e self.new }
         ensures next { GoesOn self.old self.new result }
         ensures settled { self.new.settled ≡ self.old.settled }
         ensures full { IfOk result (λ more. more ≡ false → HasNoRoom self.new) }
@@ -87,12 +83,8 @@ impl Lane {
     fn tell_refusal(&mut self, by: PortId, refusal: Refusal) -> bool
         requires seen { self.old.seen < 2 ^ 32 }
         ensures same { SameLane self.old self.new }
-        ensures serves { (base : ℕ) (log : List LogEntry) (e : LogEntry)
-            → Serves base log self.old
-            → slice_get log self.old.seen ≡ Some e
-            → e.port ≡ by
-            → e.reply ≡ Refused refusal
-            → Serves base log self.new }
+        ensures serves { (e : LogEntry) → e.port ≡ by → e.reply ≡ Refused refusal
+            → ServesNext self.old e self.new }
         ensures next { MatchBool result (self.new.seen ≡ self.old.seen + 1)
             (self.new.seen ≡ self.old.seen) }
         ensures settled { self.new.settled ≡ self.old.settled }
@@ -117,8 +109,7 @@ impl Lane {
     fn tell_entry(&mut self, alloc: Global, entry: &LogEntry) -> Result<bool, AllocError>
         requires { self.old.seen < 2 ^ 32 }
         ensures same { SameLane self.old self.new }
-        ensures serves { (base : ℕ) (log : List LogEntry) → Serves base log self.old
-            → slice_get log self.old.seen ≡ Some entry.now → Serves base log self.new }
+        ensures serves { ServesNext self.old entry.now self.new }
         ensures next { GoesOn self.old self.new result }
         ensures full { IfOk result (λ more. more ≡ false → HasNoRoom self.new) }
     {

@@ -5,14 +5,14 @@ use Rattle.lin_threads.proofs.TellLemmas.{serves_event, serves_last, serves_stil
 use Rattle.lin_threads.proofs.ports.lane.Lane.tell_events.Goals as goal
 
 pub returns-in-Ok-false-clause-serves : goal.returns-in-Ok-false-clause-serves
-returns-in-Ok-false-clause-serves c base log e s at is =
+returns-in-Ok-false-clause-serves c e is base log s at =
     let t = rw c.in-Ok-false.field-0-test at c.in-Ok-false.ensures.told in
-    serves_still base log c.loop-at.self c.tell_event.new.self (c.loop-at.invariant.serves base log e s at is) t.0 c.in-Ok-false.ensures.seen t.1
+    serves_still base log c.loop-at.self c.tell_event.new.self (c.loop-at.invariant.serves e is base log s at) t.0 c.in-Ok-false.ensures.seen t.1
 
 pub returns-in-Err-clause-serves : goal.returns-in-Err-clause-serves
-returns-in-Err-clause-serves c base log e s at is =
+returns-in-Err-clause-serves c e is base log s at =
     let t = c.in-Err.ensures.told in
-    serves_still base log c.loop-at.self c.tell_event.new.self (c.loop-at.invariant.serves base log e s at is) t.0 c.in-Err.ensures.seen t.1
+    serves_still base log c.loop-at.self c.tell_event.new.self (c.loop-at.invariant.serves e is base log s at) t.0 c.in-Err.ensures.seen t.1
 
 pub loop-at-preserved : goal.loop-at-preserved
 loop-at-preserved c =
@@ -25,12 +25,12 @@ loop-at-preserved c =
       seen = c.in-Ok-true.ensures.seen ∙ inv.seen;
       settled = t.0.settled ∙ inv.settled;
       part = t.1 ∙ ap (λ (k : ℕ). k + 1) inv.part;
-      serves = λ base log e s at is.
-          serves_event base log e c.args.events.now x c.loop-at.self c.tell_event.new.self (inv.serves base log e s at is) (rw inv.seen at) is here t.0 c.in-Ok-true.ensures.seen t.1;
+      serves = λ e is base log s at.
+          serves_event base log e c.args.events.now x c.loop-at.self c.tell_event.new.self (inv.serves e is base log s at) (rw inv.seen at) is here t.0 c.in-Ok-true.ensures.seen t.1;
     }
 
 pub returns-clause-serves : goal.returns-clause-serves
-returns-clause-serves c base log e s at is =
+returns-clause-serves c e is base log s at =
     let inv = c.loop-at.invariant in
     let full : length c.args.events.now ≤ c.loop-at.self.part = (let p = inv.part in let q = c.loop-at-test.false in omega arith) in
-    serves_last base log e c.args.events.now c.loop-at.self _ (inv.serves base log e s at is) (rw inv.seen at) is full (tells_none c.loop-at.self _ refl refl refl refl refl) refl refl
+    serves_last base log e c.args.events.now c.loop-at.self _ (inv.serves e is base log s at) (rw inv.seen at) is full (tells_none c.loop-at.self _ refl refl refl refl refl) refl refl

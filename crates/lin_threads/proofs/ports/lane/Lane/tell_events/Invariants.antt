@@ -1,8 +1,7 @@
-use Rattle.std.proofs.Common.{◌≡◌, ℕ, List, Some}
-use Rattle.std.specs.List.{slice_get}
+use Rattle.std.proofs.Common.{◌≡◌}
 use Rattle.lin_core.specs.declared.log.LogEntry.{LogEntry}
 use Rattle.lin_core.specs.declared.reply.Reply.TheVariants.{Done}
-use Rattle.lin_threads.specs.Lanes.{Serves, SameLane}
+use Rattle.lin_threads.specs.Lanes.{ServesNext, SameLane}
 use Rattle.lin_threads.proofs.ports.lane.Lane.tell_events.Given as goal
 
 abbrev pub invariant-loop-at : goal.invariant-loop-at
@@ -11,5 +10,5 @@ invariant-loop-at l = record {
   seen : l.self.seen ≡ l.initial.self.seen;
   settled : l.self.settled ≡ l.initial.self.settled;
   part : l.self.part ≡ l.at;
-  serves : (base : ℕ) (log : List LogEntry) (e : LogEntry) → Serves base log l.initial.self → slice_get log l.initial.self.seen ≡ Some e → e.reply ≡ Done l.events → Serves base log l.self;
+  serves : (e : LogEntry) → e.reply ≡ Done l.events → ServesNext l.initial.self e l.self;
 }
