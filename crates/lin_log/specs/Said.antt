@@ -1,5 +1,5 @@
 -- What a line says in a language: the one grammar of steps.
-use Rattle.std.specs.Prelude.{ℕ, ◌==◌, ◌||◌, ◌&&◌, ◌+◌, ◌*◌, ◌++◌, Bool, not, true, false, nat_le, nat_lt}
+use Rattle.std.specs.Prelude.{◌≡◌, ℕ, ◌==◌, ◌||◌, ◌&&◌, ◌+◌, ◌*◌, ◌++◌, Bool, not, true, false, nat_le, nat_lt}
 use Rattle.std.specs.Prelude.{if◌then◌else◌, List, [], ◌∷◌, drop, filter, length, slice_index}
 use Rattle.std.specs.Prelude.{Option, Some, None, Result, Ok, Err, codes, find, option_map, ◌-◌}
 use Rattle.std.specs.List.{slice_split, take_while}
@@ -51,6 +51,10 @@ is_comment free f = free && slice_index f 0 == 35
 abbrev pub fields : Bool → List ℕ → List (List ℕ)
 fields free line =
     take_while (λ f. not (is_comment free f)) (filter is_not_empty (slice_split (is_gap free) line))
+
+-- a line's first field, and what is left of the line
+abbrev pub SplitsField : Bool → List ℕ → List ℕ → List ℕ → Type 0
+SplitsField free line field rest = fields free line ≡ field ∷ fields free rest
 
 abbrev pub no_fields : List (List ℕ) → Bool
 no_fields [] = true

@@ -6,7 +6,7 @@ ghost use Rattle.std.specs.List.{All};
 ghost use Rattle.std.specs.Str.{bytes_eq};
 ghost use Rattle.lin_log.specs.Read.{Gives};
 ghost use Rattle.lin_log.specs.Said.{fields, is_comment, is_gap, is_number, no_fields, number};
-ghost use Rattle.lin_log.specs.Said.{number_field};
+ghost use Rattle.lin_log.specs.Said.{number_field, SplitsField};
 
 use crate::naming::Naming;
 use crate::reason::{LineFault, Reason};
@@ -61,8 +61,7 @@ fn is_comment<N: Naming>(names: &N, line: &[u8]) -> bool
 #[inline]
 pub fn first_field<'a, N: Naming>(names: &N, line: &'a [u8]) -> Option<(&'a [u8], &'a [u8])>
     ensures { MatchOption result (fields (N.language names.now).free line.now ≡ [])
-        (λ x. fields (N.language names.now).free line.now
-        ≡ x.0.now ∷ fields (N.language names.now).free x.1.now) }
+        (λ x. SplitsField (N.language names.now).free line.now x.0.now x.1.now) }
 {
     let rest = without_gaps(names, line);
     if rest.is_empty() || is_comment(names, rest) {

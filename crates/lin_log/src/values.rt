@@ -5,7 +5,7 @@ ghost use Rattle.std.specs.Result.{result_ok};
 ghost use Rattle.hex.specs.Hex.{decode_of, hex_digit_value};
 ghost use Rattle.lin_log.specs.Read.{Gives};
 ghost use Rattle.lin_log.specs.Said.{array_form, bytes_fields, bytes_of, direction_field, fields};
-ghost use Rattle.lin_log.specs.Said.{hex_bytes};
+ghost use Rattle.lin_log.specs.Said.{hex_bytes, SplitsField};
 ghost use Rattle.lin_log.specs.Said.{hex_number, is_hex_number, node_field, hex_row, signal_field};
 ghost use Rattle.lin_log.specs.Said.{table_field, value_field};
 
@@ -100,9 +100,8 @@ fn bytes_of<N: Naming>(
     field: &[u8],
     rest: &[u8],
 ) -> Result<Option<Vec<u8>>, AllocError>
-    requires { fields (N.language names.now).free line.now
-        ≡ field.now ∷ fields (N.language names.now).free rest.now }
-    ensures { IfOk result (λ bytes. option_map (λ v. v.items) bytes
+    requires { SplitsField (N.language names.now).free line.now field.now rest.now }
+    ensures { IfOk result (λ row. option_map (λ v. v.items) row
         ≡ bytes_of (N.language names.now).free field.now
         (fields (N.language names.now).free rest.now)) }
 {
