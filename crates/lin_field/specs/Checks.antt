@@ -18,8 +18,12 @@ same_finding a b =
     a.line == b.line && (a.column == b.column
     && (a.number == b.number && a.needed_us == b.needed_us))
 
+-- whether a finding is one of these
+abbrev pub is_found : List Finding → Finding → Bool
+is_found found f = list_any (same_finding f) found
+
 abbrev pub is_tight : Description → Finding → Bool
-is_tight d f = list_any (same_finding f) (tight_slots d)
+is_tight d f = is_found (tight_slots d) f
 
 -- what is wrong: all that is found but tight slots, and where the order of bytes matters
 abbrev pub wrong : Normalized → List Finding

@@ -3,13 +3,15 @@
 use Rattle.std.specs.Prelude.{ℕ, zero, suc, ◌+◌, ◌-◌, ◌/◌, ◌%◌, ◌==◌, ◌&&◌, ◌≡◌, ◌<◌, List, [], ◌∷◌, ◌++◌}
 use Rattle.std.specs.Prelude.{Bool, false, not, map, filter, find, flat_map, length, Option}
 use Rattle.std.specs.Prelude.{Some, None, codes, drop, zip, nat_lt, slice_index_or, slice_range}
-use Rattle.std.specs.Prelude.{if◌then◌else◌}
+use Rattle.std.specs.Prelude.{if◌then◌else◌, Result}
 use Rattle.std.specs.List.{list_any}
 use Rattle.std.specs.Borrow.{Bor}
 use Rattle.std.specs.Fmt.{decimal}
 use Rattle.std.specs.Option.{option_map_or}
 use Rattle.std.specs.Str.{bytes_eq}
 use Rattle.lin_ldf.specs.Names.{has_name}
+use Rattle.lin_text.specs.Written.{WritesText}
+use Rattle.lin_ldf.specs.Tokens.{AreTokens}
 use Rattle.lin_ldf.specs.Symbols.{is_kind}
 use Rattle.lin_ldf.specs.UpTo.{is_open_brace, is_close_brace}
 use Rattle.lin_ldf.specs.declared.token.Token.{Token}
@@ -30,6 +32,7 @@ use Rattle.lin_parts.specs.declared.description.Table.{Table}
 use Rattle.lin_parts.specs.declared.description.TableEntry.{TableEntry}
 use Rattle.lin_field.specs.Tables.{is_members_name}
 use Rattle.lin_field.specs.declared.loose.Header.{Header}
+use Rattle.lin_field.specs.declared.normalizing.Normalized.{Normalized}
 
 -- ---- parts of a text: WORD '=' list ';', WORD ';' or WORD group
 
@@ -416,3 +419,14 @@ tables_part d =
 
 abbrev pub plain_text : PlainData → List ℕ
 plain_text d = header_part d ++ (frames_part d ++ tables_part d)
+
+-- what a source was settled to
+abbrev pub plain_of : Normalized → List ℕ → List Token → PlainData
+plain_of s source ts = plain_data s.header s.description source ts
+
+-- a beginning of the text of what a source was settled to was written, and after Ok all of it
+abbrev pub WritesPlainText : {E : Type 0} → Normalized → List ℕ → Option (List ℕ) → Option (List ℕ)
+    → Result Unit E → Type 0
+WritesPlainText s source old new result =
+    (ts : List Token) → AreTokens source ts
+    → WritesText old new result (plain_text (plain_of s source ts))

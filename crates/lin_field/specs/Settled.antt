@@ -21,6 +21,7 @@ use Rattle.lin_field.specs.declared.loose.Header.{Header}
 use Rattle.lin_field.specs.declared.loose.Loose.{Loose}
 use Rattle.lin_field.specs.declared.loose.LooseNodes.{LooseNodes}
 use Rattle.lin_field.specs.declared.loose.NodeAddress.{NodeAddress}
+use Rattle.lin_field.specs.declared.normalizing.OfNodes.{OfNodes}
 use Rattle.lin_field.specs.declared.field_text.FieldText.{FieldText}
 
 -- ---- the version
@@ -78,6 +79,12 @@ abbrev pub header_warnings : Header → LooseNodes → List Token → List Findi
 header_warnings h nodes marks =
     map (λ t. finding_at ExtraMark t.line t.column) marks ++ map (at_name HeaderLine) h.unknown
     ++ rounded_warnings h.speed ++ rounded_warnings nodes.time_base ++ rounded_warnings nodes.jitter
+
+-- of signals and attributes
+abbrev pub node_warnings : Header → LooseNodes → OfNodes → List Finding
+node_warnings h nodes of_nodes =
+    flat_map (signal_warnings nodes) of_nodes.signals
+    ++ attribute_warnings (elsewhere_by h nodes of_nodes.addresses) of_nodes.attributes
 
 -- all but tight slots, in the order of the steps
 abbrev pub warnings_of : Loose → List Token → List Finding

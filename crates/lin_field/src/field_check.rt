@@ -6,7 +6,7 @@ ghost use Rattle.std.specs.List.{list_any};
 ghost use Rattle.lin_cluster.specs.Described.{parts_of};
 ghost use Rattle.lin_cluster.specs.Findings.{candidates, finding_cmp};
 ghost use Rattle.lin_field.specs.Times.{tight_slots};
-ghost use Rattle.lin_field.specs.Checks.{same_finding, remark, wrong, IsFieldFree, AreRemarks};
+ghost use Rattle.lin_field.specs.Checks.{is_found, remark, wrong, IsFieldFree, AreRemarks};
 ghost use Rattle.lin_field.specs.Checks.{IsRefusalOf};
 ghost use Rattle.lin_field.specs.declared.field_check.FieldFault.TheVariants.{OutOfMemory};
 
@@ -114,7 +114,7 @@ fn add_findings(
     ensures { OnOk result
         (IsPermutation
         (remarks.old.items
-        ++ map (remark false) (filter (λ f. not (list_any (same_finding f) tight.now)) found.items))
+        ++ map (remark false) (filter (λ f. not (is_found tight.now f)) found.items))
         remarks.new.items) }
 {
     let mut found = found;

@@ -1,12 +1,12 @@
 //! A text of the field, settled to a plain description.
 
-ghost use Rattle.std.specs.Prelude.{◌≡◌, ◌++◌, map, flat_map, IfOk, OnOk};
+ghost use Rattle.std.specs.Prelude.{◌≡◌, ◌++◌, map, IfOk, OnOk};
 ghost use Rattle.std.specs.Option.{option_map};
-ghost use Rattle.lin_field.specs.Attributes.{settled_attributes, attribute_warnings};
+ghost use Rattle.lin_field.specs.Attributes.{settled_attributes};
 ghost use Rattle.lin_field.specs.Settled.{is_old, old_version, tells_tables, normalized_description, warnings};
 ghost use Rattle.lin_field.specs.Settled.{placed_elsewhere};
-ghost use Rattle.lin_field.specs.Settled.{header_warnings, with_kept_tables, elsewhere_by};
-ghost use Rattle.lin_field.specs.Signals.{settled_signal, signal_warnings};
+ghost use Rattle.lin_field.specs.Settled.{header_warnings, with_kept_tables, elsewhere_by, node_warnings};
+ghost use Rattle.lin_field.specs.Signals.{settled_signal};
 ghost use Rattle.lin_field.specs.Order.{byte_order};
 ghost use Rattle.lin_field.specs.Times.{timing_warnings};
 
@@ -116,9 +116,7 @@ fn settle_nodes(
         of_nodes.attributes) }
     ensures warned { OnOk result
         (warned.new.items
-        ≡ warned.old.items ++ flat_map (signal_warnings nodes.now) of_nodes.signals
-        ++ attribute_warnings (elsewhere_by header.now nodes.now of_nodes.addresses)
-        of_nodes.attributes) }
+        ≡ warned.old.items ++ node_warnings header.now nodes.now of_nodes) }
 {
     let OfNodes {
         signals,

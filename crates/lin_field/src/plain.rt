@@ -1,18 +1,16 @@
 //! The settled description as a plain LDF text, with what the text has beside it.
 
-ghost use Rattle.std.specs.Prelude.{◌≡◌, List, [], map, zip, length, codes, if◌then◌else◌};
+ghost use Rattle.std.specs.Prelude.{◌≡◌, [], map, zip, length, codes, if◌then◌else◌};
 ghost use Rattle.std.specs.Prelude.{IfErr, IfOk};
 ghost use Rattle.std.specs.Io.KnownBytes.{Keeps};
-ghost use Rattle.lin_ldf.specs.Tokens.{AreTokens};
-ghost use Rattle.lin_ldf.specs.declared.token.Token.{Token};
-ghost use Rattle.lin_text.specs.Written.{Grows, WritesText};
+ghost use Rattle.lin_text.specs.Written.{Grows};
 ghost use Rattle.lin_field.specs.Plain.{signal_text, frame_text, sporadic_text, kept_text, kept_lines};
 ghost use Rattle.lin_field.specs.Plain.{kept_line, kept_section, kept_sections, other_section};
 ghost use Rattle.lin_field.specs.Plain.{other_sections, language};
 ghost use Rattle.lin_field.specs.Plain.{attribute_text, kept_attributes, block_text, table_text_by};
 ghost use Rattle.lin_field.specs.Plain.{header_text, nodes_text, section_text, events_text, with_parts};
 ghost use Rattle.lin_field.specs.Plain.{blocks_text, tables_text, header_part, frames_part};
-ghost use Rattle.lin_field.specs.Plain.{tables_part, plain_data, plain_text};
+ghost use Rattle.lin_field.specs.Plain.{tables_part, plain_of, plain_text, WritesPlainText};
 
 mod declaration_lines;
 mod table_names;
@@ -302,38 +300,39 @@ fn put_all_blocks<W: Write>(
     }
 }
 
+/// Schedule tables, with their names and with what stands of each in the text.
+#[derive(Clone, Copy)]
+struct NamedTables<'a> {
+    tables: &'a [Table],
+    names: &'a [Text],
+    parts: &'a [&'a [Token]],
+}
+
 /// Schedule tables by their names, with what stands of them in the text.
-fn put_tables<W: Write>(
-    out: &mut TextWriter<'_, W>,
-    source: &[u8],
-    tables: &[Table],
-    names: &[Text],
-    parts: &[&[Token]],
-)
-    requires { length names.now ≡ length tables.now }
+fn put_tables<W: Write>(out: &mut TextWriter<'_, W>, source: &[u8], named: NamedTables<'_>)
+    requires { length named.names.now ≡ length named.tables.now }
     ensures { Grows W.contents out.old out.new
-        (tables_text source.now tables.now names.now (map (λ p. p.now) parts.now)) }
+        (tables_text source.now named.entry.tables.now named.entry.names.now (map (λ p. p.now) named.entry.parts.now)) }
 {
-    if tables.is_empty() {
+    if named.tables.is_empty() {
         return;
     }
     out.put_text("Schedule_tables {\n");
-    put_all_tables(out, source, tables, names, parts);
+    put_all_tables(out, source, named);
     out.put_text("}\n");
 }
 
-fn put_all_tables<W: Write>(
-    out: &mut TextWriter<'_, W>,
-    source: &[u8],
-    tables: &[Table],
-    names: &[Text],
-    parts: &[&[Token]],
-)
-    requires { length names.now ≡ length tables.now }
+fn put_all_tables<W: Write>(out: &mut TextWriter<'_, W>, source: &[u8], named: NamedTables<'_>)
+    requires { length named.names.now ≡ length named.tables.now }
     ensures { Grows W.contents out.old out.new
-        (with_parts (λ p. table_text_by source.now p.0 p.1) (map (λ p. p.now) parts.now) 0
-        (zip tables.now names.now)) }
+        (with_parts (λ p. table_text_by source.now p.0 p.1) (map (λ p. p.now) named.entry.parts.now) 0
+        (zip named.entry.tables.now named.entry.names.now)) }
 {
+    let NamedTables {
+        tables,
+        names,
+        parts,
+    } = named;
     for number in 0..tables.len() {
         let tokens = inside_at(parts, number);
         put_table(out, source, &tables[number], &names[number], tokens);
@@ -408,7 +407,7 @@ impl<'a> Plain<'a> {
         tokens: &'a [Token],
     ) -> Result<Plain<'a>, AllocError>
         ensures { IfOk result
-            (λ p. p ≡ plain_data settled.now.header settled.now.description source.now tokens.now) }
+            (λ p. p ≡ plain_of settled.now source.now tokens.now) }
     {
         let description = &settled.description;
         let parts = parts(alloc, behind_head(tokens))?;
@@ -462,9 +461,12 @@ impl<'a> Plain<'a> {
     {
         let blocks = self.description.attributes();
         put_blocks(out, self.source, blocks, self.blocks.as_slice());
-        let names = self.table_names.as_slice();
-        let tables = self.tables.as_slice();
-        put_tables(out, self.source, self.description.tables(), names, tables);
+        let named = NamedTables {
+            tables: self.description.tables(),
+            names: self.table_names.as_slice(),
+            parts: self.tables.as_slice(),
+        };
+        put_tables(out, self.source, named);
         put_other_sections(out, self.source, self.parts.as_slice());
     }
 
@@ -490,9 +492,8 @@ pub fn write_plain<W: Write>(
     source: &[u8],
     writer: &mut W,
 ) -> Result<Result<(), WriteFailed>, AllocError>
-    ensures text { (ts : List Token) → AreTokens source.now ts
-        → IfOk result (λ written. WritesText (W.contents writer.old) (W.contents writer.new) written
-        (plain_text (plain_data settled.now.header settled.now.description source.now ts))) }
+    ensures text { IfOk result (λ written. WritesPlainText settled.now source.now
+        (W.contents writer.old) (W.contents writer.new) written) }
     ensures kept { IfErr result (λ _. Keeps (W.contents writer.old) (W.contents writer.new)) }
 {
     let tokens = tokens_of(alloc, source)?;

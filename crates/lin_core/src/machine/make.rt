@@ -29,7 +29,7 @@ impl State {
     /// A send that is accepted: its place in the log joins the sender's queue.
     fn send(&mut self, setup: &Setup, log: &Log, by: PortId, sent: SendStep<'_>) -> Events
         requires { IsStepReady (stage setup.now log.now self.old) by (send_step sent) }
-        ensures { IsExecuted (stage setup.now log.now self.old) by (send_step sent) result self.new }
+        ensures { IsExecuted (stage setup.now log.now self.old) by (send_step sent.entry) result self.new }
     {
         let place = log.len() as u32;
         let host = &mut self.hosts[sent.from as usize];
@@ -45,7 +45,7 @@ impl State {
     fn write(&mut self, setup: &Setup, log: &Log, by: PortId, written: WriteStep<'_>) -> Events
         requires { IsStepReady (stage setup.now log.now self.old) by (write_step written) }
         ensures { IsExecuted (stage setup.now log.now self.old) by
-            (write_step written) result self.new }
+            (write_step written.entry) result self.new }
     {
         self.signals
             .write(&setup.cluster, written.signal, *written.value);

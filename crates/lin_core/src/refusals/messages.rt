@@ -80,8 +80,8 @@ pub(crate) fn refuse_send(
     by: PortId,
     sent: SendStep<'_>,
 ) -> Option<Refusal>
-    ensures { (past : List LogEntry) → KnowsQueue cluster.now past sent.from queue
-        → result ≡ refusal cluster.now queue.capacity past by (send_step sent) }
+    ensures { (past : List LogEntry) → KnowsQueue cluster.now past sent.entry.from queue
+        → result ≡ refusal cluster.now queue.capacity past by (send_step sent.entry) }
 {
     let nodes = cluster.nodes();
     let SendStep { from, to, message } = sent;

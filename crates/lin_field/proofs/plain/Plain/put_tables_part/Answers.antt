@@ -15,5 +15,5 @@ returns g c =
     ∙ ap (λ (ps : List (List Token)). blocks_text source c.self.inside.description.now.attributes ps) (ap (map (λ p. p.now)) c.as_slice.ensures.value ∙ i.1) in
     same-growth (ap tables_part c.self.view_is)
     (grows-more (same-growth same c.put_blocks.ensures)
-    (grows-more (rw (c.tables.ensures, c.as_slice-names.ensures.value, c.as_slice-tables.ensures.value, i.3, i.2) at c.put_tables.ensures)
-    (rw (c.as_slice-2.ensures.value, i.0) at c.put_other_sections.ensures)))
+    (grows-more (rw (c.tables.ensures, c.as_slice-2.ensures.value, c.as_slice-3.ensures.value, i.3, i.2) at c.put_tables.ensures)
+    (rw (c.as_slice-4.ensures.value, i.0) at c.put_other_sections.ensures)))
