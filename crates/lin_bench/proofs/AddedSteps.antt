@@ -12,13 +12,13 @@ use Rattle.lin_core.specs.declared.step.Step.{Step}
 use Rattle.lin_core.specs.declared.step.Step.TheVariants.{Finish}
 use Rattle.lin_bench.specs.Added.{added_after, rules_after}
 use Rattle.lin_bench.specs.Adding.{AddedFail, AddsAfterFinish, AreAdded, HasFinished, IsStepFault, MakesAdded}
-use Rattle.lin_bench.specs.Making.{IsGrown, AreExecuted, MakesSteps, RuledData, StepsFail, course_on}
-use Rattle.lin_bench.specs.Slots.{Course, course_after, past_after}
+use Rattle.lin_bench.specs.Making.{IsGrown, IsMadeSo, MakesUnchanged, RuledData, UnchangedFail, course_on}
+use Rattle.lin_bench.specs.Slots.{Course, after_made, past_after}
 use Rattle.lin_bench.specs.declared.rules.Rules.{Rules}
 use Rattle.lin_bench.specs.declared.fault.MakeFault.{MakeFault}
 use Rattle.lin_bench.specs.declared.fault.MakeFault.TheVariants.{LogFull, OutOfMemory}
 use Rattle.lin_bench.proofs.HeardLinks.{finished-slot, past-one}
-use Rattle.lin_bench.proofs.Makes.{adds-nothing, after-longer, grown-more, past-adds, past-longer}
+use Rattle.lin_bench.proofs.Makes.{adds-nothing, grown-more, made-longer, past-adds, past-longer}
 
 past-append : (c : Parts) (o cap : ℕ) (past : List LogEntry) (ss ts : List (PortId × Step))
     → past_after c o cap past (ss ++ ts) ≡ past_after c o cap (past_after c o cap past ss) ts
@@ -88,18 +88,18 @@ finish-course : (a : RuledData) (by : PortId) (c : Parts) (o cap : ℕ) (past fi
       past = past_after c o cap finished (added_after c (entry_of c o cap past (by, Finish)) past rules);
       rules = rules_after c (entry_of c o cap past (by, Finish)) past rules;
     }
-    ≡ course_after c o cap (course_on a) ((by, Finish) ∷ [])
+    ≡ after_made c o cap (course_on a) ((by, Finish) ∷ [])
 finish-course a by c o cap past finished rules p e same fin = rw (p, e, same, fin) refl
 
-alike-course : (a b : CoreData) (at : Course) (ss : List (PortId × Step)) → IsAlike a b → course_after b.cluster b.opening b.capacity at ss ≡ course_after a.cluster a.opening a.capacity at ss
+alike-course : (a b : CoreData) (at : Course) (ss : List (PortId × Step)) → IsAlike a b → after_made b.cluster b.opening b.capacity at ss ≡ after_made a.cluster a.opening a.capacity at ss
 alike-course a b at ss alike =
-    ap (λ c. course_after c b.opening b.capacity at ss) alike.0 ∙ ap (λ o. course_after a.cluster o b.capacity at ss) alike.1
-    ∙ ap (λ k. course_after a.cluster a.opening k at ss) alike.2
+    ap (λ c. after_made c b.opening b.capacity at ss) alike.0 ∙ ap (λ o. after_made a.cluster o b.capacity at ss) alike.1
+    ∙ ap (λ k. after_made a.cluster a.opening k at ss) alike.2
 
 pub finish-added : {X : Type 0} (a b d : RuledData) (by : PortId) (s : Slot) (r : Result X MakeFault)
     → AreAdded a.core ((by, Finish) ∷ []) b.core → b.rules ≡ a.rules → HasFinished b.core by (past_of a.core) s
     → AddsAfterFinish b (entry_of b.core.cluster b.core.opening b.core.capacity (past_of a.core) (by, Finish)) (past_of a.core) r d
-    → MakesSteps a ((by, Finish) ∷ []) r d
+    → MakesUnchanged a ((by, Finish) ∷ []) r d
 finish-added a b d by s (Ok x) p same fin q =
     let is = ap is_some (finished-slot b.core.cluster b.core.opening b.core.capacity (past_of a.core) by s fin.slot fin.may) in
     record {
@@ -124,7 +124,7 @@ has-finished a b by s p e m = record { newest = rw (p.alike.0, p.alike.1, p.alik
 
 -- ---- other steps
 pub plain-made : (a b : RuledData) (by : PortId) (step : Step) → AreAdded a.core ((by, step) ∷ []) b.core → b.rules ≡ a.rules
-    → is_some (finished_slot (entry_with_reply a.core by step) (past_of a.core)) ≡ false → AreExecuted a ((by, step) ∷ []) b
+    → is_some (finished_slot (entry_with_reply a.core by step) (past_of a.core)) ≡ false → IsMadeSo a ((by, step) ∷ []) b
 plain-made a b by step p same none =
     record {
       course =
@@ -133,9 +133,9 @@ plain-made a b by step p same none =
       alike = p.alike;
     }
 
-pub plain-fails : (fault : MakeFault) (a : RuledData) (by : PortId) (step : Step) → AddedFail fault a.core ((by, step) ∷ []) → StepsFail fault a ((by, step) ∷ [])
+pub plain-fails : (fault : MakeFault) (a : RuledData) (by : PortId) (step : Step) → AddedFail fault a.core ((by, step) ∷ []) → UnchangedFail fault a ((by, step) ∷ [])
 plain-fails LogFull a by step full =
-    let more = after-longer a.core.cluster a.core.opening a.core.capacity (course_on a) ((by, step) ∷ []) in
+    let more = made-longer a.core.cluster a.core.opening a.core.capacity (course_on a) ((by, step) ∷ []) in
     omega (arith, more, full)
 plain-fails OutOfMemory a by step none = tt
 

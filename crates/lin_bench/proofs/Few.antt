@@ -15,12 +15,16 @@ use Rattle.lin_core.specs.declared.port.PortId.TheVariants.{Bus}
 use Rattle.lin_core.specs.declared.reply.Refusal.{Refusal}
 use Rattle.lin_core.specs.declared.reply.Reply.TheVariants.{Done, Refused}
 use Rattle.lin_core.specs.declared.step.Step.{Step}
-use Rattle.lin_core.specs.declared.step.Step.TheVariants.{Open, Finish}
+use Rattle.lin_core.specs.declared.step.Step.TheVariants.{Open, Leave, Hurt, Finish}
 use Rattle.lin_bench.specs.Made.{BenchState, course_of, expects, bench_with_verdict, made, made_within, said, slots_made, bench_after_steps}
-use Rattle.lin_bench.specs.Played.{initial_bench, in_turn, next, line_result}
-use Rattle.lin_bench.specs.Plays.{EndsWithFullLog, Overfills, PlayFails, has_rule, is_rule}
-use Rattle.lin_bench.specs.Rules.{no_rules}
+use Rattle.lin_bench.specs.Faults.{disturbed_steps, struck}
+use Rattle.lin_bench.specs.Played.{first_under, in_turn, next, line_result}
+use Rattle.lin_bench.specs.Plays.{EndsWithFullLog, OverfillsUnder, PlayFails, PlaysUnder, has_rule, is_rule}
 use Rattle.lin_bench.specs.Slots.{Course, course_after, decision, due_in, due_node, due_now, extent_steps, hurt_steps, is_opened, most, past_after, slot_limit, slot_rest, slot_steps, ended_slot_count, slots_steps}
+use Rattle.lin_bench.specs.declared.faults.ArmedFault.{ArmedFault}
+use Rattle.lin_bench.specs.declared.faults.SlotFault.{SlotFault}
+use Rattle.lin_bench.specs.declared.playing.Played.{Played}
+use Rattle.lin_bench.specs.declared.playing.PlayedUnder.{PlayedUnder}
 use Rattle.lin_bench.specs.declared.fault.PlayFault.{PlayFault}
 use Rattle.lin_bench.specs.declared.fault.PlayFault.TheVariants.{SlotLimit, LogFull, OutOfMemory}
 use Rattle.lin_bench.specs.declared.line.Disturbance.{Disturbance}
@@ -32,8 +36,8 @@ use Rattle.lin_bench.specs.declared.line.ScriptLine.TheVariants as line
 use Rattle.lin_bench.specs.declared.got.Verdict.{Verdict}
 use Rattle.lin_bench.specs.declared.rules.Rules.{Rules}
 use Rattle.lin_bench.proofs.DueFew.{IsSmall, nodes-few}
-use Rattle.lin_bench.proofs.Makes.{past-longer}
-use Rattle.lin_bench.proofs.RuleLaws.{unchanged}
+use Rattle.lin_bench.proofs.Makes.{after_one, disturbed-size, past-longer}
+use Rattle.lin_bench.proofs.RuleLaws.{made-under, no_rules_under}
 use Rattle.lin_bench.proofs.Runs.{told-bench, turns-failed}
 use Rattle.lin_bench.proofs.SlotSteps.{no-slot, one-slot, slots_in-append}
 
@@ -169,36 +173,59 @@ first-few c o cap n b (line.Rule rule) = omega arith
 
 -- what a log and the slots that are left may still come to
 abbrev pub still_to_come : BenchState → ℕ
-still_to_come b = length b.past + most_steps * b.left
+still_to_come b = length b.past + 2 * (most_steps * b.left)
+
+-- ---- where no rule is in force
+abbrev IsUnruled : Rules → Type 0
+IsUnruled r = r ≡ no_rules_under r.faults
+
+-- no rule is in force, and a history has at most n entries more than so many
+record IsUnder (at : Course) (from n : ℕ) : Type 0 where
+  rules : IsUnruled at.rules
+  few : length at.past ≤ from + n
+
+after-under : (c : Parts) (o cap : ℕ) (past : List LogEntry) (faults : List ArmedFault) (ss : List (PortId × Step))
+    → IsUnder (course_after c o cap (record { past = past; rules = no_rules_under faults }) ss) (length past) (2 * length ss)
+after-under c o cap past faults [] = record { rules = refl; few = omega arith }
+after-under c o cap past faults (s ∷ ss) =
+    let then = struck c cap faults past s in
+    let made = disturbed_steps c cap faults past s in
+    let one : after_one c o cap (record { past = past; rules = no_rules_under faults }) s ≡ record { past = past_after c o cap past made; rules = no_rules_under then } =
+    made-under c o cap past then made in
+    let rest = after-under c o cap (past_after c o cap past made) then ss in
+    let longer = past-longer c o cap past made in
+    let two = (disturbed-size c cap faults past s).1 in
+    let all : IsUnder (course_after c o cap (record { past = past_after c o cap past made; rules = no_rules_under then }) ss) (length past) (2 * length (s ∷ ss)) =
+    record { rules = rest.rules; few = omega (arith, rest.few, longer, two) } in
+    subst (λ (k : Course). IsUnder (course_after c o cap k ss) (length past) (2 * length (s ∷ ss))) (sym one) all
 
 -- no rule is in force, and at most so many entries are still to come
 record IsFew (b : BenchState) (most : ℕ) : Type 0 where
-  rules : b.rules ≡ no_rules
+  rules : IsUnruled b.rules
   few : still_to_come b ≤ most
 
 judged-few : (c : Parts) (o : ℕ) (b : BenchState) (what : Option Expected) (n : ℕ) → IsFew b n → IsFew (bench_with_verdict c o b what).0 n
 judged-few c o b None n h = record { rules = h.rules; few = h.few }
 judged-few c o b (Some what) n h = record { rules = h.rules; few = h.few }
 
-stepped-few : (c : Parts) (o cap : ℕ) (b : BenchState) (count : ℕ) (steps : List (PortId × Step)) → b.rules ≡ no_rules → count ≤ b.left
-    → length steps ≤ most_steps * count + 1 → IsFew (bench_after_steps c o cap b count steps) (still_to_come b + 1)
+stepped-few : (c : Parts) (o cap : ℕ) (b : BenchState) (count : ℕ) (steps : List (PortId × Step)) → IsUnruled b.rules → count ≤ b.left
+    → length steps ≤ most_steps * count + 1 → IsFew (bench_after_steps c o cap b count steps) (still_to_come b + 2)
 stepped-few c o cap b count steps none few short =
-    let is : course_after c o cap (course_of b) steps ≡ record { past = past_after c o cap b.past steps; rules = no_rules } =
-    ap (λ (r : Rules). course_after c o cap (record { past = b.past; rules = r }) steps) none ∙ unchanged c o cap b.past steps in
-    let longer = ap (λ (k : Course). length k.past) is ∙ past-longer c o cap b.past steps in
-    record { rules = ap (λ (k : Course). k.rules) is; few = omega (arith, few, short, longer) }
+    let is : course_of b ≡ record { past = b.past; rules = no_rules_under b.rules.faults } = ap (λ (r : Rules). record { past = b.past; rules = r }) none in
+    let all = subst (λ (k : Course). IsUnder (course_after c o cap k steps) (length b.past) (2 * length steps)) (sym is) (after-under c o cap b.past b.rules.faults steps) in
+    record { rules = all.rules; few = omega (arith, few, short, all.few) }
 
-within-few : (c : Parts) (o cap : ℕ) (b : BenchState) (count : ℕ) (steps first : List (PortId × Step)) (what : Option Expected) (t : Bool) → b.rules ≡ no_rules
+within-few : (c : Parts) (o cap : ℕ) (b : BenchState) (count : ℕ) (steps first : List (PortId × Step)) (what : Option Expected) (t : Bool) → IsUnruled b.rules
     → nat_lt b.left count ≡ t → length steps ≤ most_steps * count + 1 → length first ≤ most_steps * b.left + 1
-    → IsFew (made_within c o cap b count steps first what).0 (still_to_come b + 1)
+    → IsFew (made_within c o cap b count steps first what).0 (still_to_come b + 2)
 within-few c o cap b count steps first what true none h all some =
     rw h (stepped-few c o cap b b.left first none (omega arith) some)
 within-few c o cap b count steps first what false none h all some =
     let few : count ≤ b.left = ltb-false b.left count h in
-    rw h (judged-few c o (bench_after_steps c o cap b count steps) what (still_to_come b + 1) (stepped-few c o cap b count steps none few all))
+    rw h (judged-few c o (bench_after_steps c o cap b count steps) what (still_to_come b + 2) (stepped-few c o cap b count steps none few all))
 
-steps-few : (c : Parts) (o cap : ℕ) (b : BenchState) (l : ScriptLine) → IsSmall c → b.rules ≡ no_rules
-    → IsFew (made_within c o cap b (slots_made l (said c o cap most b l)) (said c o cap most b l) (said c o cap (λ e. b.left) b l) (expects l)).0 (still_to_come b + 1)
+steps-few : (c : Parts) (o cap : ℕ) (b : BenchState) (l : ScriptLine) → IsSmall c → IsUnruled b.rules
+    → IsFew (made_within c o cap b (slots_made l (said c o cap most b l)) (said c o cap most b l) (said c o cap (λ e. b.left) b l) (expects l)).0 (still_to_come b + 2)
 steps-few c o cap b l few none =
     let all = said c o cap most b l in
     let some = said c o cap (λ e. b.left) b l in
@@ -206,9 +233,9 @@ steps-few c o cap b l few none =
     (said-few c o cap most b l few)
     (let e = said-few c o cap (λ e. b.left) b l few in omega (arith, e, first-few c o cap b.left b l))
 
--- it grows by one at a line
-made-few : (c : Parts) (o cap : ℕ) (b : BenchState) (l : ScriptLine) → IsSmall c → b.rules ≡ no_rules → is_rule l ≡ false
-    → IsFew (made c o cap b l).0 (still_to_come b + 1)
+-- it grows by two at a line
+made-few : (c : Parts) (o cap : ℕ) (b : BenchState) (l : ScriptLine) → IsSmall c → IsUnruled b.rules → is_rule l ≡ false
+    → IsFew (made c o cap b l).0 (still_to_come b + 2)
 unfolding made
 made-few c o cap b line.Forget few none h = record { rules = none; few = omega arith }
 made-few c o cap b (line.Step by step) few none h = steps-few c o cap b (line.Step by step) few none
@@ -228,8 +255,8 @@ told-few : (n m : ℕ) (b end : BenchState) (v : Verdict) → line_result n b v 
 told-few n m b end v e h = subst (λ (x : BenchState). IsFew x m) (told-bench n b end v e) h
 
 turn-few-by : (c : Parts) (o cap : ℕ) (b end : BenchState) (m : ℕ) (l : ℕ × ScriptLine) (ls : List (ℕ × ScriptLine)) (r : Result BenchState ℕ)
-    → ((mid : BenchState) → IsFew mid m → in_turn c o cap (Ok mid) ls ≡ Ok end → IsFew end (m + length ls))
-    → IsFew (made c o cap b l.1).0 m → next c o cap b l ≡ r → in_turn c o cap r ls ≡ Ok end → IsFew end (m + length ls)
+    → ((mid : BenchState) → IsFew mid m → in_turn c o cap (Ok mid) ls ≡ Ok end → IsFew end (m + 2 * length ls))
+    → IsFew (made c o cap b l.1).0 m → next c o cap b l ≡ r → in_turn c o cap r ls ≡ Ok end → IsFew end (m + 2 * length ls)
 turn-few-by c o cap b end m l ls (Ok mid) more h is e =
     more mid (told-few l.0 m (made c o cap b l.1).0 mid (made c o cap b l.1).1 is h) e
 turn-few-by c o cap b end m l ls (Err n) more h is e = let no : Err n ≡ Ok end = turns-failed c o cap n ls ∙ e in absurd (cc)
@@ -238,35 +265,43 @@ more-few : (b : BenchState) (m n : ℕ) → IsFew b m → m ≤ n → IsFew b n
 more-few b m n h le = record { rules = h.rules; few = omega (arith, h.few, le) }
 
 turns-few : (c : Parts) (o cap : ℕ) (b end : BenchState) (m : ℕ) (ls : List (ℕ × ScriptLine)) → IsSmall c → has_rule ls ≡ false → IsFew b m
-    → in_turn c o cap (Ok b) ls ≡ Ok end → IsFew end (m + length ls)
+    → in_turn c o cap (Ok b) ls ≡ Ok end → IsFew end (m + 2 * length ls)
 turns-few c o cap b end m [] few none h e =
     let same : b ≡ end = cc in
-    subst (λ (x : BenchState). IsFew x (m + 0)) same (more-few b m (m + 0) h (omega arith))
+    subst (λ (x : BenchState). IsFew x (m + 2 * 0)) same (more-few b m (m + 2 * 0) h (omega arith))
 turns-few c o cap b end m (l ∷ ls) few none h e =
     let p = neither (is_rule l.1) (has_rule ls) none in
-    let one = more-few (made c o cap b l.1).0 (still_to_come b + 1) (m + 1) (made-few c o cap b l.1 few h.rules p.0) (omega (arith, h.few)) in
-    let all = turn-few-by c o cap b end (m + 1) l ls (next c o cap b l) (λ mid k d. turns-few c o cap mid end (m + 1) ls few p.1 k d) one refl e in
-    more-few end (m + 1 + length ls) (m + length (l ∷ ls)) all (omega arith)
+    let one = more-few (made c o cap b l.1).0 (still_to_come b + 2) (m + 2) (made-few c o cap b l.1 few h.rules p.0) (omega (arith, h.few)) in
+    let all = turn-few-by c o cap b end (m + 2) l ls (next c o cap b l) (λ mid k d. turns-few c o cap mid end (m + 2) ls few p.1 k d) one refl e in
+    more-few end (m + 2 + 2 * length ls) (m + 2 * length (l ∷ ls)) all (omega arith)
 
 -- lines without a rule never fill a log
-never-full : (c : Parts) (o cap : ℕ) (ls : List (ℕ × ScriptLine)) → IsSmall c → length ls ≤ 16777217 → has_rule ls ≡ false → Overfills c o cap ls → ⊥
-never-full c o cap ls few short none f =
+never-full : (c : Parts) (o cap : ℕ) (fs : List SlotFault) (ls : List (ℕ × ScriptLine)) → IsSmall c → length ls ≤ 16777217 → has_rule ls ≡ false → OverfillsUnder c o cap fs ls → ⊥
+never-full c o cap fs ls few short none f =
     let parts =
     neither (has_rule f.before) (has_rule (f.line ∷ f.behind))
     (sym (list_any-append (λ (l : ℕ × ScriptLine). is_rule l.1) f.before (f.line ∷ f.behind)) ∙ ap has_rule (sym f.all) ∙ none) in
     let at = neither (is_rule f.line.1) (has_rule f.behind) parts.1 in
-    let begun : IsFew initial_bench (most_steps * slot_limit) = record { rules = refl; few = omega arith } in
-    let so_far = turns-few c o cap initial_bench f.bench (most_steps * slot_limit) f.before few parts.0 begun f.so_far in
+    let begun : IsFew (first_under fs) (2 * (most_steps * slot_limit)) = record { rules = refl; few = omega arith } in
+    let so_far = turns-few c o cap (first_under fs) f.bench (2 * (most_steps * slot_limit)) f.before few parts.0 begun f.so_far in
     let line = made-few c o cap f.bench f.line.1 few so_far.rules at.0 in
     let all = ap length f.all ∙ length-append f.before (f.line ∷ f.behind) in
     omega (arith, so_far.few, line.few, all, short, f.full)
 
-full-by : (c : Parts) (o cap : ℕ) (ls : List (ℕ × ScriptLine)) (t : Bool) → has_rule ls ≡ t → IsSmall c → length ls ≤ 16777217 → Overfills c o cap ls → has_rule ls ≡ true
-full-by c o cap ls true h few short f = h
-full-by c o cap ls false h few short f = absurd (never-full c o cap ls few short h f)
+full-by : (c : Parts) (o cap : ℕ) (fs : List SlotFault) (ls : List (ℕ × ScriptLine)) (t : Bool) → has_rule ls ≡ t → IsSmall c → length ls ≤ 16777217 → OverfillsUnder c o cap fs ls
+    → has_rule ls ≡ true
+full-by c o cap fs ls true h few short f = h
+full-by c o cap fs ls false h few short f = absurd (never-full c o cap fs ls few short h f)
 
 pub full-by-rule : (strict : Bool) (c : Parts) (o cap : ℕ) (ls : List (ℕ × ScriptLine)) (fault : PlayFault) → IsSmall c → PlayFails strict c o cap ls fault → length ls ≤ 16777217
-    → EndsWithFullLog (Err fault) → has_rule ls ≡ true
+    → EndsWithFullLog {X = Played} (Err fault) → has_rule ls ≡ true
 full-by-rule strict c o cap ls (SlotLimit n) few fails short full = absurd full
-full-by-rule strict c o cap ls LogFull few fails short full = full-by c o cap ls (has_rule ls) refl few short fails
+full-by-rule strict c o cap ls LogFull few fails short full = full-by c o cap [] ls (has_rule ls) refl few short fails
 full-by-rule strict c o cap ls OutOfMemory few fails short full = absurd full
+
+-- likewise under faults
+pub full-under-by-rule : (strict : Bool) (c : Parts) (o cap : ℕ) (fs : List SlotFault) (ls : List (ℕ × ScriptLine)) (fault : PlayFault) → IsSmall c
+    → PlaysUnder strict c o cap fs ls (Err fault) → length ls ≤ 16777217 → EndsWithFullLog {X = PlayedUnder} (Err fault) → has_rule ls ≡ true
+full-under-by-rule strict c o cap fs ls (SlotLimit n) few plays short full = absurd full
+full-under-by-rule strict c o cap fs ls LogFull few plays short full = full-by c o cap fs ls (has_rule ls) refl few short plays
+full-under-by-rule strict c o cap fs ls OutOfMemory few plays short full = absurd full

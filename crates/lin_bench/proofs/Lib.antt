@@ -10,6 +10,7 @@ pub mod AllValues
 pub mod CountedValues
 pub mod Appending
 pub mod BadLines
+pub mod FaultSteps
 pub mod Makes
 pub mod SlotSteps
 pub mod Events
@@ -22,8 +23,10 @@ pub mod Runs
 pub mod Stricts
 pub mod Steps
 pub mod RuleLaws
+pub mod AlikeBefore
 pub mod DueFew
 pub mod Few
+pub mod Unders
 pub mod Benches
 pub mod Rows
 pub mod Places
@@ -32,4 +35,5 @@ pub mod AddedSteps
 pub mod GivenUp
 pub mod NotedAnswers
 pub mod RuledFinish
+pub mod CountedSlots
 pub mod ToldErrors

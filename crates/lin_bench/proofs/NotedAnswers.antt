@@ -8,21 +8,16 @@ use Rattle.std.proofs.lemmas.List.Elements.{filter-append}
 use Rattle.lin_transport.specs.Transport.{functional}
 use Rattle.lin_core.specs.Core.{CoreData, past_of}
 use Rattle.lin_core.specs.History.{Slot, events, time}
-use Rattle.lin_core.specs.Runs.{entry_of}
 use Rattle.lin_core.specs.declared.log.LogEntry.{LogEntry}
 use Rattle.lin_core.specs.declared.port.PortId.{PortId}
 use Rattle.lin_core.specs.declared.step.Step.{Step}
-use Rattle.lin_core.specs.declared.step.Step.TheVariants.{Finish}
 use Rattle.lin_bench.specs.Added.{noted_by, noted_now, send_of, went_to_all}
-use Rattle.lin_bench.specs.Adding.{HasFinished, good_in}
+use Rattle.lin_bench.specs.Adding.{HasFinished, finish_of, good_in}
 use Rattle.lin_bench.specs.Rules.{all_noted, is_due_at, kept_at, notes_for, sent_at, serving}
 use Rattle.lin_bench.specs.declared.rules.Noted.{Noted}
 use Rattle.lin_bench.specs.declared.rules.Rules.{Rules}
 use Rattle.lin_bench.proofs.Makes.{append-nothing}
 use Rattle.lin_bench.proofs.HeardLinks.{finished-slot, good-told}
-
-abbrev pub finish_of : CoreData → List LogEntry → PortId → LogEntry
-finish_of core past by = entry_of core.cluster core.opening core.capacity past (by, Finish)
 
 to-all : (core : CoreData) (by : PortId) (past : List LogEntry) (s : Slot) (rules : Rules) (b : Bool) → HasFinished core by past s
     → option_map_or (λ bytes. slice_index bytes 0 == functional) (good_in (events (finish_of core past by))) false ≡ b

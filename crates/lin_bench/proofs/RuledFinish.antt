@@ -10,14 +10,13 @@ use Rattle.lin_core.specs.declared.step.Step.{Step}
 use Rattle.lin_core.specs.declared.step.Step.TheVariants.{Send, Write, Open, Answer, Leave, Hurt, Finish, Timeout, Switch, AskSleep, Wake, Close}
 use Rattle.lin_bench.specs.Added.{added_after, has_time, noted_by, rules_after, send_of, step_to_repeat, timeouts}
 use Rattle.lin_bench.specs.Errors.{errors_told}
-use Rattle.lin_bench.specs.Adding.{AddsAfterFinish, AreAdded, HasFinished, MakesAdded}
-use Rattle.lin_bench.specs.Making.{AreExecuted, MakesSteps, RuledData}
+use Rattle.lin_bench.specs.Adding.{AddsAfterFinish, AreAdded, HasFinished, MakesAdded, finish_of}
+use Rattle.lin_bench.specs.Making.{IsMadeSo, MakesUnchanged, RuledData}
 use Rattle.lin_bench.specs.Rules.{kept_at, no_rules, sent_at}
 use Rattle.lin_bench.specs.declared.fault.MakeFault.{MakeFault}
 use Rattle.lin_bench.specs.declared.rules.Noted.{Noted}
 use Rattle.lin_bench.proofs.HeardLinks.{finish-allowed, finished-slot}
 use Rattle.lin_bench.proofs.AddedSteps.{finish-added, has-finished}
-use Rattle.lin_bench.proofs.NotedAnswers.{finish_of}
 use Rattle.lin_bench.proofs.Makes.{newest-past}
 use Rattle.lin_bench.proofs.RuleLaws.{no-rule}
 
@@ -71,7 +70,7 @@ rules-add a i d by past s began now s0 s1 st s2 s3 noted r fin at e0 e1 et e2 en
     (rules ∙ ap (λ l. record i.rules { noted = l }) en ∙ all-rules a i by past s began now fin at)
 
 -- ---- a step that is a finish which was done
-finish-is : (step : Step) → is_finish step ≡ true → step ≡ Finish
+pub finish-is : (step : Step) → is_finish step ≡ true → step ≡ Finish
 finish-is (Send from to message) h = absurd (cc)
 finish-is (Write by signal value) h = absurd (cc)
 finish-is Open h = absurd (cc)
@@ -92,7 +91,7 @@ AddsAfter b began r d =
 
 finish-made : {X : Type 0} (a b d : RuledData) (by : PortId) (newest : LogEntry) (began : ℕ) (r : Result X MakeFault) → AreAdded a.core ((by, Finish) ∷ []) b.core → b.rules ≡ a.rules
     → newest ≡ slice_index_or b.core.log (length b.core.log - 1) newest → is_some (done newest) ≡ true → began ≡ time a.core.cluster (past_of a.core)
-    → AddsAfter b began r d → MakesSteps a ((by, Finish) ∷ []) r d
+    → AddsAfter b began r d → MakesUnchanged a ((by, Finish) ∷ []) r d
 finish-made a b d by newest began r p same new is-done at adds =
     let is : newest ≡ finish_of a.core (past_of a.core) by = newest-past b.core (finish_of a.core (past_of a.core) by) newest (past_of a.core) p.past new in
     let allowed = finish-allowed a.core.cluster a.core.opening a.core.capacity (past_of a.core) by (open_slot (past_of a.core)) (may by Finish) refl refl (rw is at is-done) in
@@ -101,13 +100,13 @@ finish-made a b d by newest began r p same new is-done at adds =
 
 pub done-finish : {X : Type 0} (a b d : RuledData) (by : PortId) (step : Step) (newest : LogEntry) (began : ℕ) (r : Result X MakeFault) → is_finish step ≡ true → AreAdded a.core ((by, step) ∷ []) b.core
     → b.rules ≡ a.rules → newest ≡ slice_index_or b.core.log (length b.core.log - 1) newest → is_some (done newest) ≡ true → began ≡ time a.core.cluster (past_of a.core)
-    → AddsAfter b began r d → MakesSteps a ((by, step) ∷ []) r d
+    → AddsAfter b began r d → MakesUnchanged a ((by, step) ∷ []) r d
 done-finish a b d by step newest began r f p same new is-done at adds =
     let is = finish-is step f in
     rw is (finish-made a b d by newest began r (rw is at p) same new is-done at adds)
 
 -- ---- where no rule is in force
-pub unruled-made : (a b : RuledData) (by : PortId) (step : Step) → AreAdded a.core ((by, step) ∷ []) b.core → b.rules ≡ a.rules → b.rules ≡ no_rules → AreExecuted a ((by, step) ∷ []) b
+pub unruled-made : (a b : RuledData) (by : PortId) (step : Step) → AreAdded a.core ((by, step) ∷ []) b.core → b.rules ≡ a.rules → b.rules ≡ no_rules → IsMadeSo a ((by, step) ∷ []) b
 unruled-made a b by step p same none =
     let before : a.rules ≡ no_rules = sym same ∙ none in
     let adds = no-rule a.core.cluster (entry_with_reply a.core by step) (past_of a.core) in

@@ -11,14 +11,14 @@ use Rattle.lin_core.specs.Core.{CoreData, IsAlike}
 use Rattle.lin_core.specs.declared.log.LogEntry.{LogEntry}
 use Rattle.lin_bench.specs.Bench.{BenchData, new_bench, made_on, state_of}
 use Rattle.lin_bench.specs.Made.{BenchState, made}
-use Rattle.lin_bench.specs.Played.{Run, come_to, initial_bench, in_turn, is_silent, judged_from, judgements, next, nothing_expected, of_line, on_line, own, play_result, line_result, with_judgements}
-use Rattle.lin_bench.specs.Plays.{Comes, PlayFails, PlaysLine, next_on}
+use Rattle.lin_bench.specs.Played.{bench_after, come_to, ended, ends_from, initial_bench, in_turn, is_limit, is_silent, judged_from, judged_up_to, judgements, next, nothing_expected, of_line, on_line, own, play_result, line_result, with_judgements}
+use Rattle.lin_bench.specs.Plays.{Comes, IsTooLong, OverfillsOn, PlaysLine, PlaysOn, ends_on, judged_on, next_on}
 use Rattle.lin_bench.specs.Strict.{entries_since, left_out, speaks_of_last, strictly}
 use Rattle.lin_bench.specs.declared.line.ScriptLine.{ScriptLine}
 use Rattle.lin_bench.specs.declared.fault.PlayFault.{PlayFault}
 use Rattle.lin_bench.specs.declared.fault.PlayFault.TheVariants.{SlotLimit, LogFull, OutOfMemory}
+use Rattle.lin_bench.specs.declared.playing.LineEnd.{LineEnd}
 use Rattle.lin_bench.specs.declared.playing.Played.{Played}
-use Rattle.lin_bench.specs.declared.got.Judged.{Judged}
 use Rattle.lin_bench.specs.declared.got.Judgement.{Judgement}
 use Rattle.lin_bench.specs.declared.got.Verdict.{Verdict}
 use Rattle.lin_bench.specs.declared.got.Verdict.TheVariants as verdict
@@ -35,52 +35,40 @@ turns-more c o cap (Err n) xs ys = turns-failed c o cap n ys
 turns-more c o cap (Ok b) [] ys = refl
 turns-more c o cap (Ok b) (x ∷ xs) ys = turns-more c o cap (next c o cap b x) xs ys
 
--- a bench has come to what these lines come to
-pub record HasCome (c : Parts) (o : ℕ) (cap : ℕ) (ls : List (ℕ × ScriptLine)) (b : BenchData) : Type 0 where
-  pub lines : come_to c o cap ls ≡ Ok (state_of b)
-  pub cluster : b.core.cluster ≡ c
-  pub opening : b.core.opening ≡ o
-  pub capacity : b.core.capacity ≡ cap
+-- a bench has come from another to what these lines come to
+pub record HasCome (a : BenchData) (ls : List (ℕ × ScriptLine)) (b : BenchData) : Type 0 where
+  pub lines : in_turn a.core.cluster a.core.opening a.core.capacity (Ok (state_of a)) ls ≡ Ok (state_of b)
+  pub alike : IsAlike a.core b.core
 
 -- no line was played yet
-pub come-first : (c : Parts) (o cap : ℕ) (core : CoreData) → core.log ≡ [] → core.cluster ≡ c → core.opening ≡ o → core.capacity ≡ cap
-    → HasCome c o cap [] (new_bench core)
-come-first c o cap core log cluster opening capacity =
-    record { lines = rw log refl; cluster = cluster; opening = opening; capacity = capacity }
+pub come-first : (a : BenchData) → HasCome a [] a
+come-first a = record { lines = refl; alike = (refl, refl, refl) }
 
 -- what these lines come to with one more
-after-one : (c : Parts) (o cap : ℕ) (ls : List (ℕ × ScriptLine)) (b : BenchData) (l : ℕ × ScriptLine) (rest : List (ℕ × ScriptLine))
-    → HasCome c o cap ls b → come_to c o cap (ls ++ l ∷ rest) ≡ in_turn c o cap (next_on b l) rest
-after-one c o cap ls b l rest h =
-    turns-more c o cap (Ok initial_bench) ls (l ∷ rest) ∙ ap (λ r. in_turn c o cap r (l ∷ rest)) h.lines ∙ rw (h.cluster, h.opening, h.capacity) refl
+after-one : (a b : BenchData) (ls : List (ℕ × ScriptLine)) (l : ℕ × ScriptLine) (rest : List (ℕ × ScriptLine)) → HasCome a ls b
+    → in_turn a.core.cluster a.core.opening a.core.capacity (Ok (state_of a)) (ls ++ l ∷ rest) ≡ in_turn a.core.cluster a.core.opening a.core.capacity (next_on b l) rest
+after-one a b ls l rest h =
+    turns-more a.core.cluster a.core.opening a.core.capacity (Ok (state_of a)) ls (l ∷ rest)
+    ∙ ap (λ r. in_turn a.core.cluster a.core.opening a.core.capacity r (l ∷ rest)) h.lines ∙ rw (h.alike.0, h.alike.1, h.alike.2) refl
 
-pub come-more : (c : Parts) (o cap : ℕ) (ls : List (ℕ × ScriptLine)) (p q : BenchData) (l : ℕ × ScriptLine) → HasCome c o cap ls p
-    → next_on p l ≡ Ok (state_of q) → IsAlike p.core q.core → HasCome c o cap (ls ++ l ∷ []) q
-come-more c o cap ls p q l h is alike =
+pub come-more : (a p q : BenchData) (ls : List (ℕ × ScriptLine)) (l : ℕ × ScriptLine) → HasCome a ls p → next_on p l ≡ Ok (state_of q) → IsAlike p.core q.core → HasCome a (ls ++ l ∷ []) q
+come-more a p q ls l h is alike =
     record {
-      lines = after-one c o cap ls p l [] h ∙ ap (λ r. in_turn c o cap r []) is;
-      cluster = alike.0 ∙ h.cluster;
-      opening = alike.1 ∙ h.opening;
-      capacity = alike.2 ∙ h.capacity;
+      lines = after-one a p ls l [] h ∙ ap (λ r. in_turn a.core.cluster a.core.opening a.core.capacity r []) is;
+      alike = (alike.0 ∙ h.alike.0, alike.1 ∙ h.alike.1, alike.2 ∙ h.alike.2);
     }
 
--- a line makes more slots than are left, or more steps than there is room for, whatever follows; or there is no memory
-pub line-fails : (strict : Bool) (c : Parts) (o cap : ℕ) (ls rest all : List (ℕ × ScriptLine)) (b new : BenchData) (js more : List Judgement) (l : ℕ × ScriptLine) (is_told : Bool) (fault : PlayFault)
-    → ls ++ l ∷ rest ≡ all → HasCome c o cap ls b → PlaysLine strict b js l is_told (Err fault) new more → PlayFails strict c o cap all fault
-line-fails strict c o cap ls rest all b new js more l is_told (SlotLimit m) e h f =
-    ap (with_judgements (judgements strict c o cap all))
-    (ap (come_to c o cap) (sym e) ∙ after-one c o cap ls b l rest h ∙ ap (λ r. in_turn c o cap r rest) f ∙ sym (turns-failed c o cap m rest))
-line-fails strict c o cap ls rest all b new js more l is_told LogFull e h f =
-    record {
-      before = ls;
-      line = l;
-      behind = rest;
-      all = sym e;
-      bench = state_of b;
-      so_far = h.lines;
-      full = rw (h.cluster, h.opening, h.capacity) at f;
-    }
-line-fails strict c o cap ls rest all b new js more l is_told OutOfMemory e h f = tt
+-- a line makes more slots than are left
+pub limit-comes : (a b : BenchData) (ls rest all : List (ℕ × ScriptLine)) (l : ℕ × ScriptLine) (n : ℕ) → ls ++ l ∷ rest ≡ all → HasCome a ls b → next_on b l ≡ Err n
+    → in_turn a.core.cluster a.core.opening a.core.capacity (Ok (state_of a)) all ≡ Err n
+limit-comes a b ls rest all l n e h is =
+    ap (in_turn a.core.cluster a.core.opening a.core.capacity (Ok (state_of a))) (sym e) ∙ after-one a b ls l rest h
+    ∙ ap (λ r. in_turn a.core.cluster a.core.opening a.core.capacity r rest) is ∙ sym (turns-failed a.core.cluster a.core.opening a.core.capacity n rest)
+
+-- or more steps than there is room for
+pub overfills : (a b : BenchData) (ls rest all : List (ℕ × ScriptLine)) (l : ℕ × ScriptLine) → ls ++ l ∷ rest ≡ all → HasCome a ls b → IsTooLong (made_on b l.1).0.past → OverfillsOn a all
+overfills a b ls rest all l e h f =
+    record { before = ls; line = l; behind = rest; all = sym e; bench = state_of b; so_far = h.lines; full = rw (h.alike.0, h.alike.1, h.alike.2) at f }
 
 pub nothing-left : {A : Type 0} (xs : List A) → length xs ≡ 0 → xs ≡ []
 nothing-left [] h = refl
@@ -98,34 +86,125 @@ told-bench n b x verdict.Nothing h = cc
 told-bench n b x (verdict.Met what) h = cc
 told-bench n b x (verdict.Unmet what got) h = cc
 
--- the judgements so far, and those on the lines that are left, are those of all lines
-abbrev pub StillJudged : Bool → Bool → Parts → ℕ → ℕ → List Judgement → BenchData → List (ℕ × ScriptLine) → List Judgement → Type 0
-StillJudged strict silent c o cap js b left all = js ++ judged_from strict silent c o cap (state_of b) left ≡ all
+pub told-open : (n : ℕ) (b x : BenchState) (v : Verdict) → line_result n b v ≡ Ok x → is_limit v ≡ false
+told-open n b x verdict.SlotLimit h = absurd (cc)
+told-open n b x verdict.Nothing h = refl
+told-open n b x (verdict.Met what) h = refl
+told-open n b x (verdict.Unmet what got) h = refl
 
-pub judged-more : (strict silent : Bool) (c : Parts) (o cap : ℕ) (p q : BenchData) (old new all : List Judgement) (l : ℕ × ScriptLine) (rest : List (ℕ × ScriptLine)) (is_told : Bool)
-    → p.core.cluster ≡ c → p.core.opening ≡ o → p.core.capacity ≡ cap → StillJudged strict silent c o cap old p (l ∷ rest) all
-    → speaks_of_last (slice_get rest 0) ≡ is_told → next_on p l ≡ Ok (state_of q) → new ≡ old ++ of_line strict (state_of p) l (made_on p l.1) is_told
-    → StillJudged strict silent c o cap new q rest all
-judged-more strict silent c o cap p q old new all l rest is_told ec eo ek h e is more =
-    let m = made c o cap (state_of p) l.1 in
-    let same : made_on p l.1 ≡ m = rw (ec, eo, ek) refl in
-    let bench : m.0 ≡ state_of q = told-bench l.0 m.0 (state_of q) m.1 (sym (ap (λ (k : BenchState × Verdict). line_result l.0 k.0 k.1) same) ∙ is) in
-    let one : new ≡ old ++ of_line strict (state_of p) l m (speaks_of_last (slice_get rest 0)) =
-    more ∙ ap (λ t. old ++ of_line strict (state_of p) l (made_on p l.1) t) (sym e) ∙ ap (λ k. old ++ of_line strict (state_of p) l k (speaks_of_last (slice_get rest 0))) same in
-    ap (λ b. new ++ judged_from strict silent c o cap b rest) (sym bench)
-    ∙ ap (λ js. js ++ judged_from strict silent c o cap m.0 rest) one
-    ∙ append_assoc old (of_line strict (state_of p) l m (speaks_of_last (slice_get rest 0))) (judged_from strict silent c o cap m.0 rest)
-    ∙ h
+pub told-limit : (n m : ℕ) (b : BenchState) (v : Verdict) → line_result n b v ≡ Err m → is_limit v ≡ true
+told-limit n m b verdict.SlotLimit h = refl
+told-limit n m b verdict.Nothing h = absurd (cc)
+told-limit n m b (verdict.Met what) h = absurd (cc)
+told-limit n m b (verdict.Unmet what got) h = absurd (cc)
 
-pub judged-first : (strict silent : Bool) (c : Parts) (o cap : ℕ) (core : CoreData) (js : List Judgement) (left ls : List (ℕ × ScriptLine)) → js ≡ [] → core.log ≡ [] → left ≡ ls
-    → silent ≡ is_silent strict ls → StillJudged strict silent c o cap js (new_bench core) left (judgements strict c o cap ls)
-judged-first strict silent c o cap core js left ls none log same is = rw (none, log, same, is) refl
+ended-open : (l : ℕ × ScriptLine) (b : BenchState) (v : Verdict) (more : List LineEnd) → is_limit v ≡ false → ended l (b, v) more ≡ record { line = l.0; entries = length b.past } ∷ more
+ended-open l b verdict.SlotLimit more h = absurd (cc)
+ended-open l b verdict.Nothing more h = refl
+ended-open l b (verdict.Met what) more h = refl
+ended-open l b (verdict.Unmet what got) more h = refl
 
-pub judged-last : (strict silent : Bool) (c : Parts) (o cap : ℕ) (b : BenchData) (old new all : List Judgement) (left : List (ℕ × ScriptLine)) → left ≡ []
-    → StillJudged strict silent c o cap old b left all → new ≡ old ++ on_line 1 (length b.core.log) (nothing_expected silent) → new ≡ all
-judged-last strict silent c o cap b old new all left none h is =
-    is ∙ ap (λ n. old ++ on_line 1 n (nothing_expected silent)) (sym (length-reverse b.core.log))
-    ∙ ap (λ l. old ++ judged_from strict silent c o cap (state_of b) l) (sym none) ∙ h
+ended-limit : (l : ℕ × ScriptLine) (b : BenchState) (v : Verdict) (more : List LineEnd) → is_limit v ≡ true → ended l (b, v) more ≡ []
+ended-limit l b verdict.SlotLimit more h = refl
+ended-limit l b verdict.Nothing more h = absurd (cc)
+ended-limit l b (verdict.Met what) more h = absurd (cc)
+ended-limit l b (verdict.Unmet what got) more h = absurd (cc)
+
+-- what a line comes to on a bench that has come from another
+abbrev pub made_from : BenchData → BenchData → ScriptLine → BenchState × Verdict
+made_from a b l = made a.core.cluster a.core.opening a.core.capacity (state_of b) l
+
+pub same-made : (a b : BenchData) (l : ScriptLine) → IsAlike a.core b.core → made_on b l ≡ made_from a b l
+same-made a b l alike = rw (alike.0, alike.1, alike.2) refl
+
+-- ---- the judgements, the ends of lines and the bench so far, and those of the lines that are left, are those of all lines
+pub record IsPlaying (strict silent : Bool) (a : BenchData) (js : List Judgement) (es : List LineEnd) (b : BenchData) (left : List (ℕ × ScriptLine)) (all : List Judgement) (ends : List LineEnd)
+    (after : BenchState) : Type 0 where
+  pub judged : js ++ judged_up_to strict silent a.core.cluster a.core.opening a.core.capacity (state_of b) left ≡ all
+  pub ended : es ++ ends_from a.core.cluster a.core.opening a.core.capacity (state_of b) left ≡ ends
+  pub come : bench_after a.core.cluster a.core.opening a.core.capacity (state_of b) left ≡ after
+
+pub playing-first : (strict silent : Bool) (a : BenchData) (js : List Judgement) (es : List LineEnd) (left ls : List (ℕ × ScriptLine)) → left ≡ ls → silent ≡ is_silent strict ls
+    → IsPlaying strict silent a js es a left (js ++ judged_on strict a ls) (es ++ ends_on a ls) (bench_after a.core.cluster a.core.opening a.core.capacity (state_of a) ls)
+playing-first strict silent a js es left ls same is = record { judged = rw (same, is) refl; ended = rw same refl; come = rw same refl }
+
+-- one line more was played
+pub playing-more : (strict silent : Bool) (a p q : BenchData) (js more all : List Judgement) (es behind ends : List LineEnd) (after : BenchState) (l : ℕ × ScriptLine) (rest : List (ℕ × ScriptLine))
+    (is_told : Bool) → IsAlike a.core p.core → IsPlaying strict silent a js es p (l ∷ rest) all ends after → speaks_of_last (slice_get rest 0) ≡ is_told
+    → next_on p l ≡ Ok (state_of q) → more ≡ js ++ of_line strict (state_of p) l (made_on p l.1) is_told
+    → behind ≡ es ++ record { line = l.0; entries = length q.core.log } ∷ [] → IsPlaying strict silent a more behind q rest all ends after
+playing-more strict silent a p q js more all es behind ends after l rest is_told alike h e is judged end =
+    let m = made_from a p l.1 in
+    let same = same-made a p l.1 alike in
+    let told_is : line_result l.0 m.0 m.1 ≡ Ok (state_of q) = sym (ap (λ (k : BenchState × Verdict). line_result l.0 k.0 k.1) same) ∙ is in
+    let bench : m.0 ≡ state_of q = told-bench l.0 m.0 (state_of q) m.1 told_is in
+    let open_ : is_limit m.1 ≡ false = told-open l.0 m.0 (state_of q) m.1 told_is in
+    let one = of_line strict (state_of p) l m (speaks_of_last (slice_get rest 0)) in
+    let mine : more ≡ js ++ one =
+    judged ∙ ap (λ t. js ++ of_line strict (state_of p) l (made_on p l.1) t) (sym e) ∙ ap (λ k. js ++ of_line strict (state_of p) l k (speaks_of_last (slice_get rest 0))) same in
+    let rest_judged = judged_up_to strict silent a.core.cluster a.core.opening a.core.capacity m.0 rest in
+    let rest_ended = ends_from a.core.cluster a.core.opening a.core.capacity m.0 rest in
+    let entries : length m.0.past ≡ length q.core.log = ap (λ (k : BenchState). length k.past) bench ∙ length-reverse q.core.log in
+    let ends_here : behind ≡ es ++ record { line = l.0; entries = length m.0.past } ∷ [] = end ∙ ap (λ n. es ++ record { line = l.0; entries = n } ∷ []) (sym entries) in
+    record {
+      judged =
+          ap (λ b. more ++ judged_up_to strict silent a.core.cluster a.core.opening a.core.capacity b rest) (sym bench)
+          ∙ ap (λ k. k ++ rest_judged) mine ∙ append_assoc js one rest_judged
+          ∙ (rw open_ at h.judged);
+      ended =
+          ap (λ b. behind ++ ends_from a.core.cluster a.core.opening a.core.capacity b rest) (sym bench)
+          ∙ ap (λ k. k ++ rest_ended) ends_here ∙ append_assoc es (record { line = l.0; entries = length m.0.past } ∷ []) rest_ended
+          ∙ ap (λ k. es ++ k) (sym (ended-open l m.0 m.1 rest_ended open_)) ∙ h.ended;
+      come = ap (λ b. bench_after a.core.cluster a.core.opening a.core.capacity b rest) (sym bench) ∙ (rw open_ at h.come);
+    }
+
+-- a line makes more slots than are left
+pub playing-limit : (strict silent : Bool) (a p q : BenchData) (js more all : List Judgement) (es ends : List LineEnd) (after : BenchState) (l : ℕ × ScriptLine) (rest : List (ℕ × ScriptLine)) (n : ℕ)
+    → IsAlike a.core p.core → IsPlaying strict silent a js es p (l ∷ rest) all ends after → next_on p l ≡ Err n → state_of q ≡ (made_on p l.1).0 → more ≡ js
+    → (state_of q ≡ after) × (more ≡ all) × (es ≡ ends)
+playing-limit strict silent a p q js more all es ends after l rest n alike h is bench judged =
+    let m = made_from a p l.1 in
+    let same = same-made a p l.1 alike in
+    let shut : is_limit m.1 ≡ true = told-limit l.0 n m.0 m.1 (sym (ap (λ (k : BenchState × Verdict). line_result l.0 k.0 k.1) same) ∙ is) in
+    let none_judged : js ++ [] ≡ all = rw shut at h.judged in
+    let none_ended : es ++ [] ≡ ends = ap (λ k. es ++ k) (sym (ended-limit l m.0 m.1 (ends_from a.core.cluster a.core.opening a.core.capacity m.0 rest) shut)) ∙ h.ended in
+    let there : m.0 ≡ after = rw shut at h.come in
+    (bench ∙ ap (λ (k : BenchState × Verdict). k.0) same ∙ there, judged ∙ sym (append-nothing js) ∙ none_judged, sym (append-nothing es) ∙ none_ended)
+
+-- no line is left
+pub playing-last : (strict silent : Bool) (a b : BenchData) (js more all : List Judgement) (es ends : List LineEnd) (after : BenchState) (left : List (ℕ × ScriptLine)) → left ≡ []
+    → IsPlaying strict silent a js es b left all ends after → more ≡ js ++ on_line 1 (length b.core.log) (nothing_expected silent) → (more ≡ all) × (es ≡ ends)
+playing-last strict silent a b js more all es ends after left none h is = (
+  is ∙ ap (λ n. js ++ on_line 1 n (nothing_expected silent)) (sym (length-reverse b.core.log))
+      ∙ ap (λ l. js ++ judged_up_to strict silent a.core.cluster a.core.opening a.core.capacity (state_of b) l) (sym none) ∙ h.judged,
+  sym (append-nothing es) ∙ ap (λ l. es ++ ends_from a.core.cluster a.core.opening a.core.capacity (state_of b) l) (sym none) ∙ h.ended,
+)
+
+-- a line isn't played
+pub playing-fails : (strict silent is_told : Bool) (a p q : BenchData) (js_old js more : List Judgement) (es_old es : List LineEnd) (before rest ls : List (ℕ × ScriptLine)) (l : ℕ × ScriptLine)
+    (fault : PlayFault) → before ++ l ∷ rest ≡ ls → HasCome a before p
+    → IsPlaying strict silent a js es p (l ∷ rest) (js_old ++ judged_on strict a ls) (es_old ++ ends_on a ls) (bench_after a.core.cluster a.core.opening a.core.capacity (state_of a) ls)
+    → PlaysLine strict p js l is_told (Err fault) q more → PlaysOn strict a js_old es_old ls (Err fault) q more es
+playing-fails strict silent is_told a p q js_old js more es_old es before rest ls l (SlotLimit n) whole has at plays =
+    let end = playing-limit strict silent a p q js more _ es _ _ l rest n has.alike at plays.0 plays.1 plays.2 in (
+      limit-comes a p before rest ls l n whole has plays.0,
+      end.0,
+      end.1,
+      end.2,
+      (plays.3.0 ∙ has.alike.0, plays.3.1 ∙ has.alike.1, plays.3.2 ∙ has.alike.2),
+    )
+playing-fails strict silent is_told a p q js_old js more es_old es before rest ls l LogFull whole has at plays = overfills a p before rest ls l whole has plays
+playing-fails strict silent is_told a p q js_old js more es_old es before rest ls l OutOfMemory whole has at plays = tt
+
+-- all lines were played
+pub playing-done : (strict silent : Bool) (a b : BenchData) (js_old js more : List Judgement) (es_old es : List LineEnd) (before left ls : List (ℕ × ScriptLine)) → left ≡ [] → before ++ left ≡ ls
+    → HasCome a before b
+    → IsPlaying strict silent a js es b left (js_old ++ judged_on strict a ls) (es_old ++ ends_on a ls) (bench_after a.core.cluster a.core.opening a.core.capacity (state_of a) ls)
+    → more ≡ js ++ on_line 1 (length b.core.log) (nothing_expected silent) → PlaysOn strict a js_old es_old ls (Ok tt) b more es
+playing-done strict silent a b js_old js more es_old es before left ls none whole has at judged =
+    let end = playing-last strict silent a b js more _ es _ _ left none at judged in
+    let all : before ≡ ls = sym (append-nothing before) ∙ ap (λ l. before ++ l) (sym none) ∙ whole in
+    (ap (in_turn a.core.cluster a.core.opening a.core.capacity (Ok (state_of a))) (sym all) ∙ has.lines, end.0, end.1, has.alike)
 
 -- no line is left where none comes next
 pub none-left : {X : Type 0} (r : Option X) (s t : IntoIter X Global) → into_iter_steps s r t → r ≡ None → into_iter_items t ≡ []
@@ -183,15 +262,40 @@ strictly-fails b new js more l is_told LogFull h = h
 strictly-fails b new js more l is_told OutOfMemory h = tt
 
 -- ---- all lines were played
-pub all-come : (strict : Bool) (c : Parts) (o cap : ℕ) (ls all : List (ℕ × ScriptLine)) (b : BenchData) (it : Played) → ls ≡ all → HasCome c o cap ls b
-    → it.core ≡ b.core → it.judgements ≡ judgements strict c o cap all → Comes strict c o cap all it
-all-come strict c o cap ls all b it e h core judged =
+-- where no line makes more slots than are left, these are the judgements on all lines
+judged-next : (strict silent : Bool) (c : Parts) (o cap : ℕ) (b end : BenchState) (l : ℕ × ScriptLine) (ls : List (ℕ × ScriptLine)) (v : Verdict) → (made c o cap b l.1).1 ≡ v
+    → (in_turn c o cap (Ok (made c o cap b l.1).0) ls ≡ Ok end → judged_up_to strict silent c o cap (made c o cap b l.1).0 ls ≡ judged_from strict silent c o cap (made c o cap b l.1).0 ls)
+    → in_turn c o cap (line_result l.0 (made c o cap b l.1).0 (made c o cap b l.1).1) ls ≡ Ok end
+    → judged_up_to strict silent c o cap b (l ∷ ls) ≡ judged_from strict silent c o cap b (l ∷ ls)
+judged-next strict silent c o cap b end l ls verdict.SlotLimit f more h = let no : Err l.0 ≡ Ok end = turns-failed c o cap l.0 ls ∙ (rw f at h) in absurd (cc)
+judged-next strict silent c o cap b end l ls verdict.Nothing f more h =
+    let open_ : is_limit (made c o cap b l.1).1 ≡ false = ap is_limit f in
+    rw open_ (ap (λ k. of_line strict b l (made c o cap b l.1) (speaks_of_last (slice_get ls 0)) ++ k) (more (rw f at h)))
+judged-next strict silent c o cap b end l ls (verdict.Met what) f more h =
+    let open_ : is_limit (made c o cap b l.1).1 ≡ false = ap is_limit f in
+    rw open_ (ap (λ k. of_line strict b l (made c o cap b l.1) (speaks_of_last (slice_get ls 0)) ++ k) (more (rw f at h)))
+judged-next strict silent c o cap b end l ls (verdict.Unmet what got) f more h =
+    let open_ : is_limit (made c o cap b l.1).1 ≡ false = ap is_limit f in
+    rw open_ (ap (λ k. of_line strict b l (made c o cap b l.1) (speaks_of_last (slice_get ls 0)) ++ k) (more (rw f at h)))
+
+pub judged-whole : (strict silent : Bool) (c : Parts) (o cap : ℕ) (b end : BenchState) (ls : List (ℕ × ScriptLine)) → in_turn c o cap (Ok b) ls ≡ Ok end
+    → judged_up_to strict silent c o cap b ls ≡ judged_from strict silent c o cap b ls
+judged-whole strict silent c o cap b end [] h = refl
+judged-whole strict silent c o cap b end (l ∷ ls) h =
+    judged-next strict silent c o cap b end l ls (made c o cap b l.1).1 refl (λ k. judged-whole strict silent c o cap (made c o cap b l.1).0 end ls k) h
+
+pub all-come : (strict : Bool) (c : Parts) (o cap : ℕ) (ls : List (ℕ × ScriptLine)) (core : CoreData) (b : BenchData) (it : Played) → core.log ≡ [] → core.cluster ≡ c → core.opening ≡ o
+    → core.capacity ≡ cap → in_turn core.cluster core.opening core.capacity (Ok (state_of (new_bench core))) ls ≡ Ok (state_of b) → IsAlike core b.core → it.core ≡ b.core
+    → it.judgements ≡ judged_on strict (new_bench core) ls → Comes strict c o cap ls it
+all-come strict c o cap ls core b it log cluster opening capacity lines alike same judged =
+    let come : come_to c o cap ls ≡ Ok (state_of b) = rw (log, cluster, opening, capacity) at lines in
+    let told : it.judgements ≡ judged_up_to strict (is_silent strict ls) c o cap initial_bench ls = rw (log, cluster, opening, capacity) at judged in
     record {
-      run = record { bench = state_of b; judgements = judgements strict c o cap all };
-      lines = ap (with_judgements (judgements strict c o cap all)) (ap (come_to c o cap) (sym e) ∙ h.lines);
-      log = ap (λ (k : CoreData). k.log) core ∙ sym (reverse-reverse b.core.log);
-      judgements = judged;
-      cluster = ap (λ (k : CoreData). k.cluster) core ∙ h.cluster;
-      opening_is = ap (λ (k : CoreData). k.opening) core ∙ h.opening;
-      capacity_is = ap (λ (k : CoreData). k.capacity) core ∙ h.capacity;
+      run = record { bench = state_of b; judgements = judgements strict c o cap ls };
+      lines = ap (with_judgements (judgements strict c o cap ls)) come;
+      log = ap (λ (k : CoreData). k.log) same ∙ sym (reverse-reverse b.core.log);
+      judgements = told ∙ judged-whole strict (is_silent strict ls) c o cap initial_bench (state_of b) ls come;
+      cluster = ap (λ (k : CoreData). k.cluster) same ∙ alike.0 ∙ cluster;
+      opening_is = ap (λ (k : CoreData). k.opening) same ∙ alike.1 ∙ opening;
+      capacity_is = ap (λ (k : CoreData). k.capacity) same ∙ alike.2 ∙ capacity;
     }

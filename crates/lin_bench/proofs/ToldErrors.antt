@@ -13,14 +13,13 @@ use Rattle.lin_core.specs.declared.log.LogEntry.{LogEntry}
 use Rattle.lin_core.specs.declared.port.PortId.{PortId}
 use Rattle.lin_core.specs.declared.step.Step.{Step}
 use Rattle.lin_core.specs.declared.step.Step.TheVariants.{Finish}
-use Rattle.lin_bench.specs.Adding.{HasFinished, damaged_in, good_in}
+use Rattle.lin_bench.specs.Adding.{HasFinished, damaged_in, finish_of, good_in}
 use Rattle.lin_bench.specs.Carried.{KeepsOpenSlot, shape, shape_in}
 use Rattle.lin_bench.specs.Errors.{ended_slot, error_told, errors_told, is_damaged_seen}
 use Rattle.lin_bench.specs.declared.carried.OpenSlot.{OpenSlot}
 use Rattle.lin_bench.specs.declared.errors.EndedSlot.{EndedSlot}
 use Rattle.lin_bench.proofs.HeardLinks.{finish-done, finished-slot, good-told}
 use Rattle.lin_bench.proofs.Makes.{ends-so, length-last, newest-past}
-use Rattle.lin_bench.proofs.NotedAnswers.{finish_of}
 
 -- a step of a loop that adds what there is of each item
 pub told_step : {A B : Type 0} (f : A → Option B) (xs : List A) (i : ℕ) (x : A) (before found more : List B) → i < length xs → x ≡ get_or xs i x → found ≡ before ++ filter_map f (take i xs) → more ≡ found ++ cons_option (f x) [] → more ≡ before ++ filter_map f (take (i + 1) xs)

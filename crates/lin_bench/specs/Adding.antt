@@ -1,10 +1,10 @@
 -- What a core keeps for its rules, and what making the steps that they add answers.
-use Rattle.std.specs.Prelude.{◌≡◌, Bool, true, false, ℕ, ◌<◌, ◌-◌, ◌^◌, List, [], ◌∷◌, ◌++◌, length, Option}
-use Rattle.std.specs.Prelude.{if◌then◌else◌, slice_index, Some, None, Result, Ok, Err}
-use Rattle.lin_parts.specs.Cluster.{nodes}
+use Rattle.std.specs.Prelude.{◌≡◌, Bool, true, false, ℕ, ◌<◌, ◌-◌, ◌^◌, List, [], ◌∷◌, ◌++◌, length, reverse, Option}
+use Rattle.std.specs.Prelude.{if◌then◌else◌, filter, is_some, map, slice_index, Some, None, Result, Ok, Err}
+use Rattle.lin_parts.specs.Cluster.{nad, nodes}
 use Rattle.lin_parts.specs.declared.parts.Parts.{Parts}
 use Rattle.lin_core.specs.Core.{CoreData, IsAlike, entry_with_reply, past_of}
-use Rattle.lin_core.specs.History.{Slot, good_bytes, open_slot}
+use Rattle.lin_core.specs.History.{Slot, good_bytes, is_finish, open_slot}
 use Rattle.lin_core.specs.Replies.{link_at, may}
 use Rattle.lin_core.specs.Runs.{entry_of}
 use Rattle.lin_core.specs.declared.event.Event.{Event}
@@ -15,8 +15,9 @@ use Rattle.lin_core.specs.declared.log.LogEntry.{LogEntry}
 use Rattle.lin_core.specs.declared.port.PortId.{PortId}
 use Rattle.lin_core.specs.declared.step.Step.{Step}
 use Rattle.lin_core.specs.declared.step.Step.TheVariants.{Finish}
-use Rattle.lin_bench.specs.Added.{added_after, is_good_on, last_good, rules_after}
-use Rattle.lin_bench.specs.Errors.{is_damaged_seen}
+use Rattle.lin_bench.specs.Added.{added_after, is_given_up, is_good_on, last_good, links_at, noted_by, rules_after, timeout_step}
+use Rattle.lin_bench.specs.Errors.{errors_told, is_damaged_seen}
+use Rattle.lin_bench.specs.Faults.{slots_finished}
 pub use Rattle.lin_bench.specs.Making.{RuledData}
 use Rattle.lin_bench.specs.Making.{IsGrown}
 use Rattle.lin_bench.specs.Slots.{past_after}
@@ -24,6 +25,7 @@ use Rattle.lin_bench.specs.declared.ends.Ends.{Ends}
 use Rattle.lin_bench.specs.declared.fault.MakeFault.{MakeFault}
 use Rattle.lin_bench.specs.declared.fault.MakeFault.TheVariants.{LogFull, OutOfMemory}
 use Rattle.lin_bench.specs.declared.ruled.RuledCore.TheInside.{Inside}
+use Rattle.lin_bench.specs.declared.rules.Rules.{Rules}
 
 abbrev pub ruled_data : Inside → RuledData
 ruled_data a = record { core = a.core; rules = a.rules }
@@ -35,7 +37,18 @@ AreEnds core dir ends =
     → slice_index ends n ≡ last_good core.cluster (past_of core) (link_at n dir)
 
 abbrev pub IsTimed : Inside → Type 0
-IsTimed a = AreEnds a.core Down a.ends.downs × AreEnds a.core Up a.ends.ups
+IsTimed a =
+    AreEnds a.core Down a.ends.downs × AreEnds a.core Up a.ends.ups
+    × (a.slots ≡ slots_finished (past_of a.core))
+
+-- how many slots were finished in a log whose last step is a finish, or isn't, if before it there
+-- were so many
+abbrev pub CountsFinished : List LogEntry → Bool → ℕ → ℕ → Type 0
+CountsFinished log finishes before after =
+    (old : CoreData) (by : PortId) (step : Step)
+    → log ≡ old.log ++ entry_with_reply old by step ∷ []
+    → finishes ≡ is_finish step → before ≡ slots_finished (past_of old)
+    → after ≡ slots_finished (reverse log)
 
 abbrev pub end_of : Ends → ℕ → Direction → ℕ
 end_of ends n Down = slice_index ends.downs n
@@ -65,12 +78,34 @@ pub record IsAfterFinish (old : CoreData) (by : PortId) (s : Slot) (new : CoreDa
   pub alike : IsAlike old new
   pub slot : open_slot (past_of old) ≡ Some s
 
+-- the entry of a finish on a core with this history
+abbrev pub finish_of : CoreData → List LogEntry → PortId → LogEntry
+finish_of core past by = entry_of core.cluster core.opening core.capacity past (by, Finish)
+
 -- the newest entry of a core finishes this slot, on the history before it
 pub record HasFinished (core : CoreData) (by : PortId) (past : List LogEntry) (s : Slot) : Type 0 where
-  pub newest :
-      past_of core ≡ entry_of core.cluster core.opening core.capacity past (by, Finish) ∷ past
+  pub newest : past_of core ≡ finish_of core past by ∷ past
   pub slot : open_slot past ≡ Some s
   pub may : may by Finish ≡ true
+
+-- if the newest entry of a core finishes a slot, this holds of the entry and the history before it
+abbrev pub AfterFinish : CoreData → (LogEntry → List LogEntry → Type 0) → Type 0
+AfterFinish core Holds =
+    (by : PortId) (past : List LogEntry) (s : Slot) → HasFinished core by past s
+    → Holds (finish_of core past by) past
+
+-- the timeouts of the links of a node whose messages are given up
+abbrev pub timeouts_of : Parts → List LogEntry → ℕ → ℕ → List (PortId × Step)
+timeouts_of c past ms n =
+    map timeout_step (filter (is_given_up c past ms) (if is_some (nad c n) then links_at n else []))
+
+-- the rules of a core with the answers to the messages of a finish
+abbrev pub with_noted : RuledData → LogEntry → List LogEntry → Rules
+with_noted a e past = record a.rules { noted = noted_by a.core.cluster e past a.rules }
+
+-- the steps by which errors are told after a finish, if a rule says so
+abbrev pub errors_after : RuledData → LogEntry → List LogEntry → List (PortId × Step)
+errors_after a e past = errors_told a.core.cluster e past a.rules.errors
 
 -- what making a step answers to which no rule adds
 abbrev pub IsStepFault : MakeFault → CoreData → Type 0

@@ -9,6 +9,7 @@ use Rattle.lin_bench.specs.Slots.{Course, slot_limit, ended_slot_count}
 use Rattle.lin_bench.specs.Verdicts.{all_taken}
 use Rattle.lin_bench.specs.declared.bench.Bench.TheInside.{Inside}
 use Rattle.lin_bench.specs.declared.expected.Expected.{Expected}
+use Rattle.lin_bench.specs.declared.faults.ArmedFault.{ArmedFault}
 use Rattle.lin_bench.specs.declared.fault.MakeFault.{MakeFault}
 use Rattle.lin_bench.specs.declared.fault.MakeFault.TheVariants.{LogFull, OutOfMemory}
 use Rattle.lin_bench.specs.declared.got.Verdict.{Verdict}
@@ -37,9 +38,17 @@ bench_data a = record {
 abbrev pub AreKnown : Inside → Type 0
 AreKnown a = IsSearchState a.ruled.core.log a.taken
 
--- a bench on which no line was made
+-- a bench on which no line was made, under these faults
+abbrev pub fresh_under : List ArmedFault → CoreData → BenchData
+fresh_under faults core = record {
+  core = core;
+  rules = record no_rules { faults = faults };
+  taken = [];
+  left = slot_limit;
+}
+
 abbrev pub new_bench : CoreData → BenchData
-new_bench core = record { core = core; rules = no_rules; taken = []; left = slot_limit }
+new_bench core = fresh_under [] core
 
 abbrev pub with_all_slots : BenchData → BenchData
 with_all_slots b = record b { left = slot_limit }

@@ -11,6 +11,7 @@ pub mod Parts
 pub mod Meanings
 pub mod Scripts
 pub mod Read
+pub mod Faults
 pub mod Added
 pub mod Slots
 pub mod Verdicts
@@ -26,6 +27,7 @@ pub mod Bench
 pub mod Strict
 pub mod Played
 pub mod Plays
+pub mod FaultLaws
 pub mod LineWords
 pub mod Texts
 pub mod Plain

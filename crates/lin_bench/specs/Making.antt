@@ -6,8 +6,9 @@ use Rattle.lin_core.specs.Core.{CoreData, IsAlike, past_of}
 use Rattle.lin_core.specs.declared.log.LogEntry.{LogEntry}
 use Rattle.lin_core.specs.declared.port.PortId.{PortId}
 use Rattle.lin_core.specs.declared.step.Step.{Step}
+use Rattle.lin_bench.specs.Faults.{is_changed, struck}
 use Rattle.lin_bench.specs.Made.{comes, fails, never_ends}
-use Rattle.lin_bench.specs.Slots.{Course, course_after, extent_steps, most, ended_slot_count}
+use Rattle.lin_bench.specs.Slots.{Course, course_after, after_made, extent_steps, most, ended_slot_count}
 use Rattle.lin_bench.specs.declared.expected.Expected.{Expected}
 use Rattle.lin_bench.specs.declared.slot_runs.Ending.{Ending}
 use Rattle.lin_bench.specs.declared.taken.EventKind.{EventKind}
@@ -54,6 +55,34 @@ abbrev pub MakesSteps : {X : Type 0} → RuledData → List (PortId × Step) →
     → Type 0
 MakesSteps old steps (Ok x) new = AreExecuted old steps new
 MakesSteps old steps (Err fault) new = StepsFail fault old steps × IsGrown old.core new.core
+
+-- whether a fault changes a step that a line says, and the rules with the faults after it
+abbrev pub is_changed_on : RuledData → PortId × Step → Bool
+is_changed_on a s = is_changed a.core.cluster a.core.capacity a.rules.faults (past_of a.core) s
+
+abbrev pub struck_on : RuledData → PortId × Step → Rules
+struck_on a s = record a.rules {
+  faults = struck a.core.cluster a.core.capacity a.rules.faults (past_of a.core) s;
+}
+
+-- likewise of steps that no fault changes
+abbrev pub made_on : RuledData → List (PortId × Step) → Course
+made_on a steps = after_made a.core.cluster a.core.opening a.core.capacity (course_on a) steps
+
+pub record IsMadeSo (old : RuledData) (steps : List (PortId × Step)) (new : RuledData) : Type 0 where
+  pub course : course_on new ≡ made_on old steps
+  pub alike : IsAlike old.core new.core
+
+abbrev pub UnchangedFail : MakeFault → RuledData → List (PortId × Step) → Type 0
+UnchangedFail LogFull a steps = 2 ^ 32 - 1 < length (made_on a steps).past
+UnchangedFail OutOfMemory a steps = Unit {0}
+
+abbrev pub MakesUnchanged : {X : Type 0} → RuledData → List (PortId × Step) → Result X MakeFault
+    → RuledData
+    → Type 0
+MakesUnchanged old steps (Ok x) new = IsMadeSo old steps new
+MakesUnchanged old steps (Err fault) new =
+    UnchangedFail fault old steps × IsGrown old.core new.core
 
 -- how slots end early, with what is taken and so many entries at the line's beginning: where what is
 -- expected comes; or, where it is to hold, where it fails

@@ -1,8 +1,9 @@
 -- What a bench script comes to: its lines on a bench, and the judgements on what is expected.
-use Rattle.std.specs.Prelude.{ℕ, Bool, false, true, not, ◌&&◌, if◌then◌else◌, length, List, [], ◌∷◌}
+use Rattle.std.specs.Prelude.{ℕ, Bool, false, true, not, ◌&&◌, if◌then◌else◌, length, List, [], ◌∷◌, map}
 use Rattle.std.specs.Prelude.{◌++◌, slice_get, Option, Some, None, Result, Ok, Err}
 use Rattle.std.specs.List.{list_any}
 use Rattle.lin_parts.specs.declared.parts.Parts.{Parts}
+use Rattle.lin_bench.specs.Faults.{armed_fault}
 use Rattle.lin_bench.specs.Made.{BenchState, made}
 use Rattle.lin_bench.specs.Rules.{no_rules}
 use Rattle.lin_bench.specs.Slots.{slot_limit}
@@ -12,11 +13,26 @@ use Rattle.lin_bench.specs.declared.got.Judged.TheVariants as judged
 use Rattle.lin_bench.specs.declared.got.Judgement.{Judgement}
 use Rattle.lin_bench.specs.declared.got.Verdict.{Verdict}
 use Rattle.lin_bench.specs.declared.got.Verdict.TheVariants.{Met, Unmet, SlotLimit}
+use Rattle.lin_bench.specs.declared.faults.SlotFault.{SlotFault}
 use Rattle.lin_bench.specs.declared.line.ScriptLine.{ScriptLine}
+use Rattle.lin_bench.specs.declared.playing.LineEnd.{LineEnd}
 
 -- ---- the bench
+-- under these faults
+abbrev pub first_under : List SlotFault → BenchState
+first_under fs = record {
+  past = [];
+  rules = record no_rules { faults = map armed_fault fs };
+  taken = [];
+  left = slot_limit;
+}
+
 abbrev pub initial_bench : BenchState
-initial_bench = record { past = []; rules = no_rules; taken = []; left = slot_limit }
+initial_bench = first_under []
+
+abbrev pub is_limit : Verdict → Bool
+is_limit SlotLimit = true
+is_limit verdict = false
 
 -- what line n came to; its number alone where it makes more slots than are left
 abbrev pub line_result : ℕ → BenchState → Verdict → Result BenchState ℕ
@@ -34,9 +50,13 @@ in_turn c opening capacity (Ok b) [] = Ok b
 in_turn c opening capacity (Ok b) (l ∷ ls) =
     in_turn c opening capacity (next c opening capacity b l) ls
 
--- the bench to which these lines come, or the line that makes more slots than a run may have
+-- the bench to which these lines come under faults, or the line that makes more slots than a run may
+-- have
+abbrev pub come_to_under : Parts → ℕ → ℕ → List SlotFault → List (ℕ × ScriptLine) → Result BenchState ℕ
+come_to_under c opening capacity fs ls = in_turn c opening capacity (Ok (first_under fs)) ls
+
 abbrev pub come_to : Parts → ℕ → ℕ → List (ℕ × ScriptLine) → Result BenchState ℕ
-come_to c opening capacity ls = in_turn c opening capacity (Ok initial_bench) ls
+come_to c opening capacity ls = come_to_under c opening capacity [] ls
 
 -- ---- the judgements
 -- what a line expects came to
@@ -79,9 +99,13 @@ judged_from strict silent c opening capacity b (l ∷ ls) =
     of_line strict b l (made c opening capacity b l.1) (speaks_of_last (slice_get ls 0))
     ++ judged_from strict silent c opening capacity (made c opening capacity b l.1).0 ls
 
+abbrev pub judgements_under : Bool → Parts → ℕ → ℕ → List SlotFault → List (ℕ × ScriptLine)
+    → List Judgement
+judgements_under strict c opening capacity fs ls =
+    judged_from strict (is_silent strict ls) c opening capacity (first_under fs) ls
+
 abbrev pub judgements : Bool → Parts → ℕ → ℕ → List (ℕ × ScriptLine) → List Judgement
-judgements strict c opening capacity ls =
-    judged_from strict (is_silent strict ls) c opening capacity initial_bench ls
+judgements strict c opening capacity ls = judgements_under strict c opening capacity [] ls
 
 abbrev pub is_unmet : Judged → Bool
 is_unmet (judged.Met what) = false
@@ -99,8 +123,49 @@ abbrev pub with_judgements : List Judgement → Result BenchState ℕ → Result
 with_judgements js (Ok b) = Ok (record { bench = b; judgements = js })
 with_judgements js (Err n) = Err n
 
--- what a bench script of these lines comes to, or the line that makes more slots than a run may
--- have
+-- what a bench script of these lines comes to under faults, or the line that makes more slots than a
+-- run may have
+abbrev pub played_under : Bool → Parts → ℕ → ℕ → List SlotFault → List (ℕ × ScriptLine) → Result Run ℕ
+played_under strict c opening capacity fs ls =
+    with_judgements (judgements_under strict c opening capacity fs ls)
+    (come_to_under c opening capacity fs ls)
+
+-- under no fault it is a play
 abbrev pub play_result : Bool → Parts → ℕ → ℕ → List (ℕ × ScriptLine) → Result Run ℕ
-play_result strict c opening capacity ls =
-    with_judgements (judgements strict c opening capacity ls) (come_to c opening capacity ls)
+play_result strict c opening capacity ls = played_under strict c opening capacity [] ls
+
+-- ---- the ends of lines
+-- how many entries the log had after each of these lines on a bench, up to one that makes more slots
+-- than are left
+abbrev pub ended : ℕ × ScriptLine → BenchState × Verdict → List LineEnd → List LineEnd
+ended l (b, SlotLimit) more = []
+ended l (b, verdict) more = record { line = l.0; entries = length b.past } ∷ more
+
+abbrev pub ends_from : Parts → ℕ → ℕ → BenchState → List (ℕ × ScriptLine) → List LineEnd
+ends_from c opening capacity b [] = []
+ends_from c opening capacity b (l ∷ ls) =
+    let m = made c opening capacity b l.1
+    in ended l m (ends_from c opening capacity m.0 ls)
+
+abbrev pub ends_under : Parts → ℕ → ℕ → List SlotFault → List (ℕ × ScriptLine) → List LineEnd
+ends_under c opening capacity fs ls = ends_from c opening capacity (first_under fs) ls
+
+-- ---- the whole of a play, also if it reaches the limit
+-- the bench after lines on a bench, where the last of them that was made may be one that makes more
+-- slots than are left
+abbrev pub bench_after : Parts → ℕ → ℕ → BenchState → List (ℕ × ScriptLine) → BenchState
+bench_after c opening capacity b [] = b
+bench_after c opening capacity b (l ∷ ls) =
+    let m = made c opening capacity b l.1
+    in if is_limit m.1 then m.0 else bench_after c opening capacity m.0 ls
+
+-- likewise the judgements
+abbrev pub judged_up_to : Bool → Bool → Parts → ℕ → ℕ → BenchState → List (ℕ × ScriptLine)
+    → List Judgement
+judged_up_to strict silent c opening capacity b [] =
+    on_line 1 (length b.past) (nothing_expected silent)
+judged_up_to strict silent c opening capacity b (l ∷ ls) =
+    let m = made c opening capacity b l.1
+    in if is_limit m.1 then []
+    else of_line strict b l m (speaks_of_last (slice_get ls 0))
+    ++ judged_up_to strict silent c opening capacity m.0 ls

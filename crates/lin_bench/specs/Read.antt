@@ -1,5 +1,5 @@
 -- What reading a part of a line answers, beside what the definition reads.
-use Rattle.std.specs.Prelude.{◌≡◌, ℕ, List, [], ◌∷◌, Option, Some, None, Result, Ok, Err}
+use Rattle.std.specs.Prelude.{◌≡◌, ℕ, Bool, true, false, List, [], ◌∷◌, Option, Some, None, Result, Ok, Err}
 use Rattle.lin_log.specs.declared.reason.LineFault.{LineFault as StepFault}
 use Rattle.lin_log.specs.declared.reason.LineFault.TheVariants as faults
 use Rattle.lin_bench.specs.declared.fault.LineFault.{LineFault}
@@ -27,6 +27,11 @@ Fails OutOfMemory read = Unit {0}
 abbrev pub Gives : {X Y : Type 0} → (X → Y) → Result X LineFault → Result Y Reason → Type 0
 Gives view (Ok x) read = read ≡ Ok (view x)
 Gives view (Err e) read = Fails e read
+
+abbrev pub is_bad_line : {X : Type 0} → Result X LineFault → Bool
+is_bad_line (Ok x) = false
+is_bad_line (Err (Bad why)) = true
+is_bad_line (Err OutOfMemory) = false
 
 -- what reading a bench script answers
 abbrev pub ReadFails : ReadFault → Script → Type 0

@@ -20,8 +20,17 @@ use Rattle.lin_bench.specs.declared.rules.Rule.TheVariants as rule
 use Rattle.lin_bench.specs.declared.rules.Rules.{Rules}
 use Rattle.lin_bench.specs.declared.rules.When.{When}
 
+-- no rule, and no fault
 abbrev pub no_rules : Rules
-no_rules = record { whens = []; limit_ms = None; everies = []; errors = false; services = false; noted = [] }
+no_rules = record {
+  whens = [];
+  limit_ms = None;
+  everies = [];
+  errors = false;
+  services = false;
+  noted = [];
+  faults = [];
+}
 
 -- ---- patterns
 abbrev pub fits_byte : Option ℕ → ℕ → Bool

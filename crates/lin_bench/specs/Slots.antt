@@ -21,6 +21,7 @@ use Rattle.lin_core.specs.declared.reply.Reply.TheVariants.{Done, Refused}
 use Rattle.lin_core.specs.declared.step.Step.{Step}
 use Rattle.lin_core.specs.declared.step.Step.TheVariants.{Open, Answer, Leave, Hurt, Finish}
 use Rattle.lin_bench.specs.Added.{added_steps, rules_after}
+use Rattle.lin_bench.specs.Faults.{disturbed_steps, struck}
 use Rattle.lin_bench.specs.declared.got.Pending.{Pending}
 use Rattle.lin_bench.specs.declared.got.Pending.TheVariants.{MessagesWait, AnswersNoted}
 use Rattle.lin_bench.specs.declared.line.Disturbance.{Disturbance}
@@ -36,7 +37,7 @@ past_after c opening capacity past [] = past
 past_after c opening capacity past (s ∷ ss) =
     past_after c opening capacity (entry_of c opening capacity past s ∷ past) ss
 
--- a history, and the rules in force with the answers that are noted
+-- a history, and the rules in force with the answers that are noted, and the faults
 pub record Course : Type 0 where
   pub past : List LogEntry
   pub rules : Rules
@@ -48,12 +49,26 @@ with_entry c opening capacity at e = record {
   rules = rules_after c e at.past at.rules;
 }
 
--- what more steps come to, each with those that the rules add after it
+-- what steps that are made come to, each with those that the rules add after it
+abbrev pub after_made : Parts → ℕ → ℕ → Course → List (PortId × Step) → Course
+after_made c opening capacity at [] = at
+after_made c opening capacity at (s ∷ ss) =
+    after_made c opening capacity
+    (with_entry c opening capacity at (entry_of c opening capacity at.past s)) ss
+
+-- the faults after a step that a line says
+abbrev pub with_struck : Parts → ℕ → Course → PortId × Step → Course
+with_struck c capacity at s = record at {
+  rules = record at.rules { faults = struck c capacity at.rules.faults at.past s };
+}
+
+-- what more steps that lines say come to, each as the faults change it
 abbrev pub course_after : Parts → ℕ → ℕ → Course → List (PortId × Step) → Course
 course_after c opening capacity at [] = at
 course_after c opening capacity at (s ∷ ss) =
     course_after c opening capacity
-    (with_entry c opening capacity at (entry_of c opening capacity at.past s)) ss
+    (after_made c opening capacity (with_struck c capacity at s)
+    (disturbed_steps c capacity at.rules.faults at.past s)) ss
 
 abbrev pub due_node : Event → Option ℕ
 due_node (Due node) = Some node

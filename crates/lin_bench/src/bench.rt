@@ -1,6 +1,6 @@
 //! Benches in hand.
 
-ghost use Rattle.std.specs.Prelude.{◌≡◌, [], IfOk, OnOk, option_map};
+ghost use Rattle.std.specs.Prelude.{◌≡◌, [], IfOk, OnOk, count_by, not, option_map};
 ghost use Rattle.lin_bench.specs.Bench.{early_end};
 ghost use Rattle.lin_core.specs.Core.{past_of};
 ghost use Rattle.lin_bench.specs.Made.{expected_after, met_or};
@@ -12,6 +12,7 @@ ghost use Rattle.lin_bench.specs.declared.line.Disturbance.{Disturbance};
 
 use crate::expected::Expected;
 use crate::fault::MakeFault;
+use crate::faults::ArmedFault;
 use crate::got::{Pending, Verdict};
 use crate::line::{Disturbance, Extent, ScriptLine, Slots};
 use crate::ruled::{RuledCore, pending};
@@ -19,6 +20,7 @@ use crate::slot_runs::{Ending, SLOT_LIMIT, slots};
 use crate::taken::{Cleared, TakenEvents};
 use crate::verdicts::verdict;
 use lin_core::Core;
+use lin_text::Many;
 use std::alloc::{AllocError, Global};
 use std::marker::Model;
 
@@ -99,7 +101,8 @@ fn early_end(early: Early, expected: &Option<Expected>) -> Option<Ending<'_>>
 }
 
 impl Bench {
-    ghost use Rattle.lin_bench.specs.Bench.{GivesVerdict, MakesBench, MakesLine, forgotten, new_bench, made_early};
+    ghost use Rattle.lin_bench.specs.Bench.{GivesVerdict, MakesBench, MakesLine, forgotten, new_bench, fresh_under};
+    ghost use Rattle.lin_bench.specs.Bench.{made_early};
     ghost use Rattle.lin_bench.specs.Bench.{with_all_slots};
 
     /// A bench over a core with an empty log, on which no rule is in force. Its lines of slots may
@@ -108,8 +111,16 @@ impl Bench {
         requires { core.log ≡ [] }
         ensures { result ≡ new_bench core }
     {
+        Bench::under(alloc, core, Many::new(Vec::new(alloc)))
+    }
+
+    /// Likewise, but the steps of lines are made under these faults.
+    pub(crate) fn under(alloc: Global, core: Core, faults: Many<ArmedFault>) -> Bench
+        requires { core.log ≡ [] }
+        ensures { result ≡ fresh_under faults core }
+    {
         Bench {
-            ruled: RuledCore::new(alloc, core),
+            ruled: RuledCore::new(alloc, core, faults),
             taken: TakenEvents {
                 forgotten: 0,
                 searches: Vec::new(alloc),
@@ -132,6 +143,13 @@ impl Bench {
     {
         let Bench { ruled, .. } = self;
         ruled.into_core()
+    }
+
+    /// Returns how many faults have changed no step.
+    pub(crate) fn missed(&self) -> usize
+        ensures { result ≡ count_by (λ f. not f.has_struck) self.now.rules.faults }
+    {
+        self.ruled.missed()
     }
 
     /// The hosts of which messages wait, and then the nodes of which answers are noted, and how

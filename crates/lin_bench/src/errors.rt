@@ -7,12 +7,10 @@ ghost use Rattle.lin_parts.specs.Cluster.{has_signal, nodes};
 ghost use Rattle.lin_parts.specs.Rules.{IsErrorSignal, is_event};
 ghost use Rattle.lin_core.specs.Core.{past_of};
 ghost use Rattle.lin_core.specs.History.{Slot, events, good, header_is, is_in, seen_of};
-ghost use Rattle.lin_core.specs.Runs.{entry_of};
 ghost use Rattle.lin_core.specs.Signals.{heard_value, value};
 ghost use Rattle.lin_core.specs.declared.log.LogEntry.{LogEntry};
 ghost use Rattle.lin_core.specs.declared.port.PortId.{PortId};
-ghost use Rattle.lin_core.specs.declared.step.Step.TheVariants.{Finish};
-ghost use Rattle.lin_bench.specs.Adding.{HasFinished, damaged_in, good_in};
+ghost use Rattle.lin_bench.specs.Adding.{AfterFinish, HasFinished, damaged_in, good_in};
 ghost use Rattle.lin_bench.specs.Carried.{shape, shape_in};
 ghost use Rattle.lin_bench.specs.Errors.{concerns, ended_slot, error_told, errors_told, is_damaged_seen};
 ghost use Rattle.lin_bench.specs.Errors.{equals_scalar, reports_error, set_after, set_to, error_write};
@@ -223,10 +221,8 @@ pub(crate) fn tell_errors(
     steps: &mut Vec<(PortId, Step)>,
 ) -> Result<(), AllocError>
     requires { 0 < length core.now.log }
-    ensures { OnOk result ((by : PortId) → (past : List LogEntry) → (s : Slot)
-        → HasFinished core.now by past s
-        → steps.new.items ≡ steps.old.items ++ errors_told core.now.cluster
-        (entry_of core.now.cluster core.now.opening core.now.capacity past (by, Finish)) past true) }
+    ensures { OnOk result (AfterFinish core.now (λ e past. steps.new.items
+        ≡ steps.old.items ++ errors_told core.now.cluster e past true)) }
 {
     match last_ended(alloc, core)? {
         Some(ended) => add_writes(core, &ended, steps),

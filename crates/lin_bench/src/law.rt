@@ -1,5 +1,6 @@
-//! What bench scripts say that are scripts of steps alone.
+//! What bench scripts say that are scripts of steps alone, and what rules and faults leave as it is.
 
+ghost use Rattle.lin_bench.specs.FaultLaws.{IsAlikeBefore, NoFaultIsRefused, UnderNoneIsPlayed};
 ghost use Rattle.lin_bench.specs.Plain.{NamedTexts, PlainScripts};
 ghost use Rattle.lin_bench.specs.RuleLaws.{AddedByAnyFinish, AddedByHistoryAndRules, NoRuleAddsNothing};
 ghost use Rattle.lin_bench.specs.RuleLaws.{NoRuleChangesNothing};
@@ -18,4 +19,12 @@ pub fn rules_alone_add_steps()
     ensures unchanged { NoRuleChangesNothing }
     ensures any_finish { AddedByAnyFinish }
     ensures alone { AddedByHistoryAndRules }
+{}
+
+/// A play under no fault is a play. A step that a fault makes is never refused. A line comes to what it
+/// comes to undisturbed if the first slot of no fault is opened by it, or before.
+pub fn faults_change_their_slots_alone()
+    ensures none { UnderNoneIsPlayed }
+    ensures done { NoFaultIsRefused }
+    ensures before { IsAlikeBefore }
 {}

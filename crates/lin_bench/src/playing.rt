@@ -1,11 +1,12 @@
 //! Bench scripts, played.
 
-ghost use Rattle.std.specs.Prelude.{◌≡◌, ◌<◌, ◌≤◌, ◌++◌, false, length, true, OnOk};
+ghost use Rattle.std.specs.Prelude.{◌≡◌, ◌<◌, ◌≤◌, ◌∷◌, ◌++◌, [], false, length, true, OnOk};
 ghost use Rattle.lin_bench.specs.Played.{is_silent, nothing_expected, on_line};
-ghost use Rattle.lin_bench.specs.Plays.{EndsWithFullLog, Plays, PlaysLine, has_rule};
+ghost use Rattle.lin_bench.specs.Plays.{EndsWithFullLog, Plays, PlaysLine, PlaysOn, PlaysUnder, has_rule, limit_of};
 
 use crate::bench::Bench;
 use crate::fault::{MakeFault, PlayFault};
+use crate::faults::{SlotFault, arm_all};
 use crate::got::{Judged, Judgement, Verdict};
 use crate::line::ScriptLine;
 use crate::strict::{expects_something, left_out, speaks_of_last, strictly};
@@ -21,6 +22,29 @@ pub struct Played {
     pub core: Core,
     /// The judgements on what is expected, in order.
     pub judgements: Many<Judgement>,
+}
+
+/// A line that was played, by its number, and how many entries the log had after it.
+#[derive(Clone, Copy, Debug)]
+pub struct LineEnd {
+    pub line: u64,
+    pub entries: usize,
+}
+
+/// A bench script that was played under faults.
+#[derive(Drop)]
+pub struct PlayedUnder {
+    /// The core, with the log of all steps that were made.
+    pub core: Core,
+    /// The judgements on what is expected, in order; up to the limit if it was reached.
+    pub judgements: Many<Judgement>,
+    /// The ends of the lines, in order.
+    pub ends: Many<LineEnd>,
+    /// How many of the faults changed no step.
+    pub missed: usize,
+    /// The line by which lines of slots make more than 1,000,000, if there is one. The slots up to
+    /// there were made.
+    pub limit: Option<u64>,
 }
 
 /// Adds a judgement on a line after all entries of a log, if there is one. An error means out of
@@ -41,6 +65,18 @@ fn add(
             judged,
         })?;
     }
+    Ok(())
+}
+
+/// Adds the end of a line after all entries of a log. An error means out of memory.
+fn add_end(ends: &mut Vec<LineEnd>, line: u64, log: &Log) -> Result<(), AllocError>
+    ensures { OnOk result (ends.new.items
+        ≡ ends.old.items ++ record { line = line; entries = length log.now.entries } ∷ []) }
+{
+    ends.push(LineEnd {
+        line,
+        entries: log.len(),
+    })?;
     Ok(())
 }
 
@@ -130,6 +166,41 @@ fn nothing_expected(is_silent: bool) -> Option<Judged>
     }
 }
 
+/// Plays lines on a bench, of which these judgements and ends of lines are kept, and then judges that
+/// something is expected.
+fn play_on(
+    alloc: Global,
+    is_strict: bool,
+    bench: &mut Bench,
+    judgements: &mut Vec<Judgement>,
+    ends: &mut Vec<LineEnd>,
+    lines: Vec<(u64, ScriptLine)>,
+) -> Result<(), PlayFault>
+    ensures { PlaysOn is_strict bench.old judgements.old.items ends.old.items lines.items result
+        bench.new judgements.new.items ends.new.items }
+{
+    let is_silent = is_silent(is_strict, lines.as_slice());
+    let mut rest = lines.into_iter();
+    let mut next = rest.next();
+    while let Some(line) = next {
+        next = rest.next();
+        let number = line.0;
+        let is_told = speaks_of_last(&next);
+        match play_numbered(alloc, is_strict, bench, judgements, line, is_told) {
+            Ok(()) => {}
+            Err(fault) => return Err(fault),
+        }
+        add_end(ends, number, bench.core().log())?;
+    }
+    add(
+        judgements,
+        1,
+        bench.core().log(),
+        nothing_expected(is_silent),
+    )?;
+    Ok(())
+}
+
 /// Plays a bench script of these lines, each with its number, on a new core over a cluster: makes
 /// the steps that each line says after those before it, and judges what is expected at its line.
 /// Where it is strict, it also judges that no step was refused of which the next line doesn't speak,
@@ -161,25 +232,84 @@ pub fn play(
     cluster.sound();
     let mut bench = Bench::new(alloc, Core::new(alloc, cluster, table, capacity)?);
     let mut judgements = Vec::new(alloc);
-    let is_silent = is_silent(is_strict, lines.as_slice());
-    let mut rest = lines.into_iter();
-    let mut next = rest.next();
-    while let Some(line) = next {
-        next = rest.next();
-        let is_told = speaks_of_last(&next);
-        match play_numbered(alloc, is_strict, &mut bench, &mut judgements, line, is_told) {
-            Ok(()) => {}
-            Err(fault) => return Err(fault),
-        }
-    }
-    add(
+    let mut ends = Vec::new(alloc);
+    match play_on(
+        alloc,
+        is_strict,
+        &mut bench,
         &mut judgements,
-        1,
-        bench.core().log(),
-        nothing_expected(is_silent),
-    )?;
-    Ok(Played {
+        &mut ends,
+        lines,
+    ) {
+        Ok(()) => Ok(Played {
+            core: bench.into_core(),
+            judgements: Many::new(judgements),
+        }),
+        Err(fault) => Err(fault),
+    }
+}
+
+/// Returns the line by which a play reached the slot limit, or `None` if it didn't.
+///
+/// # Errors
+/// All other errors of the play.
+fn limit_of(played: Result<(), PlayFault>) -> Result<Option<u64>, PlayFault>
+    ensures { result ≡ limit_of played }
+{
+    match played {
+        Ok(()) => Ok(None),
+        Err(PlayFault::SlotLimit { line }) => Ok(Some(line)),
+        Err(PlayFault::LogFull) => Err(PlayFault::LogFull),
+        Err(PlayFault::OutOfMemory) => Err(PlayFault::OutOfMemory),
+    }
+}
+
+/// Plays a bench script as `play` does, but makes the steps of its lines under faults.
+///
+/// - In the slots of an absence of node N, the node omits its response: an `answer N` that would be done
+///   becomes `leave N`, by the same port.
+/// - In the slots of a damage, `bus hurt -` goes before a `finish` that would be done, if the slot has
+///   exactly one response and it isn't corrupted.
+///
+/// The slot limit isn't an error here: the core has the slots up to it.
+///
+/// # Errors
+/// The cluster is dropped after each of them: `LogFull` and `OutOfMemory`, as of `play`.
+pub fn play_under(
+    alloc: Global,
+    cluster: Cluster,
+    table: u16,
+    capacity: usize,
+    lines: Vec<(u64, ScriptLine)>,
+    is_strict: bool,
+    faults: &[SlotFault],
+) -> Result<PlayedUnder, PlayFault>
+    requires table { table < length cluster.tables }
+    requires capacity { (1 ≤ capacity) × (capacity ≤ 1024) }
+    ensures plays { PlaysUnder is_strict cluster table capacity faults.now lines.items result }
+    ensures few { length lines.items ≤ 16777217 → EndsWithFullLog result → has_rule lines.items ≡ true }
+{
+    cluster.sound();
+    let core = Core::new(alloc, cluster, table, capacity)?;
+    let armed = arm_all(alloc, faults)?;
+    let mut bench = Bench::under(alloc, core, armed);
+    let mut judgements = Vec::new(alloc);
+    let mut ends = Vec::new(alloc);
+    let played = play_on(
+        alloc,
+        is_strict,
+        &mut bench,
+        &mut judgements,
+        &mut ends,
+        lines,
+    );
+    let limit = limit_of(played)?;
+    let missed = bench.missed();
+    Ok(PlayedUnder {
         core: bench.into_core(),
         judgements: Many::new(judgements),
+        ends: Many::new(ends),
+        missed,
+        limit,
     })
 }

@@ -1,20 +1,19 @@
 //! Cores on which rules are in force.
 
-ghost use Rattle.std.specs.Prelude.{◌≡◌, ◌<◌, ◌==◌, ◌++◌, ◌∷◌, [], count_by, false, filter, if◌then◌else◌, is_some, length, map, true, IfOk, List, None, OnOk};
+ghost use Rattle.std.specs.Prelude.{◌≡◌, ◌<◌, ◌==◌, ◌++◌, ◌∷◌, [], count_by, false, filter, length, map, not, IfOk, None, OnOk};
 ghost use Rattle.std.specs.List.{list_any};
-ghost use Rattle.lin_parts.specs.Cluster.{nad, nodes};
+ghost use Rattle.lin_parts.specs.Cluster.{nodes};
 ghost use Rattle.lin_core.specs.Core.{past_of};
-ghost use Rattle.lin_core.specs.History.{Slot, open_slot, time};
+ghost use Rattle.lin_core.specs.History.{open_slot, time};
 ghost use Rattle.lin_core.specs.Replies.{link_at};
-ghost use Rattle.lin_core.specs.Runs.{entry_of};
-ghost use Rattle.lin_core.specs.declared.log.LogEntry.{LogEntry};
-ghost use Rattle.lin_core.specs.declared.port.PortId.{PortId};
-ghost use Rattle.lin_core.specs.declared.step.Step.TheVariants.{Finish};
-ghost use Rattle.lin_bench.specs.Added.{has_time, is_given_up, links_at, noted_by, send_of, step_to_repeat};
-ghost use Rattle.lin_bench.specs.Added.{timeout_step, timeouts, times_until};
-ghost use Rattle.lin_bench.specs.Adding.{AddsAfterFinish, HasFinished, MakesAdded, MakesOne};
-ghost use Rattle.lin_bench.specs.Errors.{errors_told};
-ghost use Rattle.lin_bench.specs.Making.{MakesSteps};
+ghost use Rattle.lin_core.specs.declared.port.PortId.TheVariants.{Bus};
+ghost use Rattle.lin_core.specs.declared.step.Step.TheVariants.{Finish, Hurt};
+ghost use Rattle.lin_bench.specs.Added.{has_time, is_given_up, send_of, step_to_repeat};
+ghost use Rattle.lin_bench.specs.Added.{timeouts, times_until};
+ghost use Rattle.lin_bench.specs.Adding.{AddsAfterFinish, AfterFinish, CountsFinished, MakesAdded, MakesOne};
+ghost use Rattle.lin_bench.specs.Adding.{errors_after, timeouts_of, with_noted};
+ghost use Rattle.lin_bench.specs.Faults.{changed_steps};
+ghost use Rattle.lin_bench.specs.Making.{MakesSteps, MakesUnchanged, is_changed_on, struck_on};
 ghost use Rattle.std.specs.Option.{option_copied};
 ghost use Rattle.lin_bench.specs.Rules.{is_due_at, kept_at, no_rules, ruled, sent_at, serving};
 ghost use Rattle.lin_bench.specs.Slots.{nodes_noted, pending};
@@ -24,23 +23,26 @@ use crate::answers::{add_when, note_events};
 use crate::ends::Ends;
 use crate::errors::tell_errors;
 use crate::fault::MakeFault;
+use crate::faults::{ArmedFault, missed, no_bytes, strike, target};
 use crate::got::Pending;
 use crate::replies::{is_done, is_finish, went_to_all};
 use crate::rules::{Noted, Repeated, Rule, Rules};
 use crate::slot_runs::hosts_waiting;
-use lin_core::{Core, Direction, Hold, PortId, Reply, Step};
+use lin_core::{Core, Direction, Hold, Log, PortId, Reply, Step};
 use lin_parts::Cluster;
 use lin_text::Many;
 use std::alloc::{AllocError, Global};
 use std::marker::Model;
 use std::mem;
 
-/// A core, and the rules in force. Contracts see both.
+/// A core, and the rules in force with the faults. Contracts see both. Beside them are the ends of the
+/// last good frames, and how many slots were finished.
 #[derive(Drop)]
 pub(crate) struct RuledCore {
     core: Core,
     rules: Rules,
     ends: Ends,
+    slots: u64,
 }
 
 impl Model for RuledCore {
@@ -61,6 +63,22 @@ fn step_alone(core: &mut Core, by: PortId, step: Step) -> Result<(), MakeFault>
         Ok(()) => Ok(()),
         Err(Hold::LogFull(_)) => Err(MakeFault::LogFull),
         Err(Hold::OutOfMemory(_)) => Err(MakeFault::OutOfMemory),
+    }
+}
+
+/// Returns how many slots were finished when a step was logged, by whether it is a finish and how many
+/// there were before it.
+fn slots_after(log: &Log, finishes: bool, before: u64) -> u64
+    requires { before < length log.now.entries }
+    ensures { CountsFinished log.now.entries finishes before result }
+{
+    if !finishes {
+        return before;
+    }
+    if is_done(log.entry(log.len() - 1)) {
+        before + 1
+    } else {
+        before
     }
 }
 
@@ -135,10 +153,11 @@ fn count_noted(noted: &[Noted], node: u8) -> usize
 }
 
 impl RuledCore {
-    /// A core on which no rule is in force, and whose log is empty.
-    pub(crate) fn new(alloc: Global, core: Core) -> RuledCore
+    /// A core on which no rule is in force, and whose log is empty. The steps of lines are made under
+    /// these faults.
+    pub(crate) fn new(alloc: Global, core: Core, faults: Many<ArmedFault>) -> RuledCore
         requires { core.log ≡ [] }
-        ensures { result ≡ record { core = core; rules = no_rules } }
+        ensures { result ≡ record { core = core; rules = record no_rules { faults = faults } } }
     {
         RuledCore {
             core,
@@ -149,8 +168,10 @@ impl RuledCore {
                 errors: false,
                 services: false,
                 noted: Many::new(Vec::new(alloc)),
+                faults,
             },
             ends: Ends::new(),
+            slots: 0,
         }
     }
 
@@ -172,6 +193,13 @@ impl RuledCore {
         ensures { result.now ≡ self.now.rules.noted }
     {
         self.rules.noted.as_slice()
+    }
+
+    /// Returns how many faults have changed no step.
+    pub(crate) fn missed(&self) -> usize
+        ensures { result ≡ count_by (λ f. not f.has_struck) self.now.rules.faults }
+    {
+        missed(self.rules.faults.as_slice())
     }
 
     /// Puts a rule in force, or out of it. An error means out of memory.
@@ -203,19 +231,22 @@ impl RuledCore {
         ensures added { MakesAdded self.old.core ((by, step) ∷ []) result self.new.core }
         ensures rules { self.new.rules ≡ self.old.rules }
     {
-        let slot = if is_finish(&step) && !self.core.is_in_service() {
+        let finishes = is_finish(&step);
+        let slot = if finishes && !self.core.is_in_service() {
             self.core.open_slot()
         } else {
             None
         };
         step_alone(&mut self.core, by, step)?;
+        self.slots = slots_after(self.core.log(), finishes, self.slots);
         if let Some((header, node)) = slot {
             self.ends.hear(&self.core, header, node);
         }
         Ok(())
     }
 
-    /// Whether rules may add a step; where they can't, none is in force and no answer is noted.
+    /// Whether rules may add a step. If they can't, no rule is in force, no answer is noted, and there is
+    /// no fault.
     fn may_add(&self) -> bool
         ensures { result ≡ false → self.now.rules ≡ no_rules }
     {
@@ -226,11 +257,12 @@ impl RuledCore {
             || !rules.whens.as_slice().is_empty()
             || !rules.everies.as_slice().is_empty()
             || !rules.noted.as_slice().is_empty()
+            || !rules.faults.as_slice().is_empty()
     }
 
-    /// Makes a step by a port, and what the rules add after it.
-    pub(crate) fn make(&mut self, alloc: Global, by: PortId, step: Step) -> Result<(), MakeFault>
-        ensures { MakesSteps self.old ((by, step) ∷ []) result self.new }
+    /// Makes a step by a port, whatever the faults are, and what the rules add after it.
+    fn make_unchanged(&mut self, alloc: Global, by: PortId, step: Step) -> Result<(), MakeFault>
+        ensures { MakesUnchanged self.old ((by, step) ∷ []) result self.new }
     {
         let began = self.core.time();
         let finishes = is_finish(&step);
@@ -241,17 +273,59 @@ impl RuledCore {
         Ok(())
     }
 
+    /// Marks the faults that change a step by a port, and returns whether there is one. An error means
+    /// out of memory.
+    fn strike(&mut self, alloc: Global, by: PortId, step: &Step) -> Result<bool, AllocError>
+        ensures changed { IfOk result (λ is. is ≡ is_changed_on self.old (by, step.now)) }
+        ensures struck { OnOk result (self.new.rules ≡ struck_on self.old (by, step.now)) }
+        ensures core { self.new.core ≡ self.old.core }
+    {
+        if self.rules.faults.as_slice().is_empty() {
+            return Ok(false);
+        }
+        match target(alloc, &self.core, by, step)? {
+            Some(kind) => Ok(strike(&mut self.rules.faults, self.slots, kind)),
+            None => Ok(false),
+        }
+    }
+
+    /// Corrupts the only response of the open slot, and finishes the slot by a port.
+    fn finish_damaged(&mut self, alloc: Global, by: PortId) -> Result<(), MakeFault>
+        ensures { MakesUnchanged self.old ((Bus, Hurt []) ∷ (by, Finish) ∷ []) result self.new }
+    {
+        let damage = no_bytes(alloc)?;
+        self.make_unchanged(alloc, PortId::Bus, damage)?;
+        self.make_unchanged(alloc, by, Step::Finish)
+    }
+
+    /// Makes the steps that replace a step that a fault changes.
+    fn make_changed(&mut self, alloc: Global, by: PortId, step: Step) -> Result<(), MakeFault>
+        ensures { MakesUnchanged self.old (changed_steps (by, step)) result self.new }
+    {
+        match step {
+            Step::Answer { node } => self.make_unchanged(alloc, by, Step::Leave { node }),
+            Step::Finish => self.finish_damaged(alloc, by),
+            _ => self.make_unchanged(alloc, by, step),
+        }
+    }
+
+    /// Makes a step that a line says, by a port, as the faults change it, and what the rules add after
+    /// it.
+    pub(crate) fn make(&mut self, alloc: Global, by: PortId, step: Step) -> Result<(), MakeFault>
+        ensures { MakesSteps self.old ((by, step) ∷ []) result self.new }
+    {
+        if self.strike(alloc, by, &step)? {
+            return self.make_changed(alloc, by, step);
+        }
+        self.make_unchanged(alloc, by, step)
+    }
+
     /// Notes what is answered to the messages of the finish.
     fn note(&mut self, alloc: Global) -> Result<(), AllocError>
         requires { 0 < length self.old.core.log }
         ensures core { self.new.core ≡ self.old.core }
-        ensures noted { OnOk result ((by : PortId) → (past : List LogEntry) → (s : Slot)
-            → HasFinished self.old.core by past s
-            → self.new.rules ≡ record self.old.rules {
-              noted = noted_by self.old.core.cluster
-                  (entry_of self.old.core.cluster self.old.core.opening self.old.core.capacity past
-                  (by, Finish)) past self.old.rules;
-            }) }
+        ensures noted { OnOk result (AfterFinish self.old.core
+            (λ e past. self.new.rules ≡ with_noted self.old e past)) }
     {
         let time = self.core.time();
         let entry = self.core.newest();
@@ -294,9 +368,8 @@ impl RuledCore {
     ) -> Result<(), AllocError>
         requires node { node < nodes self.now.core.cluster }
         requires closed { open_slot (past_of self.now.core) ≡ None }
-        ensures { OnOk result (steps.new.items ≡ steps.old.items ++ map timeout_step (filter
-            (is_given_up self.now.core.cluster (past_of self.now.core) ms)
-            (if is_some (nad self.now.core.cluster node) then links_at node else []))) }
+        ensures { OnOk result (steps.new.items ≡ steps.old.items
+            ++ timeouts_of self.now.core.cluster (past_of self.now.core) ms node) }
     {
         if self.core.cluster().nad(node).is_none() {
             return Ok(());
@@ -330,11 +403,8 @@ impl RuledCore {
     /// Adds the steps by which errors are told, where they are.
     fn tell_errors(&self, alloc: Global, steps: &mut Vec<(PortId, Step)>) -> Result<(), AllocError>
         requires { 0 < length self.now.core.log }
-        ensures { OnOk result ((by : PortId) → (past : List LogEntry) → (s : Slot)
-            → HasFinished self.now.core by past s
-            → steps.new.items ≡ steps.old.items ++ errors_told self.now.core.cluster
-            (entry_of self.now.core.cluster self.now.core.opening self.now.core.capacity past
-            (by, Finish)) past self.now.rules.errors) }
+        ensures { OnOk result (AfterFinish self.now.core (λ e past. steps.new.items
+            ≡ steps.old.items ++ errors_after self.now e past)) }
     {
         if !self.rules.errors {
             return Ok(());
@@ -377,11 +447,8 @@ impl RuledCore {
     fn add(&mut self, alloc: Global, began: u64) -> Result<(), MakeFault>
         requires logged { 0 < length self.old.core.log }
         requires closed { open_slot (past_of self.old.core) ≡ None }
-        ensures { (by : PortId) → (past : List LogEntry) → (s : Slot)
-            → HasFinished self.old.core by past s
-            → began ≡ time self.old.core.cluster past
-            → AddsAfterFinish self.old (entry_of self.old.core.cluster self.old.core.opening
-            self.old.core.capacity past (by, Finish)) past result self.new }
+        ensures { AfterFinish self.old.core (λ e past. began ≡ time self.old.core.cluster past
+            → AddsAfterFinish self.old e past result self.new) }
     {
         self.note(alloc)?;
         let time = self.core.time();

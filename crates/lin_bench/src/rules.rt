@@ -1,5 +1,6 @@
 //! Rules, which lines say and which are in force for the lines after them.
 
+use crate::faults::ArmedFault;
 use lin_core::{Payload, PortId, Step};
 use lin_text::Many;
 
@@ -77,8 +78,8 @@ pub struct Noted {
     pub bytes: Payload,
 }
 
-/// The rules in force, each kind in the order of their lines, and the answers that are noted, in the
-/// order in which they are sent.
+/// The rules in force, each kind in the order of their lines, the answers that are noted, in the order in
+/// which they are sent, and the faults under which the steps of lines are made.
 #[derive(Drop)]
 pub struct Rules {
     pub whens: Many<When>,
@@ -87,4 +88,5 @@ pub struct Rules {
     pub errors: bool,
     pub services: bool,
     pub noted: Many<Noted>,
+    pub faults: Many<ArmedFault>,
 }

@@ -5,14 +5,14 @@ ghost use Rattle.std.specs.Char.{is_ascii_digit};
 ghost use Rattle.std.specs.List.{list_all};
 ghost use Rattle.lin_bench.specs.Fields.{line_fields, signal_field, field_texts};
 ghost use Rattle.lin_bench.specs.Lines.{read_line};
-ghost use Rattle.lin_bench.specs.Read.{Gives};
+ghost use Rattle.lin_bench.specs.Read.{Gives, is_bad_line};
 ghost use Rattle.lin_bench.specs.Words.{asks_value, begins_hex, is_array_word, is_hex, is_number_or_range};
 ghost use Rattle.lin_bench.specs.Words.{is_raw, is_signal, is_signal_after, missing_hint, or_this};
 ghost use Rattle.lin_bench.specs.Words.{or_unmarked, reads_zero, signal_in_fields, unmarked_reason, why_at};
 ghost use Rattle.lin_bench.specs.Words.{why_coded, why_unmarked, why_value};
 
 use crate::fault::LineFault;
-use crate::fields::{copied_fields, range_ends, signal_field};
+use crate::fields::{copied_fields, fields, range_ends, signal_field};
 use crate::hints::{texts_in, units_hint, units_in, values_hint};
 use crate::line::ScriptLine;
 use crate::lines::read_line;
@@ -266,24 +266,53 @@ fn or_this(found: Option<Reason>, why: Reason) -> Reason
     }
 }
 
-/// What a line without words, of these fields, says.
-pub(crate) fn read_unworded<'a>(
+/// What a line without words says, with the hint that `=` is missing if it is bad for that.
+fn with_hint(
     alloc: Global,
     cluster: &Cluster,
     coded: &Coded,
     line: &[u8],
-    all: &'a [&'a [u8]],
+    said: Result<Option<ScriptLine>, LineFault>,
 ) -> Result<Option<ScriptLine>, LineFault>
-    requires { field_texts all.now ≡ line_fields line.now }
+    requires { Gives (λ l. l) said (read_line cluster.now line.now) }
     ensures { Gives (λ l. l) result
         (or_unmarked cluster.now coded.now (line_fields line.now) (read_line cluster.now line.now)) }
 {
-    match read_line(alloc, cluster, line) {
-        Ok(said) => Ok(said),
-        Err(LineFault::Bad(why)) => match why_unmarked(alloc, cluster, coded, all) {
-            Ok(found) => Err(LineFault::Bad(or_this(found, why))),
-            Err(_) => Err(LineFault::OutOfMemory),
-        },
-        Err(LineFault::OutOfMemory) => Err(LineFault::OutOfMemory),
+    match said {
+        Err(LineFault::Bad(why)) => {
+            let all = fields(alloc, cluster, line)?;
+            let found = why_unmarked(alloc, cluster, coded, all.as_slice())?;
+            Err(LineFault::Bad(or_this(found, why)))
+        }
+        said => said,
     }
+}
+
+/// Whether a line is bad.
+// (A call of its own: a compiler that sees what is asked of a line copies the line byte by byte.)
+#[inline(never)]
+fn is_bad(said: &Result<Option<ScriptLine>, LineFault>) -> bool
+    ensures { result ≡ is_bad_line said.now }
+{
+    match said {
+        Err(LineFault::Bad(_)) => true,
+        Ok(_) | Err(LineFault::OutOfMemory) => false,
+    }
+}
+
+/// What a line without words says.
+pub(crate) fn read_unworded(
+    alloc: Global,
+    cluster: &Cluster,
+    coded: &Coded,
+    line: &[u8],
+) -> Result<Option<ScriptLine>, LineFault>
+    ensures { Gives (λ l. l) result
+        (or_unmarked cluster.now coded.now (line_fields line.now) (read_line cluster.now line.now)) }
+{
+    let said = read_line(alloc, cluster, line);
+    if is_bad(&said) {
+        return with_hint(alloc, cluster, coded, line, said);
+    }
+    said
 }

@@ -1,6 +1,6 @@
 //! Lines that say values of signals in words: what stands behind `=` or `~`.
 
-ghost use Rattle.std.specs.Prelude.{◌≡◌, ◌<◌, IfOk, drop, length, option_map, position};
+ghost use Rattle.std.specs.Prelude.{◌≡◌, ◌<◌, IfOk, drop, is_some, length, option_map, position, true};
 ghost use Rattle.std.specs.Str.{bytes_eq};
 ghost use Rattle.lin_log.specs.Words.{value_word};
 ghost use Rattle.lin_bench.specs.Fields.{line_fields, field_texts};
@@ -11,7 +11,7 @@ ghost use Rattle.lin_bench.specs.Words.{expected_line, from_end, in_numbers, is_
 ghost use Rattle.lin_bench.specs.Words.{by_wish, nearest_line, worded_by, written_line};
 ghost use Rattle.lin_bench.specs.Words.{is_write, meant_by, meant_line, read_worded_line, wish_of};
 ghost use Rattle.lin_bench.specs.Words.{line_with_signal};
-ghost use Rattle.lin_bench.specs.Words.{without_comment, worded, worded_line};
+ghost use Rattle.lin_bench.specs.Words.{without_comment, worded, worded_line, worded_or_plain};
 
 use crate::expected::Expected;
 use crate::fault::LineFault;
@@ -373,6 +373,32 @@ fn read_worded(
     with_words(alloc, cluster, coded, line, zero, signal)
 }
 
+/// Whether a line has words. An error means out of memory.
+fn has_words(alloc: Global, cluster: &Cluster, line: &[u8]) -> Result<bool, AllocError>
+    ensures { IfOk result (λ found. found ≡ is_some (worded (line_fields line.now))) }
+{
+    let all = fields(alloc, cluster, line)?;
+    Ok(worded_parts(all.as_slice()).is_some())
+}
+
+/// What a line that has words says.
+fn read_words(
+    alloc: Global,
+    cluster: &Cluster,
+    coded: &Coded,
+    line: &[u8],
+) -> Result<Option<ScriptLine>, LineFault>
+    requires { is_some (worded (line_fields line.now)) ≡ true }
+    ensures { Gives (λ l. l) result
+        (worded_or_plain cluster.now coded.now line.now (worded (line_fields line.now))) }
+{
+    let all = fields(alloc, cluster, line)?;
+    match worded_parts(all.as_slice()) {
+        Some(worded) => read_worded(alloc, cluster, coded, &worded, line),
+        None => Ok(None),
+    }
+}
+
 /// What a line of a bench script, without its end, says, as `read_line`; values of signals may stand
 /// in words behind `=` or `~`, where what signals mean is known.
 ///
@@ -394,9 +420,8 @@ pub fn read_worded_line(
     if let [b'>', ..] = line {
         return Ok(None);
     }
-    let all = fields(alloc, cluster, line)?;
-    match worded_parts(all.as_slice()) {
-        Some(worded) => read_worded(alloc, cluster, coded, &worded, line),
-        None => read_unworded(alloc, cluster, coded, line, all.as_slice()),
+    if has_words(alloc, cluster, line)? {
+        return read_words(alloc, cluster, coded, line);
     }
+    read_unworded(alloc, cluster, coded, line)
 }

@@ -1,9 +1,10 @@
 use Rattle.std.proofs.Common.{◌≡◌, ◌∙◌, sym, ap, flat_map}
 use Rattle.lin_core.specs.History.{events, reply_events}
 use Rattle.std.specs.Option.{option_copied}
+use Rattle.lin_bench.specs.Adding.{finish_of}
 use Rattle.lin_bench.specs.Rules.{all_noted, notes_for}
 use Rattle.lin_bench.proofs.Makes.{newest-past}
-use Rattle.lin_bench.proofs.NotedAnswers.{finish_of, noted-none, noted-some, where-ok}
+use Rattle.lin_bench.proofs.NotedAnswers.{noted-none, noted-some, where-ok}
 use Rattle.lin_bench.proofs.ruled.RuledCore.note.Goals as goal
 
 pub returns-then-went_to_all-clause-noted : goal.returns-then-went_to_all-clause-noted

@@ -1,7 +1,7 @@
 use Rattle.std.proofs.Common.{refl}
 use Rattle.lin_bench.specs.declared.taken.TakenEvents.{TakenEvents}
 use Rattle.lin_bench.proofs.Searches.{first-cleared, known-first}
-use Rattle.lin_bench.proofs.bench.Bench.new.Goals as goal
+use Rattle.lin_bench.proofs.bench.Bench.under.Goals as goal
 
 pub invariant_of-result : goal.invariant_of-result
 invariant_of-result c =
