@@ -17,6 +17,7 @@ pub mod Dumps
 pub mod Objects
 pub mod ShortAdded
 pub mod KeptMore
+pub mod LastSlots
 pub mod ListedLines
 pub mod Maps
 pub mod NumberedLines

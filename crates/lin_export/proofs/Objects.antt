@@ -18,17 +18,20 @@ use Rattle.lin_core.specs.declared.reply.Refusal.{Refusal}
 use Rattle.lin_core.specs.declared.reply.Reply.{Reply}
 use Rattle.lin_core.specs.declared.reply.Reply.TheVariants.{Done, Refused}
 use Rattle.lin_core.specs.declared.step.Step.{Step}
-use Rattle.lin_core.specs.declared.step.Step.TheVariants.{Finish, Wake}
+use Rattle.lin_core.specs.declared.step.Step.TheVariants.{Finish, Wake, Write}
 use Rattle.lin_export.specs.ClusterObject.{numbered_values}
 use Rattle.lin_export.specs.Csv.{after_comma}
-use Rattle.lin_export.specs.Jsonl.{answers_member, due_member, frame_meanings, frame_member, frame_signals, frame_value, header_member, host_member, hurt_member, is_message_frame, meaning_members, meaning_text, message_member, message_value, number_member, physical_member, response_members, settled_count, settled_all, signals_member, slot_line, step_object, time_member}
+use Rattle.lin_export.specs.Jsonl.{answers_member, due_member, frame_meanings, frame_member, frame_signals, frame_value, header_member, host_member, hurt_member, is_message_frame, meaning_members, message_member, message_value, number_member, column_member, physical_members, response_members, settled_count, settled_all, signals_member, slot_line, step_object, time_member, write_line}
+use Rattle.lin_export.specs.Quantities.{column_key, column_value, has_meaning}
+use Rattle.lin_export.specs.declared.slot_meanings.Column.{Column}
+use Rattle.lin_export.specs.declared.slot_meanings.Column.TheVariants.{Texts, Quantities}
 use Rattle.lin_export.specs.Track.{hurt_in, shown_slot, finished_slot_count}
 use Rattle.lin_export.specs.WhereTold.{where_told}
 use Rattle.lin_values.specs.Coded.{CodedData}
 use Rattle.lin_values.specs.Meaning.{meaning}
 use Rattle.lin_values.specs.Meant.{Meant}
 use Rattle.lin_frame.specs.declared.value.Value.{Value}
-use Rattle.lin_export.specs.Json.{json_array, with_commas, member, object, object_line, quoted_text}
+use Rattle.lin_export.specs.Json.{after_members, json_array, with_commas, member, object, object_line, quoted_text}
 use Rattle.lin_export.proofs.Rows.{Shows, carried-shown, flat-append, frame-shown}
 
 -- a key, and a value after it
@@ -61,7 +64,7 @@ length-end : {X : Type 0} (xs : List X) (x : X) → length (xs ++ x ∷ []) ≡ 
 length-end [] x = refl
 length-end (y ∷ ys) x = ap suc (length-end ys x)
 
-length-numbers : (n : ℕ) → length (numbers n) ≡ n
+pub length-numbers : (n : ℕ) → length (numbers n) ≡ n
 length-numbers zero = refl
 length-numbers (suc n) = length-end (numbers n) n ∙ ap suc (length-numbers n)
 
@@ -94,27 +97,33 @@ joined-numbered f xs i d h =
     ∙ joined-one i (numbered_values f 0 (take i xs)) (f i (get_or xs i d)) (sym (length-numbered f 0 (take i xs) ∙ length-take-le i xs (omega arith)))
 
 -- what a value means, where it means something, after so many members
-abbrev separated : ℕ → List (List ℕ) → List ℕ
-separated n ms = flat_map (λ m. (if n == 0 then [] else after_comma []) ++ m) ms
-
-joined-none : (n : ℕ) (ts : List (List ℕ)) → with_commas (ts ++ []) ≡ with_commas ts ++ separated n []
+joined-none : (n : ℕ) (ts : List (List ℕ)) → with_commas (ts ++ []) ≡ with_commas ts ++ after_members n []
 joined-none n ts = ap with_commas (append-nil ts) ∙ sym (append-nil (with_commas ts))
 
-joined-by : (n : ℕ) (ts : List (List ℕ)) (o : Option Meant) (says : Meant → List ℕ) → n ≡ length ts
-    → with_commas (ts ++ option_map_or (λ m. says m ∷ []) o []) ≡ with_commas ts ++ separated n (option_map_or (λ m. says m ∷ []) o [])
-joined-by n ts None says e = joined-none n ts
-joined-by n ts (Some m) says e = joined-one n ts (says m) e ∙ ap (λ l. with_commas ts ++ l) (sym (append-nil ((if n == 0 then [] else after_comma []) ++ says m)))
+joined-if : (n : ℕ) (ts : List (List ℕ)) (b : Bool) (t : List ℕ) → n ≡ length ts
+    → with_commas (ts ++ (if b then t ∷ [] else [])) ≡ with_commas ts ++ after_members n (if b then t ∷ [] else [])
+joined-if n ts true t e = joined-one n ts t e ∙ ap (λ l. with_commas ts ++ l) (sym (append-nil ((if n == 0 then [] else after_comma []) ++ t)))
+joined-if n ts false t e = joined-none n ts
 
-pub joined-meaning : (c : Parts) (k : CodedData) (s : ℕ) (v : Value) (ts : List (List ℕ)) (n : ℕ) → n ≡ length ts
-    → with_commas (ts ++ meaning_members c k s v) ≡ with_commas ts ++ flat_map (λ m. (if n == 0 then [] else after_comma []) ++ m) (meaning_members c k s v)
-joined-meaning c k s v ts n e = joined-by n ts (meaning k s v) (λ m. member (signal_of c s).name (meaning_text m)) e
+joined-by : (n : ℕ) (ts : List (List ℕ)) (o : Option Meant) (has : Meant → Bool) (says : Meant → List ℕ) → n ≡ length ts
+    → with_commas (ts ++ option_map_or (λ m. if has m then says m ∷ [] else []) o []) ≡ with_commas ts ++ after_members n (option_map_or (λ m. if has m then says m ∷ [] else []) o [])
+joined-by n ts None has says e = joined-none n ts
+joined-by n ts (Some m) has says e = joined-if n ts (has m) (says m) e
 
-one-at_most : (o : Option Meant) (says : Meant → List ℕ) → length (option_map_or (λ m. says m ∷ []) o []) ≤ 1
-one-at_most None says = omega arith
-one-at_most (Some m) says = omega arith
+pub joined-meaning : (column : Column) (c : Parts) (k : CodedData) (s : ℕ) (v : Value) (ts : List (List ℕ)) (n : ℕ) → n ≡ length ts
+    → with_commas (ts ++ meaning_members column c k s v) ≡ with_commas ts ++ after_members n (meaning_members column c k s v)
+joined-meaning column c k s v ts n e = joined-by n ts (meaning k s v) (has_meaning column) (λ m. member (signal_of c s).name (column_value column m)) e
 
-pub meaning-one : (c : Parts) (k : CodedData) (s : ℕ) (v : Value) → length (meaning_members c k s v) ≤ 1
-meaning-one c k s v = one-at_most (meaning k s v) (λ m. member (signal_of c s).name (meaning_text m))
+one-if : (b : Bool) (t : List ℕ) → length (if b then t ∷ [] else []) ≤ 1
+one-if true t = omega arith
+one-if false t = omega arith
+
+one-at_most : (o : Option Meant) (has : Meant → Bool) (says : Meant → List ℕ) → length (option_map_or (λ m. if has m then says m ∷ [] else []) o []) ≤ 1
+one-at_most None has says = omega arith
+one-at_most (Some m) has says = one-if (has m) (says m)
+
+pub meaning-one : (column : Column) (c : Parts) (k : CodedData) (s : ℕ) (v : Value) → length (meaning_members column c k s v) ≤ 1
+meaning-one column c k s v = one-at_most (meaning k s v) (has_meaning column) (λ m. member (signal_of c s).name (column_value column m))
 
 -- members, each after a comma
 pub record PutsMembers {W : Type 0} (contents : W → Option (List ℕ)) (old new : TextWriter W) (members : List (List ℕ)) : Type 0 where
@@ -179,14 +188,16 @@ signals-member-shown c s =
     ap (λ (f : Option ℕ). member (codes "signals") (object (option_map_or (λ answer. option_map_or (frame_signals c answer) f []) (good s) [])))
     (carried-shown c (line_of c s.table s.entry).entry s)
 
-meanings-shown : (c : Parts) (k : CodedData) (s : Slot) → physical_member c k (shown_slot s) ≡ physical_member c k s
-meanings-shown c k s =
-    ap (λ (f : Option ℕ). member (codes "physical") (object (option_map_or (λ answer. option_map_or (frame_meanings c k answer) f []) (good s) [])))
+meanings-shown : (column : Column) (c : Parts) (k : CodedData) (s : Slot) → column_member column c k (shown_slot s) ≡ column_member column c k s
+meanings-shown column c k s =
+    ap (λ (f : Option ℕ). member (column_key column) (object (option_map_or (λ answer. option_map_or (frame_meanings column c k answer) f []) (good s) [])))
     (carried-shown c (line_of c s.table s.entry).entry s)
 
-physical-shown : (c : Parts) (k : Option CodedData) (s : Slot) → where_told k (λ d. physical_member c d (shown_slot s) ∷ []) ≡ where_told k (λ d. physical_member c d s ∷ [])
+physical-shown : (c : Parts) (k : Option CodedData) (s : Slot) → where_told k (λ d. physical_members c d (shown_slot s)) ≡ where_told k (λ d. physical_members c d s)
 physical-shown c None s = refl
-physical-shown c (Some d) s = ap (λ m. m ∷ []) (meanings-shown c d s)
+physical-shown c (Some d) s =
+    ap (λ m. m ∷ column_member Quantities c d (shown_slot s) ∷ []) (meanings-shown Texts c d s)
+    ∙ ap (λ m. column_member Texts c d s ∷ m ∷ []) (meanings-shown Quantities c d s)
 
 -- a slot's line, of which the frame, the signals and what these mean are given
 abbrev line_with : Parts → ℕ → ℕ → List ℕ → (ℕ → ℕ) → Slot → List ℕ → List ℕ → List (List ℕ) → List ℕ
@@ -199,7 +210,7 @@ line_with c n at bytes last s frame signals physical =
 
 pub object-shown : (c : Parts) (k : Option CodedData) (n at : ℕ) (bytes : List ℕ) (last : ℕ → ℕ) (s : Slot) → slot_line c k n at bytes last (shown_slot s) ≡ slot_line c k n at bytes last s
 object-shown c k n at bytes last s =
-    let physical : Slot → List (List ℕ) = λ t. where_told k (λ d. physical_member c d t ∷ []) in
+    let physical : Slot → List (List ℕ) = λ t. where_told k (λ d. physical_members c d t) in
     ap (λ (f : List ℕ). line_with c n at bytes last s f (signals_member c (shown_slot s)) (physical (shown_slot s))) (frame-member-shown c s)
     ∙ ap (λ (f : List ℕ). line_with c n at bytes last s (frame_member c s) f (physical (shown_slot s))) (signals-member-shown c s)
     ∙ ap (λ (ms : List (List ℕ)). line_with c n at bytes last s (frame_member c s) (signals_member c s) ms) (physical-shown c k s)
@@ -229,3 +240,12 @@ settled-refused e past why h r = ap (λ (reply : Reply). settled_all h (reply_ev
 pub wake-object : (c : Parts) (k : Option CodedData) (last : ℕ → ℕ) (past : List LogEntry) (step : Step) (t : ℕ) → t ≡ time c past → step ≡ Wake
     → object_line (codes "awake") (time_member t ∷ []) ≡ step_object c k last past step
 wake-object c k last past step t is e = rw (e, is) refl
+
+pub write-object : (c : Parts) (k : Option CodedData) (last : ℕ → ℕ) (past : List LogEntry) (step : Step) (t node signal : ℕ) (v : Value) → t ≡ time c past
+    → step ≡ Write node signal v → write_line c k t node signal v ≡ step_object c k last past step
+write-object c k last past step t node signal v is e = rw (e, is) refl
+
+-- a list of two values
+pub two-values : (a b : List ℕ) → 91 ∷ (a ++ 44 ∷ (b ++ 93 ∷ [])) ≡ json_array (a ∷ b ∷ [])
+two-values a b =
+    ap (λ t. 91 ∷ t) (sym (ap (λ l. (a ++ l) ++ 93 ∷ []) (append-nil (44 ∷ b)) ∙ append_assoc a (44 ∷ b) (93 ∷ [])))

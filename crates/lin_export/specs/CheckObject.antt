@@ -12,8 +12,7 @@ use Rattle.lin_values.specs.Coded.{CodedData}
 use Rattle.lin_values.specs.declared.codings.CodingType.{CodingType}
 use Rattle.lin_export.specs.ClusterObject.{count_member, encoding_object, event_object, frame_object}
 use Rattle.lin_export.specs.ClusterObject.{node_object, signal_object, sporadic_object, table_object}
-use Rattle.lin_export.specs.ClusterObject.{text_value}
-use Rattle.lin_export.specs.Json.{json_array, escaped_text, member, null, object, quoted_text}
+use Rattle.lin_export.specs.Json.{json_array, escaped_text, member, null, object, quoted_text, text_value}
 
 -- ---- reported problems
 

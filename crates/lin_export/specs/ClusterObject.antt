@@ -19,7 +19,7 @@ use Rattle.lin_values.specs.Shown.{decimal_shown}
 use Rattle.lin_values.specs.declared.codings.CodingType.{CodingType}
 use Rattle.lin_values.specs.declared.codings.Item.{Item}
 use Rattle.lin_values.specs.declared.codings.Item.TheVariants.{Logical, Physical, Bcd, Ascii}
-use Rattle.lin_export.specs.Json.{json_array, escaped_text, member, null, object, quoted_text}
+use Rattle.lin_export.specs.Json.{json_array, member, null, object, quoted_text, text_value}
 use Rattle.lin_export.specs.Jsonl.{nad_value, node_text, number_member, signal_value}
 use Rattle.lin_export.specs.ListedFrames.{model_word, places}
 use Rattle.lin_export.specs.ListedSlots.{bits_of, delay_of, permille, slack}
@@ -45,11 +45,6 @@ count_member key n = member key (decimal n)
 abbrev pub truth : Bool → List ℕ
 truth true = codes "true"
 truth false = codes "false"
-
--- a text, and null for none
-abbrev pub text_value : List ℕ → List ℕ
-text_value [] = null
-text_value (c ∷ cs) = escaped_text (c ∷ cs)
 
 -- ---- nodes
 

@@ -1,7 +1,7 @@
--- A log as objects of JSON, one a line: the run, and of each entry what it says: a slot that was
--- finished, each event of a message, sleep and wake-up, and a step that was refused.
-use Rattle.std.specs.Prelude.{ℕ, ◌+◌, ◌-◌, ◌==◌, Bool, not, ◌&&◌, ◌||◌, if◌then◌else◌, List, []}
-use Rattle.std.specs.Prelude.{◌∷◌, ◌++◌, length, map, flat_map, codes, take, zip, slice_get}
+-- A run as objects of JSON, one a line: the run; of each entry of its log a slot that was finished, a
+-- write, each event of a message, sleep and wake-up, or a step that was refused; failed checks; the end.
+use Rattle.std.specs.Prelude.{◌≡◌, ℕ, ◌+◌, ◌-◌, ◌==◌, Bool, not, ◌&&◌, ◌||◌, if◌then◌else◌, List, []}
+use Rattle.std.specs.Prelude.{◌∷◌, ◌++◌, length, map, flat_map, codes, drop, reverse, take, zip, slice_get}
 use Rattle.std.specs.Prelude.{slice_index, Option, None}
 use Rattle.std.specs.Fmt.{decimal}
 use Rattle.std.specs.Option.{option_map_or}
@@ -29,18 +29,25 @@ use Rattle.lin_core.specs.declared.reply.Refusal.{Refusal}
 use Rattle.lin_core.specs.declared.reply.Reply.{Reply}
 use Rattle.lin_core.specs.declared.reply.Reply.TheVariants.{Done, Refused}
 use Rattle.lin_core.specs.declared.step.Step.{Step}
-use Rattle.lin_core.specs.declared.step.Step.TheVariants.{Send, Finish, Wake}
+use Rattle.lin_core.specs.declared.step.Step.TheVariants.{Send, Finish, Wake, Write}
 use Rattle.lin_log.specs.Language.{named_language}
 use Rattle.lin_log.specs.Words.{port_word, spaced_word, step_words, value_word}
 use Rattle.lin_values.specs.Coded.{CodedData}
 use Rattle.lin_values.specs.Meaning.{meaning}
 use Rattle.lin_values.specs.Meant.{Meant}
-use Rattle.lin_values.specs.Shown.{shown}
-use Rattle.lin_export.specs.Json.{json_array, escaped_bytes, hex_text, member, null, object, object_line, quoted_text}
+use Rattle.lin_export.specs.Json.{json_array, hex_text, member, null, object, object_line, printable_text}
+use Rattle.lin_export.specs.Json.{quoted_text}
+use Rattle.lin_export.specs.PutsGroups.{AreCounts}
+use Rattle.lin_export.specs.Quantities.{column_key, column_value, has_meaning, meaning_text, quantity}
 use Rattle.lin_export.specs.Shown.{checksum_in, data_of, slot_name}
 use Rattle.lin_export.specs.Telling.{each_entry}
-use Rattle.lin_export.specs.Track.{hurt_in, finished_slot_count}
+use Rattle.lin_export.specs.Track.{TrackData, hurt_in, finished_slot_count, track_of}
 use Rattle.lin_export.specs.WhereTold.{where_told}
+use Rattle.lin_export.specs.declared.jsonl.Counts.{Counts}
+use Rattle.lin_export.specs.declared.jsonl.Unmet.{Unmet}
+use Rattle.lin_export.specs.declared.jsonl.WrittenValue.{WrittenValue}
+use Rattle.lin_export.specs.declared.slot_meanings.Column.{Column}
+use Rattle.lin_export.specs.declared.slot_meanings.Column.TheVariants.{Texts, Quantities}
 
 -- ---- values
 abbrev pub node_text : Parts → ℕ → List ℕ
@@ -72,7 +79,7 @@ bytes_member bytes = member (codes "bytes") (hex_text bytes)
 abbrev pub run_line : Parts → ℕ → ℕ → List ℕ
 run_line c opening capacity =
     object_line (codes "run")
-    (member (codes "version") (decimal 1)
+    (member (codes "version") (decimal 2)
     ∷ member (codes "table") (quoted_text (named_table c opening).name)
     ∷ member (codes "capacity") (decimal capacity)
     ∷ member (codes "nodes") (json_array (map (node_text c) (numbers (nodes c))))
@@ -167,28 +174,34 @@ abbrev pub message_member : Parts → (ℕ → ℕ) → Slot → List ℕ
 message_member c last s =
     member (codes "message") (option_map_or (message_value c last s.header) (message_put s) null)
 
--- what these signals mean, those that mean something
-abbrev pub meaning_text : Meant → List ℕ
-meaning_text m = quoted_text (escaped_bytes (shown m))
-
-abbrev pub meaning_members : Parts → CodedData → ℕ → Value → List (List ℕ)
-meaning_members c k s v =
-    option_map_or (λ m. member (signal_of c s).name (meaning_text m) ∷ []) (meaning k s v) []
-
-abbrev pub place_meanings : Parts → CodedData → List ℕ → ℕ × Place → List (List ℕ)
-place_meanings c k answer p = meaning_members c k p.0 (unpacked_value p.1 (take 8 answer))
-
-abbrev pub frame_meanings : Parts → CodedData → List ℕ → ℕ → List (List ℕ)
-frame_meanings c k answer f =
-    flat_map (place_meanings c k answer) (zip (frame_of c f).signals (frame_of c f).layout.places)
-
-abbrev pub carried_meanings : Parts → CodedData → Slot → List (List ℕ)
-carried_meanings c k s =
+-- the meanings of these signals' values: the texts of all that have one, and the quantities of those in
+-- ranges
+abbrev pub column_members : Column → Parts → ℕ → Option Meant → List (List ℕ)
+column_members column c s meant =
     option_map_or
-    (λ answer. option_map_or (frame_meanings c k answer) (carried_frame c s) []) (good s) []
+    (λ m. if has_meaning column m then member (signal_of c s).name (column_value column m) ∷ [] else [])
+    meant []
 
-abbrev pub physical_member : Parts → CodedData → Slot → List ℕ
-physical_member c k s = member (codes "physical") (object (carried_meanings c k s))
+abbrev pub meaning_members : Column → Parts → CodedData → ℕ → Value → List (List ℕ)
+meaning_members column c k s v = column_members column c s (meaning k s v)
+
+abbrev pub place_meanings : Column → Parts → CodedData → List ℕ → ℕ × Place → List (List ℕ)
+place_meanings column c k answer p = meaning_members column c k p.0 (unpacked_value p.1 (take 8 answer))
+
+abbrev pub frame_meanings : Column → Parts → CodedData → List ℕ → ℕ → List (List ℕ)
+frame_meanings column c k answer f =
+    flat_map (place_meanings column c k answer) (zip (frame_of c f).signals (frame_of c f).layout.places)
+
+abbrev pub carried_meanings : Column → Parts → CodedData → Slot → List (List ℕ)
+carried_meanings column c k s =
+    option_map_or
+    (λ answer. option_map_or (frame_meanings column c k answer) (carried_frame c s) []) (good s) []
+
+abbrev pub column_member : Column → Parts → CodedData → Slot → List ℕ
+column_member column c k s = member (column_key column) (object (carried_meanings column c k s))
+
+abbrev pub physical_members : Parts → CodedData → Slot → List (List ℕ)
+physical_members c k s = column_member Texts c k s ∷ column_member Quantities c k s ∷ []
 
 -- a slot by its number, the time at its start, the bytes of its disturbance, and the number of the
 -- last message of each host that was sent or lost before
@@ -202,7 +215,7 @@ slot_line c k number at bytes last s =
     ∷ (response_members (seen_of s)
     ++ signals_member c s
     ∷ message_member c last s
-    ∷ where_told k (λ d. physical_member c d s ∷ []))))
+    ∷ where_told k (λ d. physical_members c d s))))
 
 -- the number of the last message of a host that was sent or lost, and 0 where none was
 abbrev pub settled_after : ℕ → Event → ℕ → ℕ
@@ -266,13 +279,35 @@ event_line c step slot at (Lost host number why) = lost_line c at host number wh
 event_line c step slot at Asleep = object_line (codes "asleep") (time_member at ∷ [])
 event_line c step slot at event = []
 
+-- ---- writes
+-- the meaning of a value: its text under a key, and its quantity; null if it has none
+abbrev pub meant_members : List ℕ → CodedData → ℕ → Value → List (List ℕ)
+meant_members key k s v =
+    member key (option_map_or meaning_text (meaning k s v) null)
+    ∷ member (codes "quantity") (option_map_or quantity (meaning k s v) null)
+    ∷ []
+
+-- a write that was done
+abbrev pub write_line : Parts → Option CodedData → ℕ → ℕ → ℕ → Value → List ℕ
+write_line c k at node signal v =
+    object_line (codes "write")
+    (time_member at
+    ∷ member (codes "node") (node_text c node)
+    ∷ member (codes "signal") (quoted_text (signal_of c signal).name)
+    ∷ member (codes "value") (signal_value v)
+    ∷ where_told k (λ d. meant_members (codes "physical") d signal v))
+
+abbrev pub written_line : Parts → Option CodedData → ℕ → WrittenValue → List ℕ
+written_line c k at written = write_line c k at written.node written.signal written.value.now
+
 -- ---- entries
--- what a step that was done says by itself on the entries before it: the slot that it finishes, or
--- a wake-up
+-- what a step that was done says by itself on the entries before it: the slot that it finishes, a
+-- write or a wake-up
 abbrev pub step_object : Parts → Option CodedData → (ℕ → ℕ) → List LogEntry → Step → List ℕ
 step_object c k last past Finish =
     option_map_or
     (slot_line c k (finished_slot_count past) (time c past) (hurt_in past) last) (open_slot past) []
+step_object c k last past (Write node signal v) = write_line c k (time c past) node signal v
 step_object c k last past Wake = object_line (codes "awake") (time_member (time c past) ∷ [])
 step_object c k last past step = []
 
@@ -300,7 +335,57 @@ reply_objects c k e past (Refused why) = refused_line c (time c past) e.port e.s
 abbrev pub entry_objects : Parts → Option CodedData → LogEntry → List LogEntry → List ℕ
 entry_objects c k e past = reply_objects c k e past e.reply
 
--- the objects of a log, the oldest entry first, of a run that opened with this table and capacity
-abbrev pub jsonl : Parts → Option CodedData → ℕ → ℕ → List LogEntry → List ℕ
-jsonl c k opening capacity log =
-    run_line c opening capacity ++ each_entry (entry_objects c k) [] log
+-- the objects of entries, the oldest first, on those before them
+abbrev pub objects_of : Parts → Option CodedData → List LogEntry → List LogEntry → List ℕ
+objects_of c k past entries = each_entry (entry_objects c k) past entries
+
+-- the objects of the entries of a log from one on, and from one up to another
+abbrev pub objects_from : Parts → Option CodedData → List LogEntry → ℕ → List ℕ
+objects_from c k log from = objects_of c k (reverse (take from log)) (drop from log)
+
+abbrev pub objects_between : Parts → Option CodedData → List LogEntry → ℕ → ℕ → List ℕ
+objects_between c k log from end = objects_of c k (reverse (take from log)) (drop from (take end log))
+
+-- ---- checks
+-- the number of the last one of so many finished slots, from 0; null before the first one
+abbrev pub last_slot_number : ℕ → List ℕ
+last_slot_number count = if count == 0 then null else decimal (count - 1)
+
+-- a check of a script's line that failed after a history: what was expected, and what is so instead
+abbrev pub unmet_line : Parts → List LogEntry → List ℕ → ℕ → List ℕ → List ℕ → List ℕ
+unmet_line c past script line what got =
+    object_line (codes "unmet")
+    (time_member (time c past)
+    ∷ member (codes "slot") (last_slot_number (finished_slot_count past))
+    ∷ member (codes "script") (printable_text script)
+    ∷ member (codes "line") (decimal line)
+    ∷ member (codes "test") null
+    ∷ member (codes "what") (printable_text what)
+    ∷ member (codes "got") (printable_text got)
+    ∷ [])
+
+abbrev pub unmet_object : Parts → List LogEntry → Unmet → List ℕ
+unmet_object c past unmet = unmet_line c past unmet.script.now unmet.line unmet.what.now unmet.got.now
+
+-- the end of a run: its time, its finished slots, and its checks, refused steps and messages in numbers
+abbrev pub end_line : Parts → List LogEntry → Counts → List ℕ
+end_line c past n =
+    object_line (codes "end")
+    (time_member (time c past)
+    ∷ member (codes "slots") (decimal (finished_slot_count past))
+    ∷ member (codes "expected") (decimal n.expected)
+    ∷ member (codes "unmet") (decimal n.unmet)
+    ∷ member (codes "refused") (decimal n.refused)
+    ∷ member (codes "lost") (decimal n.lost)
+    ∷ member (codes "waiting") (decimal n.waiting)
+    ∷ [])
+
+-- ---- what is kept of a history for the objects of later entries: its track, and the number of the last
+-- message of each host that was sent or lost
+pub record ObjectTrackData : Type 0 where
+  pub track : TrackData
+  pub last : List ℕ
+
+pub record IsObjectTrackOf (c : Parts) (past : List LogEntry) (t : ObjectTrackData) : Type 0 where
+  pub track : t.track ≡ track_of c past
+  pub last : AreCounts (settled_count past) t.last

@@ -14,8 +14,10 @@ pub mod ShortTexts
 pub mod KeptCells
 pub mod Json
 pub mod Members
+pub mod Quantities
 pub mod Jsonl
 pub mod FirstSlots
+pub mod LastSlot
 pub mod Named
 pub mod NamedWords
 pub mod Vcd

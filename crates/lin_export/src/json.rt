@@ -3,8 +3,9 @@
 ghost use Rattle.std.specs.Prelude.{◌≡◌, ◌∷◌, ◌==◌, ◌||◌, if◌then◌else◌, [], codes, flat_map, map};
 ghost use Rattle.lin_text.specs.Written.{Grows};
 ghost use Rattle.lin_export.specs.Csv.{after_comma};
-ghost use Rattle.lin_export.specs.ClusterObject.{text_value, truth};
-ghost use Rattle.lin_export.specs.Json.{escaped_bytes, escaped_byte, escaped_text, hex_text, member, object_line, quoted_text};
+ghost use Rattle.lin_export.specs.ClusterObject.{truth};
+ghost use Rattle.lin_export.specs.Json.{escaped_bytes, escaped_byte, escaped_text, hex_text, member, object_line};
+ghost use Rattle.lin_export.specs.Json.{printable_byte, printable_text, quoted_text, text_value};
 ghost use Rattle.lin_export.specs.Jsonl.{number_member};
 ghost use Rattle.lin_export.specs.Members.{member_shown};
 
@@ -13,7 +14,7 @@ use std::io::Write;
 
 /// A member of an object: its key, and its value.
 #[derive(Clone, Copy)]
-pub(crate) enum Member<'a> {
+pub enum Member<'a> {
     Null(&'a str),
     Number(&'a str, u64),
     Truth(&'a str, bool),
@@ -23,6 +24,8 @@ pub(crate) enum Member<'a> {
     Escaped(&'a str, &'a [u8]),
     /// Any text; null for none.
     Shown(&'a str, &'a [u8]),
+    /// Any text, with `?` for each byte that isn't 20 to 7E.
+    Printable(&'a str, &'a [u8]),
     /// Bytes as a text of digits.
     Hex(&'a str, &'a [u8]),
 }
@@ -85,6 +88,28 @@ pub(crate) fn put_text_value<W: Write>(out: &mut TextWriter<'_, W>, text: &[u8])
     }
 }
 
+/// A byte of a text, `?` for one that isn't 20 to 7E.
+fn put_printable_byte<W: Write>(out: &mut TextWriter<'_, W>, byte: u8)
+    ensures { Grows W.contents out.old out.new (escaped_byte (printable_byte byte)) }
+{
+    if 32 <= byte && byte <= 126 {
+        put_escaped_byte(out, byte);
+    } else {
+        out.put_byte(b'?');
+    }
+}
+
+/// A text between quotes, with `?` for each byte that isn't 20 to 7E.
+fn put_printable<W: Write>(out: &mut TextWriter<'_, W>, text: &[u8])
+    ensures { Grows W.contents out.old out.new (printable_text text.now) }
+{
+    out.put_byte(b'"');
+    for byte in text {
+        put_printable_byte(out, *byte);
+    }
+    out.put_byte(b'"');
+}
+
 fn put_truth<W: Write>(out: &mut TextWriter<'_, W>, is: bool)
     ensures { Grows W.contents out.old out.new (truth is) }
 {
@@ -105,7 +130,7 @@ fn put_hex_text<W: Write>(out: &mut TextWriter<'_, W>, bytes: &[u8])
 }
 
 /// A comma, and a key with its colon.
-pub(crate) fn put_key<W: Write>(out: &mut TextWriter<'_, W>, key: &str)
+pub fn put_key<W: Write>(out: &mut TextWriter<'_, W>, key: &str)
     ensures { Grows W.contents out.old out.new (after_comma (member key.now [])) }
 {
     out.put(b",\"");
@@ -114,7 +139,7 @@ pub(crate) fn put_key<W: Write>(out: &mut TextWriter<'_, W>, key: &str)
 }
 
 /// A comma and a member.
-pub(crate) fn put_member<W: Write>(out: &mut TextWriter<'_, W>, one: Member<'_>)
+pub fn put_member<W: Write>(out: &mut TextWriter<'_, W>, one: Member<'_>)
     ensures { Grows W.contents out.old out.new (after_comma (member_shown one.entry)) }
 {
     match one {
@@ -142,6 +167,10 @@ pub(crate) fn put_member<W: Write>(out: &mut TextWriter<'_, W>, one: Member<'_>)
             put_key(out, key);
             put_text_value(out, text);
         }
+        Member::Printable(key, text) => {
+            put_key(out, key);
+            put_printable(out, text);
+        }
         Member::Hex(key, bytes) => {
             put_key(out, key);
             put_hex_text(out, bytes);
@@ -150,7 +179,7 @@ pub(crate) fn put_member<W: Write>(out: &mut TextWriter<'_, W>, one: Member<'_>)
 }
 
 /// Members, each after a comma.
-pub(crate) fn put_members<W: Write>(out: &mut TextWriter<'_, W>, members: &[Member<'_>])
+pub fn put_members<W: Write>(out: &mut TextWriter<'_, W>, members: &[Member<'_>])
     ensures { Grows W.contents out.old out.new (flat_map after_comma (map member_shown members.now)) }
 {
     for one in members {
@@ -158,8 +187,8 @@ pub(crate) fn put_members<W: Write>(out: &mut TextWriter<'_, W>, members: &[Memb
     }
 }
 
-/// What an object begins with: its first member, a text.
-pub(crate) fn put_first<W: Write>(out: &mut TextWriter<'_, W>, key: &str, text: &[u8])
+/// Puts what an object begins with: its first member, a text.
+pub fn put_first<W: Write>(out: &mut TextWriter<'_, W>, key: &str, text: &[u8])
     ensures { Grows W.contents out.old out.new (123 ∷ member key.now (quoted_text text.now)) }
 {
     out.put(b"{\"");
@@ -185,7 +214,7 @@ pub(crate) fn put_list<W: Write>(out: &mut TextWriter<'_, W>, key: &str)
 }
 
 /// What a line begins with: its type.
-pub(crate) fn put_type<W: Write>(out: &mut TextWriter<'_, W>, kind: &str)
+pub fn put_type<W: Write>(out: &mut TextWriter<'_, W>, kind: &str)
     ensures { Grows W.contents out.old out.new (123 ∷ member (codes "type") (quoted_text kind.now)) }
 {
     put_first(out, "type", kind.as_bytes());
@@ -206,7 +235,7 @@ pub(crate) fn put_object_line<W: Write>(
 }
 
 /// What stands before a value or a member by its place in a list: a comma, but for the first.
-pub(crate) fn put_separator<W: Write>(out: &mut TextWriter<'_, W>, place: usize)
+pub fn put_separator<W: Write>(out: &mut TextWriter<'_, W>, place: usize)
     ensures { Grows W.contents out.old out.new (if place == 0 then [] else after_comma []) }
 {
     if place > 0 {

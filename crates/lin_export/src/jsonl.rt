@@ -1,38 +1,43 @@
 //! Logs as objects of JSON, one a line.
 
-ghost use Rattle.std.specs.Prelude.{◌≡◌, ◌<◌, ⊤, ℕ, [], List, flat_map, map};
-ghost use Rattle.std.specs.Prelude.{slice_index};
+ghost use Rattle.std.specs.Prelude.{◌≡◌, ◌<◌, ◌≤◌, ◌^◌, ◌∷◌, ℕ, [], IfOk, List, OnOk, codes, drop, flat_map};
+ghost use Rattle.std.specs.Prelude.{length, map, reverse, slice_index, take};
+ghost use Rattle.std.specs.Fmt.{decimal};
 ghost use Rattle.lin_parts.specs.Cluster.{nodes};
+ghost use Rattle.lin_parts.specs.declared.parts.Parts.{Parts};
 ghost use Rattle.lin_core.specs.declared.log.LogEntry.{LogEntry};
 ghost use Rattle.lin_frame.specs.Words.{numbers};
 ghost use Rattle.lin_text.specs.Written.{Grows, WritesText};
 ghost use Rattle.lin_export.specs.Csv.{after_comma};
-ghost use Rattle.lin_export.specs.Json.{with_commas};
-ghost use Rattle.lin_export.specs.Jsonl.{accepted_line, entry_objects, event_line, jsonl, lost_line};
-ghost use Rattle.lin_export.specs.Jsonl.{message_line, nad_value, node_text, receiver_member};
-ghost use Rattle.lin_export.specs.Jsonl.{refused_line, run_line, sent_line, settled_count, settled_after};
-ghost use Rattle.lin_export.specs.Jsonl.{sending_members, settled_all, step_object, step_text};
+ghost use Rattle.lin_export.specs.Json.{member, with_commas};
+ghost use Rattle.lin_export.specs.Jsonl.{IsObjectTrackOf, accepted_line, end_line, entry_objects, event_line};
+ghost use Rattle.lin_export.specs.Jsonl.{last_slot_number, lost_line, message_line, nad_value, node_text};
+ghost use Rattle.lin_export.specs.Jsonl.{objects_between, objects_from, receiver_member, refused_line, run_line, sending_members};
+ghost use Rattle.lin_export.specs.Jsonl.{sent_line, settled_after, settled_all, step_object};
+ghost use Rattle.lin_export.specs.Jsonl.{step_text, unmet_object, written_line};
 ghost use Rattle.lin_export.specs.Members.{member_shown};
 ghost use Rattle.lin_export.specs.PutsGroups.{AreCounts};
+ghost use Rattle.lin_export.specs.Putting.{PutsAll};
 ghost use Rattle.lin_export.specs.Track.{track_of};
 ghost use Rattle.lin_export.specs.WhereTold.{given_coding};
 
-use crate::fault::ExportFault;
-use crate::format::{EntryFormat, write_as};
 use crate::json::{
     Member, put_key, put_member, put_members, put_object_line, put_separator, put_type,
 };
-use crate::slot_names::{node_name, table_name};
-use crate::slot_object::{put_node, put_slot};
+use crate::slot_meanings::put_meant;
+use crate::slot_names::{node_name, signal_name, table_name};
+use crate::slot_object::{put_node, put_slot, put_value_member};
 use crate::track::Track;
 use crate::vcd::HOSTS;
 use lin_core::{Cause, Event, Listed, Log, LogEntry, PortId, Refusal, Reply, Step};
+use lin_frame::Value;
 use lin_log::{put_port, put_step as put_step_words};
 use lin_parts::Cluster;
-use lin_text::TextWriter;
+use lin_text::{TextBuffer, TextWriter, WriteFailed};
 use lin_values::Coded;
-use std::alloc::Global;
+use std::alloc::{AllocError, Global};
 use std::io::Write;
+use std::marker::Model;
 
 /// With what a run opened: the number of its schedule table, and how many messages of a host there
 /// was room for.
@@ -82,8 +87,9 @@ fn put_all_nads<W: Write>(out: &mut TextWriter<'_, W>, cluster: &Cluster)
     }
 }
 
-/// What a run begins with.
-fn put_run<W: Write>(out: &mut TextWriter<'_, W>, cluster: &Cluster, opening: Opening)
+/// Puts the object that a run begins with: its schedule table, the capacity of the queues, the nodes and
+/// their diagnostic addresses.
+pub fn put_run<W: Write>(out: &mut TextWriter<'_, W>, cluster: &Cluster, opening: Opening)
     ensures { Grows W.contents out.old out.new
         (run_line cluster.now opening.table opening.capacity) }
 {
@@ -91,7 +97,7 @@ fn put_run<W: Write>(out: &mut TextWriter<'_, W>, cluster: &Cluster, opening: Op
     put_members(
         out,
         &[
-            Member::Number("version", 1),
+            Member::Number("version", 2),
             Member::Text("table", table_name(cluster, opening.table)),
             Member::Number("capacity", opening.capacity as u64),
         ],
@@ -105,6 +111,57 @@ fn put_run<W: Write>(out: &mut TextWriter<'_, W>, cluster: &Cluster, opening: Op
     put_all_nads(out, cluster);
     out.put_byte(b']');
     out.put(b"}\n");
+}
+
+/// The value that a node writes to a signal.
+#[derive(Clone, Copy)]
+struct WrittenValue<'a> {
+    node: u8,
+    signal: u16,
+    value: &'a Value,
+}
+
+/// A write of a value to a signal.
+fn put_write<W: Write>(
+    out: &mut TextWriter<'_, W>,
+    cluster: &Cluster,
+    coded: Option<&Coded>,
+    at: u64,
+    written: WrittenValue<'_>,
+)
+    ensures { Grows W.contents out.old out.new
+        (written_line cluster.now (given_coding coded.entry) at written.entry) }
+{
+    put_type(out, "write");
+    put_members(
+        out,
+        &[
+            Member::Number("time_us", at),
+            Member::Text("node", node_name(cluster, written.node)),
+            Member::Text("signal", signal_name(cluster, written.signal)),
+        ],
+    );
+    put_value_member(out, written.value);
+    put_meant(out, "physical", coded, written.signal, written.value);
+    out.put(b"}\n");
+}
+
+/// Writes the object that a run begins with.
+///
+/// # Errors
+/// `WriteFailed`, where what was written is a beginning of it.
+pub fn write_run<W: Write>(
+    cluster: &Cluster,
+    opening: Opening,
+    writer: &mut W,
+) -> Result<(), WriteFailed>
+    ensures { WritesText (W.contents writer.old) (W.contents writer.new) result
+        (run_line cluster.now opening.table opening.capacity) }
+{
+    let mut buffer = TextBuffer::empty();
+    let mut out = TextWriter::new(writer, &mut buffer);
+    put_run(&mut out, cluster, opening);
+    out.finish()
 }
 
 /// What a step that was done says by itself.
@@ -126,6 +183,14 @@ fn put_step<W: Write>(
             if let Some(slot) = track.slot() {
                 put_slot(out, cluster, coded, track, last, slot);
             }
+        }
+        Step::Write { by, signal, value } => {
+            let written = WrittenValue {
+                node: *by,
+                signal: *signal,
+                value,
+            };
+            put_write(out, cluster, coded, track.time(), written);
         }
         Step::Wake => put_object_line(out, "awake", &[Member::Number("time_us", track.time())]),
         _ => {}
@@ -379,46 +444,78 @@ fn settle_all(last: &mut [u32; HOSTS], events: &[Event])
     }
 }
 
-/// The objects of a run: with what it opened, the number of the last message of each host that was
-/// sent or lost, and where that is told what signals mean.
+/// What is kept of the entries of a log that were read, for the objects of those after them. Contracts
+/// see the track of these entries, and the number of the last message of each host that was sent or
+/// lost.
 #[derive(Drop)]
-struct Objects<'a> {
-    opening: Opening,
+pub struct ObjectTrack {
+    track: Track,
     last: [u32; HOSTS],
-    coded: Option<&'a Coded>,
 }
 
-impl EntryFormat for Objects<'_> {
-    ghost begins = { λ f c. run_line c f.opening.table f.opening.capacity };
+impl Model for ObjectTrack {
+    ghost use Rattle.lin_export.specs.Jsonl.{ObjectTrackData};
 
-    ghost says = { λ f c. entry_objects c (given_coding f.coded) };
+    ghost Value = { ObjectTrackData };
 
-    ghost ends = { λ f c past. [] };
+    ghost view = { λ t. record { track = t.track; last = t.last } };
+}
 
-    ghost fits = { λ f c. ⊤ };
-
-    ghost keeps = { λ f c past. AreCounts (settled_count past) f.last };
-
-    fn put_head<W: Write>(&self, out: &mut TextWriter<'_, W>, cluster: &Cluster) {
-        put_run(out, cluster, self.opening);
+impl ObjectTrack {
+    /// No entry was read.
+    pub fn new(alloc: Global) -> ObjectTrack
+        ensures { (c : Parts) → IsObjectTrackOf c [] result }
+    {
+        ObjectTrack {
+            track: Track::new(alloc),
+            last: none_settled(),
+        }
     }
 
+    /// Reads the entries of a log before one.
+    ///
+    /// # Errors
+    /// Out of memory.
+    pub fn up_to(
+        alloc: Global,
+        cluster: &Cluster,
+        log: &Log,
+        end: usize,
+    ) -> Result<ObjectTrack, AllocError>
+        requires { end ≤ length log.now.entries }
+        ensures { IfOk result
+            (IsObjectTrackOf cluster.now (reverse (take end log.now.entries))) }
+    {
+        cluster.sound();
+        let mut objects = ObjectTrack::new(alloc);
+        for index in 0..end.min(log.len()) {
+            objects.follow(cluster, log.entry(index))?;
+        }
+        Ok(objects)
+    }
+
+    /// The objects of the next entry.
     fn put_entry<W: Write>(
-        &mut self,
+        &self,
         out: &mut TextWriter<'_, W>,
         cluster: &Cluster,
-        track: &Track,
+        coded: Option<&Coded>,
         entry: &LogEntry,
-    ) {
+    )
+        requires { self.now.track.time < 2 ^ 63 }
+        ensures { (past : List LogEntry) → IsObjectTrackOf cluster.now past self.now
+            → Grows W.contents out.old out.new
+            (entry_objects cluster.now (given_coding coded.entry) entry.now past) }
+    {
+        let track = &self.track;
         match &entry.reply {
             Reply::Done(events) => {
                 let moment = EventTime {
                     at: track.time_behind(cluster, entry),
                     slot: track.slots(),
                 };
-                put_step(out, cluster, self.coded, track, &self.last, &entry.step);
+                put_step(out, cluster, coded, track, &self.last, &entry.step);
                 put_events(out, cluster, &entry.step, moment, events.as_slice());
-                settle_all(&mut self.last, events.as_slice());
             }
             Reply::Refused(refusal) => put_refused(
                 out,
@@ -431,39 +528,161 @@ impl EntryFormat for Objects<'_> {
         }
     }
 
-    fn put_end<W: Write>(&self, _out: &mut TextWriter<'_, W>, _cluster: &Cluster, _track: &Track) {}
+    /// One entry more was read. An error means out of memory.
+    fn follow(&mut self, cluster: &Cluster, entry: &LogEntry) -> Result<(), AllocError>
+        requires time { self.old.track.time < 2 ^ 63 }
+        requires slots { self.old.track.slots < 2 ^ 63 }
+        ensures { OnOk result ((past : List LogEntry) → IsObjectTrackOf cluster.now past self.old
+            → IsObjectTrackOf cluster.now (entry.now ∷ past) self.new) }
+    {
+        self.track.follow(cluster, entry)?;
+        if let Reply::Done(events) = &entry.reply {
+            settle_all(&mut self.last, events.as_slice());
+        }
+        Ok(())
+    }
+
+    /// Puts the objects of the entries of a log from one up to another; the entries before were read.
+    /// There is an object for each finished slot (with its schedule entry, its responses and the values
+    /// of its signals), each write, each message that was accepted, arrived, was sent or lost, each
+    /// sleep and wake-up, and each refused step. If the encodings of signals are given, slots and writes
+    /// also have texts and quantities of values.
+    ///
+    /// # Errors
+    /// Out of memory: what was put is a beginning of the objects.
+    pub fn put_entries<W: Write>(
+        &mut self,
+        out: &mut TextWriter<'_, W>,
+        cluster: &Cluster,
+        coded: Option<&Coded>,
+        log: &Log,
+        from: usize,
+        end: usize,
+    ) -> Result<(), AllocError>
+        requires order { from ≤ end }
+        requires there { end ≤ length log.now.entries }
+        requires track { IsObjectTrackOf cluster.now (reverse (take from log.now.entries)) self.old }
+        ensures text { PutsAll W.contents out.old out.new result
+            (objects_between cluster.now (given_coding coded.entry) log.now.entries from end) }
+        ensures track { OnOk result
+            (IsObjectTrackOf cluster.now (reverse (take end log.now.entries)) self.new) }
+    {
+        cluster.sound();
+        for index in from..end.min(log.len()) {
+            let entry = log.entry(index);
+            self.put_entry(out, cluster, coded, entry);
+            self.follow(cluster, entry)?;
+        }
+        Ok(())
+    }
+
+    /// The last finished slot, null before the first one.
+    fn slot_member(&self) -> Member<'static>
+        ensures { member_shown result ≡ member (codes "slot") (last_slot_number self.now.track.slots) }
+    {
+        match self.track.slots() {
+            0 => Member::Null("slot"),
+            slots => Member::Number("slot", slots - 1),
+        }
+    }
+
+    /// Puts the object of a check that failed after the entries that were read.
+    pub fn put_unmet<W: Write>(&self, out: &mut TextWriter<'_, W>, unmet: Unmet<'_>)
+        ensures { (c : Parts) (past : List LogEntry) → IsObjectTrackOf c past self.now
+            → Grows W.contents out.old out.new (unmet_object c past unmet.entry) }
+    {
+        put_object_line(
+            out,
+            "unmet",
+            &[
+                Member::Number("time_us", self.track.time()),
+                self.slot_member(),
+                Member::Printable("script", unmet.script.as_bytes()),
+                Member::Number("line", unmet.line),
+                Member::Null("test"),
+                Member::Printable("what", unmet.what),
+                Member::Printable("got", unmet.got),
+            ],
+        );
+    }
+
+    /// Puts the object that a run ends with after the entries that were read.
+    pub fn put_end<W: Write>(&self, out: &mut TextWriter<'_, W>, counts: Counts)
+        ensures { (c : Parts) (past : List LogEntry) → IsObjectTrackOf c past self.now
+            → Grows W.contents out.old out.new (end_line c past counts) }
+    {
+        put_type(out, "end");
+        put_members(
+            out,
+            &[
+                Member::Number("time_us", self.track.time()),
+                Member::Number("slots", self.track.slots()),
+            ],
+        );
+        put_count(out, "expected", counts.expected);
+        put_count(out, "unmet", counts.unmet);
+        put_count(out, "refused", counts.refused);
+        put_count(out, "lost", counts.lost);
+        put_count(out, "waiting", counts.waiting);
+        out.put(b"}\n");
+    }
 }
 
-/// Writes the objects of a log of a run: objects of JSON (RFC 8259), one a line. The first tells
-/// with what it opened. Then there is one per finished slot, with its schedule entry, its responses and the values
-/// of its signals, one for each message that was accepted, arrived, was sent or lost, one for each
-/// sleep and wake-up, and one for each step that was refused. Each has a type and all its keys, in
-/// their order. With what signals mean, a slot has one key more with that.
-///
-/// It goes through a buffer of fixed size, and takes memory for what is kept of one slot. The
-/// writer isn't flushed.
+/// A failed check: the name of the script, the number of its line, what was expected, and what is so
+/// instead.
+#[derive(Clone, Copy)]
+pub struct Unmet<'a> {
+    pub script: &'a str,
+    pub line: u64,
+    pub what: &'a [u8],
+    pub got: &'a [u8],
+}
+
+/// The numbers of a run: checks, failed checks, refused steps, lost messages, and messages that wait at
+/// the end.
+#[derive(Clone, Copy)]
+pub struct Counts {
+    pub expected: u128,
+    pub unmet: u128,
+    pub refused: u128,
+    pub lost: u128,
+    pub waiting: u128,
+}
+
+/// A number that may be large: a member after a comma.
+fn put_count<W: Write>(out: &mut TextWriter<'_, W>, key: &str, count: u128)
+    ensures { Grows W.contents out.old out.new (after_comma (member key.now (decimal count))) }
+{
+    put_key(out, key);
+    out.put_number(count);
+}
+
+/// Returns the objects of the entries of a log from one on. The track is that of the entries before it,
+/// and then that of all.
 ///
 /// # Errors
-/// What was written then is the beginning of the objects.
-/// - `OutOfMemory`;
-/// - `WriteFailed` at the first error of the writer, an interrupted write too, and at the first
-///   write of 0 bytes.
-pub fn write_jsonl<W: Write>(
+/// Out of memory; the track can't be used then.
+pub fn objects_text(
     alloc: Global,
+    objects: &mut ObjectTrack,
     cluster: &Cluster,
     coded: Option<&Coded>,
-    opening: Opening,
     log: &Log,
-    writer: &mut W,
-) -> Result<(), ExportFault>
-    ensures { WritesText (W.contents writer.old) (W.contents writer.new) result
-        (jsonl cluster.now (given_coding coded.entry) opening.table opening.capacity
-        log.now.entries) }
+    from: usize,
+) -> Result<Vec<u8>, AllocError>
+    requires there { from ≤ length log.now.entries }
+    requires track { IsObjectTrackOf cluster.now (reverse (take from log.now.entries)) objects.old }
+    ensures text { IfOk result (λ text. text.items
+        ≡ objects_from cluster.now (given_coding coded.entry) log.now.entries from) }
+    ensures track { OnOk result
+        (IsObjectTrackOf cluster.now (reverse log.now.entries) objects.new) }
 {
-    let mut objects = Objects {
-        opening,
-        last: none_settled(),
-        coded,
-    };
-    write_as(&mut objects, alloc, cluster, log, writer)
+    let mut text = Vec::new(alloc);
+    let mut buffer = TextBuffer::empty();
+    let mut out = TextWriter::new(&mut text, &mut buffer);
+    objects.put_entries(&mut out, cluster, coded, log, from, log.len())?;
+    match out.finish() {
+        Ok(()) => Ok(text),
+        Err(_) => Err(AllocError),
+    }
 }

@@ -30,6 +30,7 @@ mod hearing;
 mod json;
 mod jsonl;
 mod kept_cells;
+mod last_slot;
 mod law;
 mod listing;
 mod meaning_cells;
@@ -50,15 +51,20 @@ mod vcd;
 pub use csv::write_csv;
 pub use fault::ExportFault;
 pub use first_slots::write_first_slots;
-pub use jsonl::{Opening, write_jsonl};
+pub use json::{Member, put_first, put_key, put_member, put_members, put_separator, put_type};
+pub use jsonl::{Counts, ObjectTrack, Opening, Unmet, objects_text, put_run, write_run};
+pub use last_slot::{LastSlot, put_last_slot, put_last_slot_value};
 pub use law::{captures_what_was_seen, dumps_last_values, maps_tell_places};
 pub use listing::{
     FrameTiming, Latency, TableTiming, table_timings, write_frames, write_list, write_maps,
     write_signals, write_slots, write_timing,
 };
 pub use named::{named_text, put_slot_names, write_named};
+pub use object::nodes::nad_member;
 pub use object::problems::{Problem, put_problem_line};
 pub use object::{Found, write_object};
 pub use pcap::write_pcap;
+pub use slot_meanings::put_meant;
+pub use slot_object::put_value_member;
 pub use track::Track;
 pub use vcd::write_vcd;

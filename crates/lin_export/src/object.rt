@@ -22,7 +22,7 @@ use std::io::Write;
 
 mod encodings;
 mod frames;
-mod nodes;
+pub mod nodes;
 mod positions;
 pub mod problems;
 mod signals;

@@ -1,7 +1,7 @@
 //! Names of what a slot speaks of.
 
 ghost use Rattle.std.specs.Prelude.{◌≡◌};
-ghost use Rattle.lin_parts.specs.Cluster.{named_table, node_of};
+ghost use Rattle.lin_parts.specs.Cluster.{named_table, node_of, signal_of};
 ghost use Rattle.lin_export.specs.Open.{tracked_slot};
 ghost use Rattle.lin_export.specs.Shown.{slot_name};
 
@@ -14,6 +14,17 @@ pub(crate) fn node_name(cluster: &Cluster, node: u8) -> &[u8]
 {
     if (node as usize) < cluster.nodes() {
         cluster.node_name(node)
+    } else {
+        &[]
+    }
+}
+
+/// The name of a signal; no bytes where none has this number.
+pub(crate) fn signal_name(cluster: &Cluster, signal: u16) -> &[u8]
+    ensures { result.now ≡ (signal_of cluster.now signal).name }
+{
+    if (signal as usize) < cluster.signals() {
+        cluster.signal_name(signal)
     } else {
         &[]
     }

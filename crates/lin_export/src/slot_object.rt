@@ -1,6 +1,6 @@
 //! A slot as an object of JSON.
 
-ghost use Rattle.std.specs.Prelude.{◌<◌, ◌≡◌, ℕ, flat_map, length, map};
+ghost use Rattle.std.specs.Prelude.{◌<◌, ◌≡◌, ℕ, codes, flat_map, length, map};
 ghost use Rattle.std.specs.Option.{option_copied};
 ghost use Rattle.lin_text.specs.Written.{Grows};
 ghost use Rattle.lin_export.specs.Csv.{after_comma};
@@ -41,7 +41,7 @@ pub(crate) fn put_node<W: Write>(out: &mut TextWriter<'_, W>, cluster: &Cluster,
 }
 
 /// The frame of a slot; a configuration entry has none.
-fn frame_member<'a>(cluster: &'a Cluster, slot: &OpenSlot) -> Member<'a>
+pub(crate) fn frame_member<'a>(cluster: &'a Cluster, slot: &OpenSlot) -> Member<'a>
     ensures { member_shown result ≡ frame_member cluster.now (tracked_slot slot.now) }
 {
     match slot.line(cluster).entry {
@@ -181,6 +181,15 @@ pub(crate) fn put_value<W: Write>(out: &mut TextWriter<'_, W>, value: &Value)
             out.put_byte(b'"');
         }
     }
+}
+
+/// Puts a value of a signal: the member `value`, after a comma.
+pub fn put_value_member<W: Write>(out: &mut TextWriter<'_, W>, value: &Value)
+    ensures { Grows W.contents out.old out.new
+        (after_comma (member (codes "value") (signal_value value.now))) }
+{
+    put_key(out, "value");
+    put_value(out, value);
 }
 
 /// A signal with its value: a member.

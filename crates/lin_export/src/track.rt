@@ -69,10 +69,29 @@ impl Track {
             track ≡ track_of cluster.now (reverse (take end log.now.entries))) }
     {
         let mut track = Track::new(alloc);
-        for index in 0..end.min(log.len()) {
-            track.follow(cluster, log.entry(index))?;
-        }
+        track.follow_to(cluster, log, 0, end)?;
         Ok(track)
+    }
+
+    /// The entries of a log from one up to another were read, too. An error means out of memory.
+    pub(crate) fn follow_to(
+        &mut self,
+        cluster: &Cluster,
+        log: &Log,
+        from: usize,
+        end: usize,
+    ) -> Result<(), AllocError>
+        requires order { from ≤ end }
+        requires there { end ≤ length log.now.entries }
+        requires track { self.old ≡ track_of cluster.now (reverse (take from log.now.entries)) }
+        ensures { OnOk result
+            (self.new ≡ track_of cluster.now (reverse (take end log.now.entries))) }
+    {
+        cluster.sound();
+        for index in from..end.min(log.len()) {
+            self.follow(cluster, log.entry(index))?;
+        }
+        Ok(())
     }
 
     /// The open slot.

@@ -9,7 +9,9 @@ use Rattle.lin_core.specs.declared.port.PortId.{PortId}
 use Rattle.lin_core.specs.declared.step.Step.{Step}
 use Rattle.lin_bench.specs.Made.{BenchState, course_of, expects, bench_with_verdict, made, made_within, said, slots_made, bench_after_steps}
 use Rattle.lin_bench.specs.Added.{added_steps}
-use Rattle.lin_bench.specs.Slots.{Course, course_after as after_steps, most, past_after, with_entry}
+use Rattle.lin_bench.specs.Faults.{disturbed_steps}
+use Rattle.lin_bench.specs.Slots.{Course, course_after as after_steps, after_made, most, past_after, with_entry, with_struck}
+use Rattle.lin_bench.proofs.Makes.{after_one}
 use Rattle.lin_bench.specs.declared.expected.Expected.{Expected}
 use Rattle.lin_bench.specs.declared.got.Verdict.TheVariants.{SlotLimit}
 use Rattle.lin_bench.specs.declared.line.ScriptLine.{ScriptLine}
@@ -44,13 +46,20 @@ kept-past : (c : Parts) (opening capacity : ℕ) (P : List LogEntry → Type 0) 
 kept-past c opening capacity P keeps past [] h = h
 kept-past c opening capacity P keeps past (s ∷ ss) h = kept-past c opening capacity P keeps (entry_of c opening capacity past s ∷ past) ss (keeps past s h)
 
+kept-after-made : (c : Parts) (opening capacity : ℕ) (P : List LogEntry → Type 0) → Keeps c opening capacity P → (at : Course) (ss : List (PortId × Step)) → P at.past
+    → P (after_made c opening capacity at ss).past
+kept-after-made c opening capacity P keeps at [] h = h
+kept-after-made c opening capacity P keeps at (s ∷ ss) h =
+    let e = entry_of c opening capacity at.past s in
+    kept-after-made c opening capacity P keeps (with_entry c opening capacity at e) ss
+    (kept-past c opening capacity P keeps (e ∷ at.past) (added_steps c e at.past at.rules) (keeps at.past s h))
+
 kept-after : (c : Parts) (opening capacity : ℕ) (P : List LogEntry → Type 0) → Keeps c opening capacity P → (at : Course) (ss : List (PortId × Step)) → P at.past
     → P (after_steps c opening capacity at ss).past
 kept-after c opening capacity P keeps at [] h = h
 kept-after c opening capacity P keeps at (s ∷ ss) h =
-    let e = entry_of c opening capacity at.past s in
-    kept-after c opening capacity P keeps (with_entry c opening capacity at e) ss
-    (kept-past c opening capacity P keeps (e ∷ at.past) (added_steps c e at.past at.rules) (keeps at.past s h))
+    kept-after c opening capacity P keeps (after_one c opening capacity at s) ss
+    (kept-after-made c opening capacity P keeps (with_struck c capacity at s) (disturbed_steps c capacity at.rules.faults at.past s) h)
 
 kept-judged : (c : Parts) (opening : ℕ) (P : List LogEntry → Type 0) (b : BenchState) (what : Option Expected) → P b.past → P (bench_with_verdict c opening b what).0.past
 kept-judged c opening P b None h = h

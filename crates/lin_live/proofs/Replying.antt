@@ -5,9 +5,9 @@ use Rattle.lin_core.specs.declared.log.LogEntry.{LogEntry}
 use Rattle.lin_values.specs.Coded.{CodedData}
 use Rattle.lin_live.specs.Hand.{hand_data}
 use Rattle.lin_live.specs.Serving.{Replies, WritesAnswer}
-use Rattle.lin_live.specs.Told.{HandData, IsFull, hash_line, entries_text, heard_as, reply, answer_without_step, shown_coding, heard_answer, without_byte_order_mark, written}
+use Rattle.lin_live.specs.Told.{Ending, HandData, IsFull, ending_text, entries_text, heard_as, reply, answer_without_step, shown_coding, heard_answer, without_byte_order_mark, written}
 use Rattle.lin_live.specs.declared.answer_format.AnswerFormat.{AnswerFormat}
-use Rattle.lin_live.specs.declared.answer_format.AnswerFormat.TheVariants.{Log, Named}
+use Rattle.lin_live.specs.declared.answer_format.AnswerFormat.TheVariants.{Log, Named, Jsonl}
 use Rattle.lin_live.specs.declared.fault.Fault.{Fault}
 use Rattle.lin_live.specs.declared.fault.Fault.TheVariants.{LogFull, OutOfMemory, ReadFailed, WriteFailed}
 use Rattle.lin_live.specs.declared.hand.Hand.TheInside.{Inside}
@@ -27,11 +27,12 @@ tells-anyway p full t old new (Err ReadFailed) h = h
 none-told : (f : AnswerFormat) (c : Parts) (k : Option CodedData) (past : List LogEntry) → entries_text f c k past [] ≡ []
 none-told Log c k past = refl
 none-told Named c k past = refl
+none-told Jsonl c k past = refl
 
-pub tells-words : (h u : HandData) (words : List ℕ) (full : Type 0) (t : HandData) (old new : Option (List ℕ)) (result : Result Unit Fault)
-    → WritesAnswer (u, hash_line words) full t old new result → WritesAnswer (written h (u, answer_without_step words)) full t old new result
-tells-words h u words full t old new result k =
-    subst (λ l. WritesAnswer (u, l ++ hash_line words) full t old new result) (sym (none-told h.format h.cluster (shown_coding h) h.bench.past)) k
+pub tells-ending : (h u : HandData) (ending : Ending) (full : Type 0) (t : HandData) (old new : Option (List ℕ)) (result : Result Unit Fault)
+    → WritesAnswer (u, ending_text h ending) full t old new result → WritesAnswer (written h (u, answer_without_step ending)) full t old new result
+tells-ending h u ending full t old new result k =
+    subst (λ l. WritesAnswer (u, l ++ ending_text h ending) full t old new result) (sym (none-told h.format h.cluster (shown_coding h) h.bench.past)) k
 
 -- a bench in hand to which there was a line
 abbrev pub begun_data : Inside → HandData

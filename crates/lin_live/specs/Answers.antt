@@ -3,7 +3,7 @@ use Rattle.std.specs.Prelude.{◌≡◌, ℕ, List, [], ◌∷◌, ◌++◌, fla
 use Rattle.lin_parts.specs.declared.parts.Parts.{Parts}
 use Rattle.lin_values.specs.Coded.{CodedData}
 use Rattle.lin_core.specs.declared.log.LogEntry.{LogEntry}
-use Rattle.lin_live.specs.Told.{Answer, HandData, line_answer, entries_text, reply, shown_coding}
+use Rattle.lin_live.specs.Told.{Answer, HandData, line_answer, entries_text, last_line, reply, shown_coding}
 use Rattle.lin_live.specs.Transcript.{state_after, short, transcript}
 use Rattle.lin_live.specs.declared.answer_format.AnswerFormat.{AnswerFormat}
 
@@ -22,7 +22,7 @@ AnswersAreTheLog = (h : HandData) (ls : List (List ℕ))
 abbrev pub answers_text : AnswerFormat → Parts → Option CodedData → List LogEntry → List Answer → List ℕ
 answers_text f c k past [] = []
 answers_text f c k past (a ∷ more) =
-    (entries_text f c k past a.entries ++ a.last_line)
+    (entries_text f c k past a.entries ++ last_line f c k a.ending)
     ++ answers_text f c k (reverse a.entries ++ past) more
 
 -- a transcript has nothing but the texts of entries, and a last line for each line

@@ -14,7 +14,7 @@ use Rattle.lin_bench.specs.declared.fault.LineFault.{LineFault as ScriptFault}
 use Rattle.lin_bench.specs.declared.fault.LineFault.TheVariants as scripts
 use Rattle.lin_live.specs.declared.question.Question.{Question}
 use Rattle.lin_live.specs.declared.question.Question.TheVariants.{Signal, Waiting, Idle, Time}
-use Rattle.lin_live.specs.declared.question.Question.TheVariants.{Asleep, Next}
+use Rattle.lin_live.specs.declared.question.Question.TheVariants.{Asleep, Next, Version, Nodes, LastSlot}
 use Rattle.lin_live.specs.declared.reason.LineFault.{LineFault}
 use Rattle.lin_live.specs.declared.reason.LineFault.TheVariants.{Bad, OutOfMemory}
 use Rattle.lin_live.specs.declared.reason.Reason.{Reason}
@@ -67,6 +67,9 @@ word_question c all word fs =
     else if bytes_eq word (codes "time") then lone_question all Time fs
     else if bytes_eq word (codes "asleep") then lone_question all Asleep fs
     else if bytes_eq word (codes "next") then lone_question all Next fs
+    else if bytes_eq word (codes "version") then lone_question all Version fs
+    else if bytes_eq word (codes "nodes") then lone_question all Nodes fs
+    else if bytes_eq word (codes "slot") then lone_question all LastSlot fs
     else Err (UnknownQuestion all)
 
 -- what is asked, by the fields after `?`

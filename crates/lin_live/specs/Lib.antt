@@ -4,6 +4,7 @@ pub mod Begun
 pub mod Serving
 pub mod Asked
 pub mod Heard
+pub mod Values
 pub mod Told
 pub mod Hand
 pub mod Answers

@@ -24,6 +24,10 @@ WritesAnswer p full t old new (Err OutOfMemory) = Appends old new []
 WritesAnswer p full t old new (Err LogFull) = Appends old new [] × full
 WritesAnswer p full t old new (Err ReadFailed) = ⊥
 
+-- a text was written; or a beginning of it; or nothing, where there was no memory
+abbrev pub WritesAlone : Option (List ℕ) → Option (List ℕ) → List ℕ → Result Unit Fault → Type 0
+WritesAlone old new text result = WritesAnswer {S = Unit {0}} (tt, text) ⊥ tt old new result
+
 -- what answering a line has done
 abbrev pub Replies : {S : Type 0} → (S → Option (List ℕ) → S × List ℕ)
     → (S → Option (List ℕ) → Type 0) → S → S → Option (List ℕ) → Option (List ℕ)

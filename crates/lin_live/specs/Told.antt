@@ -1,47 +1,36 @@
--- What a bench in hand answers to a line: the text of the entries that the line makes, and then one
--- line that begins with `#`.
+-- How an interactive session answers a line: with the text of the line's entries and a last line that
+-- begins with `#`, or with the objects of its entries and a last object.
 use Rattle.std.specs.Prelude.{ℕ, ◌-◌, ◌^◌, ◌<◌, Bool, true, false, ◌||◌, if◌then◌else◌, List, []}
-use Rattle.std.specs.Prelude.{◌∷◌, ◌++◌, flat_map, length, Option, Some, None, option_map}
+use Rattle.std.specs.Prelude.{◌∷◌, ◌++◌, length, Option, Some, None, option_map}
 use Rattle.std.specs.Prelude.{Result, Ok, Err, codes}
-use Rattle.std.specs.Option.{option_map_or}
 use Rattle.std.specs.Fmt.{decimal}
 use Rattle.lin_parts.specs.declared.parts.Parts.{Parts}
-use Rattle.lin_core.specs.History.{asleep, time}
-use Rattle.lin_core.specs.Links.{waiting}
-use Rattle.lin_core.specs.Next.{next_slot}
-use Rattle.lin_core.specs.Signals.{value_at}
 use Rattle.lin_core.specs.Tables.{refusal_number, refusal_word}
-use Rattle.lin_core.specs.declared.event.Event.TheVariants.{Slot}
 use Rattle.lin_core.specs.declared.log.LogEntry.{LogEntry}
 use Rattle.lin_core.specs.declared.reply.Refusal.{Refusal}
-use Rattle.lin_log.specs.Words.{spaced_word, text, value_word}
-use Rattle.lin_export.specs.Named.{named_entries, slot_names}
-use Rattle.lin_frame.specs.declared.value.Value.{Value as RawValue}
+use Rattle.lin_log.specs.Words.{spaced_word, text}
+use Rattle.lin_export.specs.Csv.{after_comma}
+use Rattle.lin_export.specs.Json.{member, object_line, printable_text, quoted_text}
+use Rattle.lin_export.specs.Jsonl.{objects_of}
+use Rattle.lin_export.specs.Named.{named_entries}
 use Rattle.lin_values.specs.Coded.{CodedData}
-use Rattle.lin_values.specs.Meaning.{meaning_if_coded as meaning_of}
-use Rattle.lin_values.specs.Shown.{shown as meaning_text}
 use Rattle.lin_bench.specs.Meanings.{told_meaning}
 use Rattle.lin_bench.specs.Scripts.{without_mark}
 use Rattle.lin_bench.specs.Made.{BenchState, made}
-use Rattle.lin_bench.specs.Slots.{pending, slot_limit}
+use Rattle.lin_bench.specs.Slots.{slot_limit}
 use Rattle.lin_bench.specs.Strict.{entries_since, first_refusal}
-use Rattle.lin_bench.specs.declared.got.Pending.{Pending}
-use Rattle.lin_bench.specs.declared.rules.Noted.{Noted}
 use Rattle.lin_bench.specs.LineWords.{seen_texts}
-use Rattle.lin_bench.specs.Texts.{expected_text, got_text, pending_text}
-use Rattle.lin_bench.specs.Texts.{reason_text as script_text, table_word, verdict_text}
+use Rattle.lin_bench.specs.Texts.{expected_text, got_text}
+use Rattle.lin_bench.specs.Texts.{reason_text as script_text, verdict_text}
 use Rattle.lin_bench.specs.declared.got.Verdict.{Verdict}
 use Rattle.lin_bench.specs.declared.got.Verdict.TheVariants.{Unmet, SlotLimit}
 use Rattle.lin_live.specs.Heard.{line_heard}
+use Rattle.lin_live.specs.Values.{Said, said, said_members, said_text}
 use Rattle.lin_live.specs.declared.answer_format.AnswerFormat.{AnswerFormat}
-use Rattle.lin_live.specs.declared.answer_format.AnswerFormat.TheVariants.{Log, Named}
+use Rattle.lin_live.specs.declared.answer_format.AnswerFormat.TheVariants.{Log, Named, Jsonl}
 use Rattle.lin_live.specs.declared.heard.Heard.{Heard}
 use Rattle.lin_live.specs.declared.heard.Heard.TheVariants.{Ask, Make}
 use Rattle.lin_live.specs.declared.question.Question.{Question}
-use Rattle.lin_live.specs.declared.question.Question.TheVariants.{Signal, Waiting, Idle, Time}
-use Rattle.lin_live.specs.declared.question.Question.TheVariants.{Asleep, Next}
-use Rattle.lin_live.specs.declared.answer_value.AnswerValue.{AnswerValue}
-use Rattle.lin_live.specs.declared.answer_value.AnswerValue.TheVariants as shown
 use Rattle.lin_live.specs.declared.reason.Reason.{Reason}
 use Rattle.lin_live.specs.declared.reason.Reason.TheVariants.{Script, AskForm, UnknownQuestion}
 use Rattle.lin_live.specs.declared.reason.Reason.TheVariants.{NoNode, NoNodeOrSignal, TooLong}
@@ -58,60 +47,69 @@ question_reason_text NoNode = codes "no such node"
 question_reason_text NoNodeOrSignal = codes "no such node or signal"
 question_reason_text TooLong = codes "the line has more than 16,777,216 bytes"
 
-abbrev pub steps_ending : Option Refusal → List ℕ
-steps_ending None = hash_line (codes "ok")
-steps_ending (Some why) =
-    hash_line (codes "refused " ++ (decimal (refusal_number why) ++ spaced_word (refusal_word why)))
+-- how an answer ends: the line was bad, a question is answered, the line met the limit of slots, an
+-- expectation failed, a step was refused, or none of these
+pub data Ending : Type 0 where
+  Bad : (why : Reason) → Ending
+  Is : (answer : Said) → Ending
+  Limit : Ending
+  Failed : (what got : List ℕ) → Ending
+  Refused : (why : Refusal) → Ending
+  Fine : Ending
 
--- the limit of slots goes before what isn't met, and this before what was refused
-abbrev pub verdict_ending : Parts → Verdict → List LogEntry → List ℕ
-verdict_ending c SlotLimit es = hash_line (codes "slot limit")
-verdict_ending c (Unmet what got) es = 35 ∷ verdict_text (expected_text c what) (got_text c got)
+abbrev pub steps_ending : Option Refusal → Ending
+steps_ending None = Fine
+steps_ending (Some why) = Refused why
+
+-- the limit of slots is reported before a failed expectation, and this before a refused step
+abbrev pub verdict_ending : Parts → Verdict → List LogEntry → Ending
+verdict_ending c SlotLimit es = Limit
+verdict_ending c (Unmet what got) es = Failed (expected_text c what) (got_text c got)
 verdict_ending c verdict es = steps_ending (first_refusal es)
 
--- what is said to a question on a history
-abbrev pub idle_text : Parts → List Pending → List ℕ
-idle_text c [] = codes "idle"
-idle_text c (p ∷ ps) = pending_text c (p ∷ ps)
+-- as a line that begins with `#`
+abbrev pub hash_ending : Parts → Option CodedData → Ending → List ℕ
+hash_ending c k (Bad why) = hash_line (codes "bad line: " ++ question_reason_text why)
+hash_ending c k (Is answer) = hash_line (codes "is " ++ said_text c k answer)
+hash_ending c k Limit = hash_line (codes "slot limit")
+hash_ending c k (Failed what got) = 35 ∷ verdict_text what got
+hash_ending c k (Refused why) =
+    hash_line (codes "refused " ++ (decimal (refusal_number why) ++ spaced_word (refusal_word why)))
+hash_ending c k Fine = hash_line (codes "ok")
 
-abbrev pub slot_text : Parts → ℕ × ℕ → Option ℕ → List ℕ
-slot_text c at header =
-    table_word c at.0
-    ++ (spaced_word (decimal at.1)
-    ++ flat_map spaced_word (slot_names c (Slot at.0 at.1 header)))
+-- as an object: what it begins with, and all of it
+abbrev pub answer_beginning : List ℕ → List ℕ
+answer_beginning end =
+    123 ∷ (member (codes "type") (quoted_text (codes "answer"))
+    ++ after_comma (member (codes "end") (quoted_text end)))
 
--- the table, the entry and the frame of the slot that an open would begin, as after `> slot`
-abbrev pub next_text : Parts → ℕ → List LogEntry → List ℕ
-next_text c opening past =
-    if asleep past then codes "asleep"
-    else option_map_or
-    (λ (s : ℕ × ℕ × Option ℕ). slot_text c (s.0, s.1) s.2)
-    (next_slot c opening past) (codes "open")
+abbrev pub answer_object : List ℕ → List (List ℕ) → List ℕ
+answer_object end members =
+    object_line (codes "answer") (member (codes "end") (quoted_text end) ∷ members)
 
--- a value of a signal, and where that is told what it means
-abbrev pub shown_value : Option CodedData → ℕ → RawValue → List ℕ
-shown_value k signal value =
-    value_word value
-    ++ option_map_or (λ m. spaced_word (meaning_text m)) (meaning_of k signal value) []
+abbrev pub object_ending : Parts → Option CodedData → Ending → List ℕ
+object_ending c k (Bad why) =
+    answer_object (codes "bad line") (member (codes "reason") (printable_text (question_reason_text why)) ∷ [])
+object_ending c k (Is answer) = answer_object (codes "is") (said_members c k answer)
+object_ending c k Limit = answer_object (codes "slot limit") []
+object_ending c k (Failed what got) =
+    answer_object (codes "expected")
+    (member (codes "what") (printable_text what) ∷ member (codes "got") (printable_text got) ∷ [])
+object_ending c k (Refused why) =
+    answer_object (codes "refused")
+    (member (codes "number") (decimal (refusal_number why))
+    ∷ member (codes "name") (quoted_text (refusal_word why)) ∷ [])
+object_ending c k Fine = answer_object (codes "ok") []
 
--- given also the answers that are noted
-abbrev pub value_text : Parts → Option CodedData → ℕ → List LogEntry → List Noted → Question → List ℕ
-value_text c k opening past noted (Signal node signal) = shown_value k signal (value_at c past node signal)
-value_text c k opening past noted (Waiting host) = decimal (length (waiting c past host))
-value_text c k opening past noted Idle = idle_text c (pending c past noted)
-value_text c k opening past noted Time = decimal (time c past)
-value_text c k opening past noted Asleep = if asleep past then codes "asleep" else codes "awake"
-value_text c k opening past noted Next = next_text c opening past
+-- whether answers in a format are texts and not objects
+abbrev pub is_text : AnswerFormat → Bool
+is_text Jsonl = false
+is_text f = true
 
--- a value as it is said
-abbrev pub value_shown : Parts → AnswerValue → List ℕ
-value_shown c (shown.Signal value) = value_word value
-value_shown c (shown.Meant value text) = value_word value ++ spaced_word text.items
-value_shown c (shown.Number n) = decimal n
-value_shown c (shown.Pending all) = idle_text c all
-value_shown c (shown.Asleep is) = if is then codes "asleep" else codes "awake"
-value_shown c shown.Open = codes "open"
-value_shown c (shown.Slot table entry header) = slot_text c (table, entry) header
+-- the last line of an answer
+abbrev pub last_line : AnswerFormat → Parts → Option CodedData → Ending → List ℕ
+last_line Jsonl c k e = object_ending c k e
+last_line f c k e = hash_ending c k e
 
 -- ---- what is kept: how entries are told, what signals mean where that is known, whether values are
 -- told as that too, a bench whose next line may make 1,000,000 slots, whether there was a line, whether
@@ -136,18 +134,26 @@ abbrev pub is_unmet_verdict : Verdict → Bool
 is_unmet_verdict (Unmet what got) = true
 is_unmet_verdict verdict = false
 
--- an answer: the entries that the line made, and its last line
+-- an answer: the entries that the line made, and how it ends
 pub record Answer : Type 0 where
   pub entries : List LogEntry
-  pub last_line : List ℕ
+  pub ending : Ending
 
 -- no step was made
-abbrev pub answer_without_step : List ℕ → Answer
-answer_without_step words = record { entries = []; last_line = hash_line words }
+abbrev pub answer_without_step : Ending → Answer
+answer_without_step ending = record { entries = []; ending = ending }
 
 -- what signals mean, where values are told as that
 abbrev pub shown_coding : HandData → Option CodedData
 shown_coding h = if h.is_physical then h.coded else None
+
+-- the answer to a question to a session
+abbrev pub asked_value : HandData → Question → Said
+asked_value h asked = said h.cluster h.opening h.bench.past h.bench.rules.noted asked
+
+-- the last line of an answer of a session
+abbrev pub ending_text : HandData → Ending → List ℕ
+ending_text h ending = last_line h.format h.cluster (shown_coding h) ending
 
 -- where what is expected in words isn't so, what the value means
 abbrev pub verdict_with_meaning : Option CodedData → Verdict → Verdict
@@ -164,19 +170,16 @@ after_line h m =
         was_bad = h.was_bad || is_limit m.1;
         was_unmet = h.was_unmet || is_unmet_verdict m.1;
       },
-      record { entries = es; last_line = verdict_ending h.cluster (verdict_with_meaning h.coded m.1) es },
+      record { entries = es; ending = verdict_ending h.cluster (verdict_with_meaning h.coded m.1) es },
     )
 
 -- what something that was heard makes of what is kept, and the answer
 abbrev pub heard_answer : HandData → Result (Option Heard) Reason → HandData × Answer
 heard_answer h (Err why) =
-    (record h { was_bad = true }, answer_without_step (codes "bad line: " ++ question_reason_text why))
-heard_answer h (Ok None) = (h, answer_without_step (codes "ok"))
-heard_answer h (Ok (Some (Ask asked))) = (
-  h,
-  answer_without_step (codes "is "
-      ++ value_text h.cluster (shown_coding h) h.opening h.bench.past h.bench.rules.noted asked),
-)
+    (record h { was_bad = true }, answer_without_step (Bad why))
+heard_answer h (Ok None) = (h, answer_without_step Fine)
+heard_answer h (Ok (Some (Ask asked))) =
+    (h, answer_without_step (Is (asked_value h asked)))
 heard_answer h (Ok (Some (Make line))) = after_line h (made h.cluster h.opening h.capacity h.bench line)
 
 -- what a line says, and none that is too long
@@ -191,16 +194,18 @@ without_byte_order_mark h line = if h.begun then line else option_map without_ma
 abbrev pub line_answer : HandData → Option (List ℕ) → HandData × Answer
 line_answer h line = heard_answer (record h { begun = true }) (heard_as h.cluster h.coded (without_byte_order_mark h line))
 
--- entries as they are told, the oldest first, on those before them: as the log's own text, or as the
--- log with names
+-- entries as they are told, the oldest first, on those before them: as the log's own text, as the log
+-- with names, or as objects
 abbrev pub entries_text : AnswerFormat → Parts → Option CodedData → List LogEntry → List LogEntry
     → List ℕ
 entries_text Log c k past entries = text entries
 entries_text Named c k past entries = named_entries c k past entries
+entries_text Jsonl c k past entries = objects_of c k past entries
 
 -- an answer is written as the text of its entries, and then its last line
 abbrev pub answer_text : HandData → Answer → List ℕ
-answer_text h a = entries_text h.format h.cluster (shown_coding h) h.bench.past a.entries ++ a.last_line
+answer_text h a =
+    entries_text h.format h.cluster (shown_coding h) h.bench.past a.entries ++ ending_text h a.ending
 
 abbrev pub written : HandData → HandData × Answer → HandData × List ℕ
 written h a = (a.0, answer_text h a.1)

@@ -7,4 +7,6 @@ pub enum AnswerFormat {
     Log,
     /// With names, as the log with names.
     Named,
+    /// As objects of JSON (RFC 8259), one a line; the last line of an answer is one, too.
+    Jsonl,
 }

@@ -1,24 +1,33 @@
 //! The answers to lines.
 
-ghost use Rattle.std.specs.Prelude.{◌≡◌, ◌++◌, ◌≤◌, IfOk, IfSome, codes, drop, flat_map, length};
-ghost use Rattle.std.specs.Prelude.{reverse, take};
+ghost use Rattle.std.specs.Prelude.{◌≡◌, ◌++◌, ◌≤◌, ◌<◌, ◌==◌, [], IfOk, IfSome, Option, codes, drop};
+ghost use Rattle.std.specs.Prelude.{if◌then◌else◌, length, map, reverse, take};
+ghost use Rattle.std.specs.Fmt.{decimal};
 ghost use Rattle.lin_export.specs.Named.{named_entries};
 ghost use Rattle.lin_export.specs.Track.{track_of};
 ghost use Rattle.lin_export.specs.WhereTold.{given_coding};
+ghost use Rattle.lin_frame.specs.Words.{numbers};
 ghost use Rattle.lin_log.specs.Words.{spaced_word, text};
+ghost use Rattle.lin_parts.specs.Cluster.{nodes};
+ghost use Rattle.lin_parts.specs.declared.parts.Parts.{Parts};
 ghost use Rattle.lin_text.specs.Written.{Grows, WritesText};
-ghost use Rattle.lin_live.specs.Told.{hash_line, idle_text, question_reason_text};
-ghost use Rattle.lin_live.specs.Told.{slot_text, steps_ending, value_shown, verdict_ending};
+ghost use Rattle.lin_live.specs.Hand.{hash_line_ending};
+ghost use Rattle.lin_live.specs.Told.{hash_ending, hash_line, question_reason_text, steps_ending};
+ghost use Rattle.lin_live.specs.Values.{addressed_node, as_said, idle_text, objects_version};
+ghost use Rattle.lin_live.specs.Values.{program_version, said_text, shown_value, slot_text, with_gaps};
+ghost use Rattle.lin_values.specs.Coded.{CodedData};
 
 use crate::answer_value::AnswerValue;
 use crate::reason::Reason;
+use crate::versions::{OBJECTS_VERSION, PROGRAM_VERSION};
 use lin_bench::{Pending, Verdict, first_refusal, put_pending, put_reason, put_texts, put_verdict};
 use lin_core::{Core, Event, Listed, Log, Refusal};
-use lin_export::{Track, named_text, put_slot_names};
+use lin_export::{Track, named_text, put_last_slot, put_slot_names};
+use lin_frame::Value;
 use lin_log::{put_entries, put_number, put_table, put_value, put_word};
 use lin_parts::Cluster;
 use lin_text::{TextBuffer, TextWriter, WriteFailed};
-use lin_values::Coded;
+use lin_values::{Coded, put_meaning};
 use std::alloc::{AllocError, Global};
 use std::io::Write;
 
@@ -42,7 +51,7 @@ pub(crate) fn write_ok<W: Write>(writer: &mut W, buffer: &mut TextBuffer) -> Res
 }
 
 /// Why a line is bad.
-fn put_why<W: Write>(out: &mut TextWriter<'_, W>, reason: &Reason)
+pub(crate) fn put_why<W: Write>(out: &mut TextWriter<'_, W>, reason: &Reason)
     ensures { Grows W.contents out.old out.new (question_reason_text reason.now) }
 {
     match reason {
@@ -107,18 +116,83 @@ fn put_slot<W: Write>(
     put_slot_names(out, cluster, &slot);
 }
 
-/// What is said to a question, with a space before it.
-fn put_answer<W: Write>(out: &mut TextWriter<'_, W>, cluster: &Cluster, value: &AnswerValue)
+/// A value of a signal and, if the encodings are given, its meaning, each after a space.
+fn put_signal<W: Write>(
+    out: &mut TextWriter<'_, W>,
+    coded: Option<&Coded>,
+    signal: u16,
+    value: &Value,
+)
     ensures { Grows W.contents out.old out.new
-        (spaced_word (value_shown cluster.now value.now)) }
+        (spaced_word (shown_value (given_coding coded.entry) signal value.now)) }
+{
+    put_value(out, value);
+    let Some(coded) = coded else {
+        return;
+    };
+    let Some(meaning) = coded.meaning(signal, value) else {
+        return;
+    };
+    out.put_byte(b' ');
+    put_meaning(out, &meaning);
+}
+
+/// The versions of the program and of its objects, each after a space.
+fn put_versions<W: Write>(out: &mut TextWriter<'_, W>)
+    ensures { Grows W.contents out.old out.new
+        (spaced_word (program_version ++ spaced_word (decimal objects_version))) }
+{
+    out.put_byte(b' ');
+    out.put_text(PROGRAM_VERSION);
+    put_number(out, OBJECTS_VERSION);
+}
+
+/// A node with its diagnostic address, `-` for none.
+fn put_node<W: Write>(out: &mut TextWriter<'_, W>, cluster: &Cluster, node: u8)
+    requires { node < nodes cluster.now }
+    ensures { Grows W.contents out.old out.new (addressed_node cluster.now node) }
+{
+    out.put(cluster.node_name(node));
+    match cluster.nad(node) {
+        Some(nad) => put_number(out, nad),
+        None => out.put_text(" -"),
+    }
+}
+
+/// What precedes a node in a list: a comma and a space, except for the first one.
+fn put_gap<W: Write>(out: &mut TextWriter<'_, W>, node: usize)
+    ensures { Grows W.contents out.old out.new (if node == 0 then [] else codes ", ") }
+{
+    if node > 0 {
+        out.put_text(", ");
+    }
+}
+
+/// The nodes with their diagnostic addresses, after a space.
+fn put_nodes<W: Write>(out: &mut TextWriter<'_, W>, cluster: &Cluster)
+    ensures { Grows W.contents out.old out.new (spaced_word
+        (with_gaps (map (addressed_node cluster.now) (numbers (nodes cluster.now))))) }
+{
+    out.put_byte(b' ');
+    for node in 0..cluster.nodes() {
+        put_gap(out, node);
+        put_node(out, cluster, node as u8);
+    }
+}
+
+/// The value that answers a question, after a space.
+pub(crate) fn put_answer<W: Write>(
+    out: &mut TextWriter<'_, W>,
+    cluster: &Cluster,
+    coded: Option<&Coded>,
+    value: &AnswerValue,
+)
+    ensures { Grows W.contents out.old out.new
+        (spaced_word (said_text cluster.now (given_coding coded.entry)
+        (as_said cluster.now value.now))) }
 {
     match value {
-        AnswerValue::Signal(value) => put_value(out, value),
-        AnswerValue::Meant(value, text) => {
-            put_value(out, value);
-            out.put_byte(b' ');
-            out.put(text.as_slice());
-        }
+        AnswerValue::Signal { signal, value } => put_signal(out, coded, *signal, value),
         AnswerValue::Number(number) => put_number(out, *number),
         AnswerValue::Pending(pending) => {
             out.put_byte(b' ');
@@ -132,29 +206,35 @@ fn put_answer<W: Write>(out: &mut TextWriter<'_, W>, cluster: &Cluster, value: &
             entry,
             header,
         } => put_slot(out, cluster, *table, *entry, *header),
+        AnswerValue::Version => put_versions(out),
+        AnswerValue::Nodes => put_nodes(out, cluster),
+        AnswerValue::LastSlot(last) => put_last_slot(out, cluster, last.as_ref()),
     }
 }
 
-/// Writes what is said to a question.
+/// Writes the answer to a question.
 pub(crate) fn write_value<W: Write>(
     writer: &mut W,
     buffer: &mut TextBuffer,
     cluster: &Cluster,
+    coded: Option<&Coded>,
     value: &AnswerValue,
 ) -> Result<(), WriteFailed>
     ensures { WritesText (W.contents writer.old) (W.contents writer.new) result
-        (hash_line (codes "is " ++ value_shown cluster.now value.now)) }
+        (hash_line (codes "is " ++ said_text cluster.now (given_coding coded.entry)
+        (as_said cluster.now value.now))) }
 {
     let mut out = TextWriter::new(writer, buffer);
     out.put_text("# is");
-    put_answer(&mut out, cluster, value);
+    put_answer(&mut out, cluster, coded, value);
     out.put_byte(b'\n');
     out.finish()
 }
 
 /// That the steps of a line were done, or the first that was refused.
 fn put_steps_ending<W: Write>(out: &mut TextWriter<'_, W>, refusal: Option<Refusal>)
-    ensures { Grows W.contents out.old out.new (steps_ending refusal) }
+    ensures { (c : Parts) (k : Option CodedData) → Grows W.contents out.old out.new
+        (hash_ending c k (steps_ending refusal)) }
 {
     match refusal {
         None => put_ending(out, "ok"),
@@ -174,8 +254,8 @@ fn put_verdict_ending<W: Write>(
     from: usize,
     verdict: &Verdict,
 )
-    ensures { Grows W.contents out.old out.new
-        (verdict_ending core.now.cluster verdict.now (drop from core.now.log)) }
+    ensures { (k : Option CodedData) → Grows W.contents out.old out.new
+        (hash_line_ending core.now from k verdict.now) }
 {
     match verdict {
         Verdict::SlotLimit => put_ending(out, "slot limit"),
@@ -198,9 +278,8 @@ pub(crate) fn write_line<W: Write>(
     from: usize,
     verdict: &Verdict,
 ) -> Result<(), WriteFailed>
-    ensures { WritesText (W.contents writer.old) (W.contents writer.new) result
-        (text (drop from core.now.log)
-        ++ verdict_ending core.now.cluster verdict.now (drop from core.now.log)) }
+    ensures { (k : Option CodedData) → WritesText (W.contents writer.old) (W.contents writer.new) result
+        (text (drop from core.now.log) ++ hash_line_ending core.now from k verdict.now) }
 {
     let mut out = TextWriter::new(writer, buffer);
     put_entries(&mut out, core.log(), from);
@@ -245,9 +324,8 @@ pub(crate) fn write_told_line<W: Write>(
     told: &[u8],
     verdict: &Verdict,
 ) -> Result<(), WriteFailed>
-    ensures { WritesText (W.contents writer.old) (W.contents writer.new) result
-        (told.now
-        ++ verdict_ending core.now.cluster verdict.now (drop from core.now.log)) }
+    ensures { (k : Option CodedData) → WritesText (W.contents writer.old) (W.contents writer.new) result
+        (told.now ++ hash_line_ending core.now from k verdict.now) }
 {
     let mut out = TextWriter::new(writer, buffer);
     out.put(told);

@@ -126,6 +126,12 @@ fn of_word(
         lone(alloc, cluster, Question::Asleep, all, line)
     } else if word == b"next".as_slice() {
         lone(alloc, cluster, Question::Next, all, line)
+    } else if word == b"version".as_slice() {
+        lone(alloc, cluster, Question::Version, all, line)
+    } else if word == b"nodes".as_slice() {
+        lone(alloc, cluster, Question::Nodes, all, line)
+    } else if word == b"slot".as_slice() {
+        lone(alloc, cluster, Question::LastSlot, all, line)
     } else {
         Err(no_form(alloc, cluster, all)?)
     }

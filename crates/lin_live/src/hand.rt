@@ -1,23 +1,31 @@
 //! A bench in hand.
 
-ghost use Rattle.std.specs.Prelude.{◌≡◌, ◌<◌, ◌≤◌, ◌-◌, ◌^◌, ◌++◌, ◌||◌, [], IfOk, IfSome, codes};
-ghost use Rattle.std.specs.Prelude.{None, drop, if◌then◌else◌, length, option_map, reverse, true};
+ghost use Rattle.std.specs.Prelude.{◌≡◌, ◌<◌, ◌≤◌, ◌-◌, ◌^◌, ◌||◌, [], IfOk, IfSome};
+ghost use Rattle.std.specs.Prelude.{None, if◌then◌else◌, length, option_map, reverse, true};
 ghost use Rattle.lin_bench.specs.Scripts.{without_mark};
-ghost use Rattle.lin_export.specs.Track.{track_of};
 ghost use Rattle.lin_live.specs.Asked.{Gives, IsAskable};
-ghost use Rattle.lin_live.specs.Hand.{earlier};
-ghost use Rattle.lin_live.specs.Serving.{WritesAnswer};
+ghost use Rattle.lin_live.specs.Hand.{IsKept, earlier, entries_from, line_text};
+ghost use Rattle.lin_export.specs.Jsonl.{IsObjectTrackOf};
+ghost use Rattle.lin_export.specs.LastSlot.{IsKeptOf};
+ghost use Rattle.lin_export.specs.Track.{track_of};
+ghost use Rattle.lin_live.specs.Serving.{WritesAlone, WritesAnswer};
+ghost use Rattle.lin_live.specs.Values.{KeepsLastSlot, as_said};
+ghost use Rattle.lin_live.specs.declared.answer_format.AnswerFormat.TheVariants.{Jsonl, Named};
 ghost use Rattle.lin_live.specs.Heard.{IsHeard};
-ghost use Rattle.lin_live.specs.Told.{HandData, IsFull, hash_line, entries_text, heard_as, verdict_with_meaning};
-ghost use Rattle.lin_live.specs.Told.{is_limit, is_unmet_verdict, question_reason_text, reply, shown_coding, heard_answer};
-ghost use Rattle.lin_live.specs.Told.{without_byte_order_mark, value_text, verdict_ending, written};
+ghost use Rattle.lin_live.specs.Told.{Bad, Fine, HandData, Is, IsFull, asked_value, ending_text, heard_as};
+ghost use Rattle.lin_live.specs.Told.{heard_answer, is_limit, is_unmet_verdict, reply};
+ghost use Rattle.lin_live.specs.Told.{verdict_with_meaning, without_byte_order_mark, written};
 ghost use Rattle.lin_live.specs.declared.heard.Heard.TheVariants.{Make};
 
 use crate::answer_format::AnswerFormat;
+use crate::answer_objects::{
+    line_ending, with_objects, write_bad_object, write_line_object, write_object,
+    write_value_object,
+};
 use crate::answer_texts::{
     with_names, write_bad, write_line, write_ok, write_told_line, write_value,
 };
-use crate::answer_value::value_of;
+use crate::answer_value::{AnswerValue, value_of};
 use crate::answering::Answering;
 use crate::fault::Fault;
 use crate::heard::{Heard, hear};
@@ -25,7 +33,7 @@ use crate::question::Question;
 use crate::reason::{LineFault, Reason};
 use lin_bench::{Bench, ScriptLine, Verdict, told_meaning, without_mark};
 use lin_core::{Core, Log};
-use lin_export::Track;
+use lin_export::{LastSlot, ObjectTrack, Track};
 use lin_text::TextBuffer;
 use lin_values::Coded;
 use std::alloc::{AllocError, Global};
@@ -46,6 +54,10 @@ pub struct Hand {
     is_physical: bool,
     /// What is kept of the log for telling further entries with names, where it is at hand.
     track: Option<Track>,
+    /// The same for objects.
+    objects: Option<ObjectTrack>,
+    /// The slot that had ended last when it was last asked for.
+    last_slot: Option<LastSlot>,
     /// Whether there was a line.
     begun: bool,
     was_bad: bool,
@@ -62,6 +74,13 @@ impl Model for Hand {
     ghost view = { hand_data };
 
     ghost invariant = { IsFollowed };
+}
+
+/// The tracks of a log for writing further entries, if they are at hand.
+#[derive(Drop)]
+struct KeptTracks {
+    track: Option<Track>,
+    objects: Option<ObjectTrack>,
 }
 
 /// Whether a line made more slots than a line may.
@@ -122,6 +141,8 @@ impl Hand {
             coded,
             is_physical,
             track: None,
+            objects: None,
+            last_slot: None,
             begun: false,
             was_bad: false,
             was_unmet: false,
@@ -180,50 +201,96 @@ impl Hand {
 
     /// Tells that a line says nothing.
     fn pass<W: Write>(&self, writer: &mut W, buffer: &mut TextBuffer) -> Result<(), Fault>
-        ensures { WritesAnswer (self.now, hash_line (codes "ok")) ⊥ self.now (W.contents writer.old)
-            (W.contents writer.new) result }
+        ensures { WritesAnswer (self.now, ending_text self.now Fine)
+            ⊥ self.now (W.contents writer.old) (W.contents writer.new) result }
     {
-        write_ok(writer, buffer)?;
+        match self.format {
+            AnswerFormat::Jsonl => write_object(writer, buffer, &[], "ok", &[])?,
+            AnswerFormat::Log | AnswerFormat::Named => write_ok(writer, buffer)?,
+        }
         Ok(())
     }
 
     /// Tells that a line is bad.
     fn refuse<W: Write>(
         &mut self,
+        alloc: Global,
         reason: &Reason,
         writer: &mut W,
         buffer: &mut TextBuffer,
     ) -> Result<(), Fault>
-        ensures { WritesAnswer (
-          record self.old { was_bad = true },
-          hash_line (codes "bad line: " ++ question_reason_text reason.now),
-        )
+        ensures { WritesAnswer (record self.old { was_bad = true }, ending_text self.old (Bad reason.now))
             ⊥ self.new (W.contents writer.old) (W.contents writer.new) result }
     {
         self.was_bad = true;
-        write_bad(writer, buffer, reason)?;
+        match self.format {
+            AnswerFormat::Jsonl => write_bad_object(alloc, writer, buffer, reason)?,
+            AnswerFormat::Log | AnswerFormat::Named => write_bad(writer, buffer, reason)?,
+        }
+        Ok(())
+    }
+
+    /// Takes the slot that had ended last, if a question asks for it.
+    fn take_slot(&mut self, question: Question) -> Option<LastSlot>
+        ensures same { self.new ≡ self.old }
+        ensures kept { IfSome result (IsKeptOf self.old.cluster (reverse self.old.bench.past)) }
+    {
+        if !matches!(question, Question::LastSlot) {
+            return None;
+        }
+        self.last_slot.take()
+    }
+
+    /// Keeps the slot that ended last, if the answer to a question is that.
+    fn keep_slot(&mut self, value: AnswerValue)
+        requires { KeepsLastSlot self.old.cluster (reverse self.old.bench.past) value }
+        ensures { self.new ≡ self.old }
+    {
+        if let AnswerValue::LastSlot(last) = value {
+            self.last_slot = last;
+        }
+    }
+
+    /// Writes the answer to a question.
+    fn write_asked<W: Write>(
+        &self,
+        alloc: Global,
+        value: &AnswerValue,
+        writer: &mut W,
+        buffer: &mut TextBuffer,
+    ) -> Result<(), Fault>
+        ensures { WritesAlone (W.contents writer.old) (W.contents writer.new)
+            (ending_text self.now (Is (as_said self.now.cluster value.now))) result }
+    {
+        let cluster = self.bench.core().cluster();
+        let coded = told_coding(self.coded.as_ref(), self.is_physical);
+        match self.format {
+            AnswerFormat::Jsonl => {
+                write_value_object(alloc, writer, buffer, cluster, coded, value)?;
+            }
+            AnswerFormat::Log | AnswerFormat::Named => {
+                write_value(writer, buffer, cluster, coded, value)?;
+            }
+        }
         Ok(())
     }
 
     /// Answers a question.
     fn ask<W: Write>(
-        &self,
+        &mut self,
         alloc: Global,
         question: Question,
         writer: &mut W,
         buffer: &mut TextBuffer,
     ) -> Result<(), Fault>
-        requires { IsAskable self.now.cluster question }
-        ensures { WritesAnswer (
-          self.now,
-          hash_line (codes "is " ++ value_text self.now.cluster (shown_coding self.now)
-              self.now.opening self.now.bench.past self.now.bench.rules.noted question),
-        )
-            ⊥ self.now (W.contents writer.old) (W.contents writer.new) result }
+        requires { IsAskable self.old.cluster question }
+        ensures { WritesAnswer (self.old, ending_text self.old (Is (asked_value self.old question)))
+            ⊥ self.new (W.contents writer.old) (W.contents writer.new) result }
     {
-        let coded = told_coding(self.coded.as_ref(), self.is_physical);
-        let value = value_of(alloc, &self.bench, coded, question)?;
-        write_value(writer, buffer, self.bench.core().cluster(), &value)?;
+        let known = self.take_slot(question);
+        let value = value_of(alloc, &self.bench, known, question)?;
+        self.write_asked(alloc, &value, writer, buffer)?;
+        self.keep_slot(value);
         Ok(())
     }
 
@@ -238,37 +305,73 @@ impl Hand {
         self.was_unmet = self.was_unmet || is_unmet(verdict);
     }
 
+    /// Returns the text of the entries from one on with names, and keeps the track of all. An error
+    /// means out of memory.
+    fn names_from(
+        &mut self,
+        alloc: Global,
+        track: Option<Track>,
+        from: usize,
+    ) -> Result<Vec<u8>, AllocError>
+        requires there { from ≤ length self.old.bench.past }
+        requires track { IfSome track (λ t. t ≡ track_of self.old.cluster (earlier from self.old.bench.past)) }
+        ensures same { self.new ≡ self.old }
+        ensures text { IfOk result (λ text. text.items ≡ entries_from Named self.old from) }
+    {
+        let coded = told_coding(self.coded.as_ref(), self.is_physical);
+        let (text, track) = with_names(alloc, self.bench.core(), coded, track, from)?;
+        self.track = Some(track);
+        Ok(text)
+    }
+
+    /// Returns the objects of the entries from one on, and keeps the track of all. An error means out of
+    /// memory.
+    fn objects_from(
+        &mut self,
+        alloc: Global,
+        objects: Option<ObjectTrack>,
+        from: usize,
+    ) -> Result<Vec<u8>, AllocError>
+        requires there { from ≤ length self.old.bench.past }
+        requires track { IfSome objects
+            (IsObjectTrackOf self.old.cluster (earlier from self.old.bench.past)) }
+        ensures same { self.new ≡ self.old }
+        ensures text { IfOk result (λ text. text.items ≡ entries_from Jsonl self.old from) }
+    {
+        let coded = told_coding(self.coded.as_ref(), self.is_physical);
+        let (text, objects) = with_objects(alloc, self.bench.core(), coded, objects, from)?;
+        self.objects = Some(objects);
+        Ok(text)
+    }
+
     /// Tells the entries from one on, and what their line came to, where what is kept of those before
     /// is at hand or isn't.
     fn tell<W: Write>(
         &mut self,
         alloc: Global,
-        track: Option<Track>,
+        kept: KeptTracks,
         from: usize,
-        verdict: &Verdict,
+        verdict: Verdict,
         writer: &mut W,
         buffer: &mut TextBuffer,
     ) -> Result<(), Fault>
         requires there { from ≤ length self.old.bench.past }
-        requires track { IfSome track (λ track. track
-            ≡ track_of self.old.cluster (earlier from self.old.bench.past)) }
-        ensures { WritesAnswer (
-          self.old,
-          entries_text self.old.format self.old.cluster (shown_coding self.old)
-              (earlier from self.old.bench.past) (drop from (reverse self.old.bench.past))
-              ++ verdict_ending self.old.cluster verdict.now
-              (drop from (reverse self.old.bench.past)),
-        )
+        requires kept { IsKept self.old.cluster (earlier from self.old.bench.past) kept }
+        ensures { WritesAnswer (self.old, line_text self.old from verdict)
             ⊥ self.new (W.contents writer.old) (W.contents writer.new) result }
     {
-        let core = self.bench.core();
+        let KeptTracks { track, objects } = kept;
         match self.format {
-            AnswerFormat::Log => write_line(writer, buffer, core, from, verdict)?,
+            AnswerFormat::Log => write_line(writer, buffer, self.bench.core(), from, &verdict)?,
             AnswerFormat::Named => {
-                let coded = told_coding(self.coded.as_ref(), self.is_physical);
-                let (text, track) = with_names(alloc, core, coded, track, from)?;
-                write_told_line(writer, buffer, core, from, text.as_slice(), verdict)?;
-                self.track = Some(track);
+                let text = self.names_from(alloc, track, from)?;
+                let told = text.as_slice();
+                write_told_line(writer, buffer, self.bench.core(), from, told, &verdict)?;
+            }
+            AnswerFormat::Jsonl => {
+                let text = self.objects_from(alloc, objects, from)?;
+                let ending = line_ending(alloc, self.bench.core(), from, verdict)?;
+                write_line_object(writer, buffer, text.as_slice(), &ending)?;
             }
         }
         Ok(())
@@ -297,12 +400,17 @@ impl Hand {
             (W.contents writer.old) (W.contents writer.new) result }
     {
         let from = self.bench.core().log().len();
-        let track = self.track.take();
+        let kept = KeptTracks {
+            track: self.track.take(),
+            objects: self.objects.take(),
+        };
+        let last_slot = self.last_slot.take();
         self.bench.renew_slots();
         let verdict = self.bench.make(alloc, line)?;
+        self.last_slot = last_slot;
         self.keep(&verdict);
         let told = self.in_words(alloc, verdict)?;
-        self.tell(alloc, track, from, &told, writer, buffer)
+        self.tell(alloc, kept, from, told, writer, buffer)
     }
 }
 
@@ -326,7 +434,7 @@ impl Answering for Hand {
         self.begun = true;
         match self.hear(alloc, line) {
             Err(LineFault::OutOfMemory) => Err(Fault::OutOfMemory),
-            Err(LineFault::Bad(reason)) => self.refuse(&reason, writer, buffer),
+            Err(LineFault::Bad(reason)) => self.refuse(alloc, &reason, writer, buffer),
             Ok(None) => self.pass(writer, buffer),
             Ok(Some(Heard::Ask(question))) => self.ask(alloc, question, writer, buffer),
             Ok(Some(Heard::Make(line))) => self.make(alloc, line, writer, buffer),

@@ -8,11 +8,13 @@
 #![tactic(auto)]
 
 mod answer_format;
+mod answer_objects;
 mod answer_texts;
 mod answer_value;
 mod answering;
 mod asking;
 mod begun;
+mod check_texts;
 mod fault;
 mod hand;
 mod heard;
@@ -20,9 +22,11 @@ mod law;
 mod question;
 mod reason;
 mod serving;
+mod versions;
 
 pub use answer_format::AnswerFormat;
 pub use answering::Answering;
+pub use check_texts::{found_text, what_text, without_space};
 pub use fault::Fault;
 pub use hand::Hand;
 pub use heard::{Heard, hear};

@@ -15,4 +15,10 @@ pub enum Question {
     Asleep,
     /// Which slot an open would begin.
     Next,
+    /// The versions of the program and of its objects.
+    Version,
+    /// The nodes with their diagnostic addresses.
+    Nodes,
+    /// Which slot ended last.
+    LastSlot,
 }

@@ -28,7 +28,8 @@ fn node_declared(description: &Description, node: u8) -> Option<&Name>
     description.slaves().get(usize::from(node) - 1)
 }
 
-fn nad_member(cluster: &Cluster, node: u8) -> Member<'static>
+/// The diagnostic address of a node; null if it has none.
+pub fn nad_member(cluster: &Cluster, node: u8) -> Member<'static>
     requires { node < nodes cluster.now }
     ensures { member_shown result ≡ member (codes "nad") (nad_value cluster.now node) }
 {

@@ -21,3 +21,6 @@ returns-in-Escaped g c = rw c.in-Escaped.is (grows-member _ c.put_key-in-Escaped
 
 pub returns-in-Shown : goal.returns-in-Shown
 returns-in-Shown g c = rw c.in-Shown.is (grows-member _ c.put_key-in-Shown.ensures c.put_text_value.ensures)
+
+pub returns-in-Printable : goal.returns-in-Printable
+returns-in-Printable g c = rw c.in-Printable.is (grows-member _ c.put_key-in-Printable.ensures c.put_printable.ensures)

@@ -12,7 +12,7 @@ pub returns : goal.returns
 returns g c =
     let x = c.args.cluster.now in
     let first =
-    member (codes "version") (decimal 1) ∷ member (codes "table") (quoted_text (named_table x c.args.opening.table).name)
+    member (codes "version") (decimal 2) ∷ member (codes "table") (quoted_text (named_table x c.args.opening.table).name)
     ∷ member (codes "capacity") (decimal c.args.opening.capacity) ∷ [] in
     grows-object (codes "run") c.put_type.ensures
     (puts-more (puts-all first (rw c.table_name.ensures at c.put_members.ensures))

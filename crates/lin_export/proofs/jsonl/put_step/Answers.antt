@@ -6,7 +6,7 @@ use Rattle.lin_export.specs.Jsonl.{slot_line}
 use Rattle.lin_export.specs.Open.{tracked_slot}
 use Rattle.lin_export.specs.Track.{TrackData}
 use Rattle.lin_export.specs.WhereTold.{given_coding}
-use Rattle.lin_export.proofs.Objects.{finish-object, wake-object}
+use Rattle.lin_export.proofs.Objects.{finish-object, wake-object, write-object}
 use Rattle.lin_export.proofs.Rows.{Shows, shows}
 use Rattle.lin_export.proofs.jsonl.put_step.Goals as goal
 
@@ -21,5 +21,10 @@ returns-in-Some g c = λ past is count are.
 
 pub returns-in-Wake : goal.returns-in-Wake
 returns-in-Wake g c = λ past is count are.
-    same-growth (wake-object c.args.cluster.now (given_coding c.args.coded) count past c.args.step.now c.time.result (c.time.ensures ∙ ap (λ (d : TrackData). d.time) is) c.in-Wake.is)
+    same-growth (wake-object c.args.cluster.now (given_coding c.args.coded) count past c.args.step.now c.time-in-Wake.result (c.time-in-Wake.ensures ∙ ap (λ (d : TrackData). d.time) is) c.in-Wake.is)
     c.put_object_line.ensures
+
+pub returns-in-Write : goal.returns-in-Write
+returns-in-Write g c = λ past is count are.
+    same-growth (write-object c.args.cluster.now (given_coding c.args.coded) count past c.args.step.now c.time.result _ _ _ (c.time.ensures ∙ ap (λ (d : TrackData). d.time) is) c.in-Write.is)
+    c.put_write.ensures

@@ -1,7 +1,7 @@
 use Rattle.std.proofs.Common.{◌∷◌, [], codes}
-use Rattle.lin_export.specs.ClusterObject.{count_member, text_value}
+use Rattle.lin_export.specs.ClusterObject.{count_member}
 use Rattle.lin_export.specs.Found.{found_data}
-use Rattle.lin_export.specs.Json.{member}
+use Rattle.lin_export.specs.Json.{member, text_value}
 use Rattle.lin_export.proofs.Objects.{grows-values, puts-all}
 use Rattle.lin_text.proofs.Growing.{grows-more}
 use Rattle.lin_export.proofs.object.put_header.Goals as goal

@@ -7,7 +7,7 @@ use Rattle.lin_export.proofs.slot_meanings.put_frame_meanings.Given as goal
 
 abbrev pub invariant-loop-place : goal.invariant-loop-place
 invariant-loop-place g l = record {
-  text : Grows g.W.Write.contents l.initial.out l.out (with_commas (flat_map (place_meanings l.fn.cluster l.fn.coded l.fn.answer) (take l.place (places_of l.fn.cluster l.fn.frame))));
-  number : l.members ≡ length (flat_map (place_meanings l.fn.cluster l.fn.coded l.fn.answer) (take l.place (places_of l.fn.cluster l.fn.frame)));
+  text : Grows g.W.Write.contents l.initial.out l.out (with_commas (flat_map (place_meanings l.fn.column l.fn.cluster l.fn.coded l.fn.answer) (take l.place (places_of l.fn.cluster l.fn.frame))));
+  number : l.members ≡ length (flat_map (place_meanings l.fn.column l.fn.cluster l.fn.coded l.fn.answer) (take l.place (places_of l.fn.cluster l.fn.frame)));
   few : l.members ≤ l.place;
 }

@@ -1,6 +1,6 @@
 use Rattle.std.proofs.Common.{◌∷◌, [], codes}
-use Rattle.lin_export.specs.ClusterObject.{count_member, kind_member, text_value}
-use Rattle.lin_export.specs.Json.{member}
+use Rattle.lin_export.specs.ClusterObject.{count_member, kind_member}
+use Rattle.lin_export.specs.Json.{member, text_value}
 use Rattle.lin_export.proofs.Objects.{grows-values, puts-all}
 use Rattle.lin_export.proofs.object.encodings.put_logical.Goals as goal
 

@@ -1,6 +1,6 @@
 use Rattle.std.proofs.Common.{◌∷◌, [], codes}
-use Rattle.lin_export.specs.ClusterObject.{count_member, kind_member, text_value}
-use Rattle.lin_export.specs.Json.{member, quoted_text}
+use Rattle.lin_export.specs.ClusterObject.{count_member, kind_member}
+use Rattle.lin_export.specs.Json.{member, quoted_text, text_value}
 use Rattle.lin_values.specs.Shown.{decimal_shown}
 use Rattle.lin_export.proofs.Objects.{grows-values, puts-all, puts-more, puts-one}
 use Rattle.lin_export.proofs.object.encodings.put_physical.Goals as goal

@@ -1,0 +1,31 @@
+-- The slot that ended last.
+use Rattle.std.proofs.Common.{◌≡◌, ◌∙◌, ◌∷◌, List, Some, None, true, false, refl, sym, ap}
+use Rattle.std.specs.Prelude.{Option, option_map}
+use Rattle.std.specs.Option.{option_map_or}
+use Rattle.lin_parts.specs.declared.parts.Parts.{Parts}
+use Rattle.lin_core.specs.History.{Slot, did, is_finish, open_slot}
+use Rattle.lin_core.specs.declared.log.LogEntry.{LogEntry}
+use Rattle.lin_export.specs.LastSlot.{before_last_finish, ended, ended_slot, last_slot, tracked_slot_end}
+use Rattle.lin_export.specs.Track.{TrackData, shown_slot, track_of}
+
+pub finished-here : (e : LogEntry) (past : List LogEntry) → did is_finish e ≡ true → before_last_finish (e ∷ past) ≡ Some past
+finished-here e past is = rw is refl
+
+pub finished-before : (e : LogEntry) (past : List LogEntry) → did is_finish e ≡ false → before_last_finish (e ∷ past) ≡ before_last_finish past
+finished-before e past is = rw is refl
+
+-- a track has the slot that is open after its history
+ended-mapped : (t : TrackData) (o : Option Slot) → option_map (ended t) (option_map shown_slot o) ≡ option_map (λ (s : Slot). ended t (shown_slot s)) o
+ended-mapped t None = refl
+ended-mapped t (Some s) = refl
+
+pub ended-tracked : (c : Parts) (past : List LogEntry) → tracked_slot_end (track_of c past) ≡ ended_slot c past
+ended-tracked c past = ended-mapped (track_of c past) (open_slot past)
+
+pub last-tracked : (c : Parts) (all past : List LogEntry) (t : TrackData) → before_last_finish all ≡ Some past → t ≡ track_of c past
+    → tracked_slot_end t ≡ last_slot c all
+last-tracked c all past t here is =
+    ap tracked_slot_end is ∙ ended-tracked c past ∙ sym (ap (λ o. option_map_or (ended_slot c) o None) here)
+
+pub none-last : (c : Parts) (all : List LogEntry) → before_last_finish all ≡ None → None ≡ last_slot c all
+none-last c all none = sym (ap (λ o. option_map_or (ended_slot c) o None) none)

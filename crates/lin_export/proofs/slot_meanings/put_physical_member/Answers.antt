@@ -1,7 +1,0 @@
-use Rattle.std.proofs.Common.{codes}
-use Rattle.lin_text.proofs.Growing.{grows-more}
-use Rattle.lin_export.proofs.Objects.{grows-member}
-use Rattle.lin_export.proofs.slot_meanings.put_physical_member.Goals as goal
-
-pub returns : goal.returns
-returns g c = grows-member (codes "physical") c.put_key.ensures (grows-more c.put_byte.ensures (grows-more c.put_carried_meanings.ensures c.put_byte-2.ensures))

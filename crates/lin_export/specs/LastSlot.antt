@@ -1,0 +1,93 @@
+-- The slot that ended last in a history.
+use Rattle.std.specs.Prelude.{◌≡◌, ℕ, ◌≤◌, ◌<◌, if◌then◌else◌, List, [], ◌∷◌, ◌++◌, codes, flat_map, length, map}
+use Rattle.std.specs.Prelude.{reverse, take, Option, Some, None, option_map}
+use Rattle.std.specs.Fmt.{decimal}
+use Rattle.std.specs.Option.{option_map_or, option_to_list}
+use Rattle.lin_parts.specs.Cluster.{named_table}
+use Rattle.lin_parts.specs.declared.parts.Parts.{Parts}
+use Rattle.lin_core.specs.History.{Slot, did, good, is_finish, open_slot, seen_of, time}
+use Rattle.lin_core.specs.Tables.{look_of, look_word}
+use Rattle.lin_core.specs.declared.log.LogEntry.{LogEntry}
+use Rattle.lin_log.specs.Words.{hex_word, spaced_word}
+use Rattle.lin_export.specs.Json.{hex_text, member, null, object, quoted_text}
+use Rattle.lin_export.specs.Jsonl.{frame_member, time_member}
+use Rattle.lin_export.specs.Shown.{data_of, slot_name}
+use Rattle.lin_export.specs.Track.{TrackData, finished_slot_count, shown_slot, track_of}
+
+-- a slot that has ended: its number, the time at its start, and the slot as it is shown
+pub record EndedSlot : Type 0 where
+  pub number : ℕ
+  pub at : ℕ
+  pub slot : Slot
+
+-- the slot that is open after a history, as it is when it ends
+abbrev pub ended_slot : Parts → List LogEntry → Option EndedSlot
+ended_slot c past =
+    option_map
+    (λ s. record { number = finished_slot_count past; at = time c past; slot = shown_slot s })
+    (open_slot past)
+
+-- the history before the last finish that was done
+abbrev pub before_last_finish : List LogEntry → Option (List LogEntry)
+before_last_finish [] = None
+before_last_finish (e ∷ past) = if did is_finish e then Some past else before_last_finish past
+
+abbrev pub last_slot : Parts → List LogEntry → Option EndedSlot
+last_slot c past = option_map_or (ended_slot c) (before_last_finish past) None
+
+-- its number, the time at its start, its table, its entry, the name of its frame, how it was seen, and the
+-- data bytes of a good response
+abbrev pub ended_words : Parts → EndedSlot → List (List ℕ)
+ended_words c e =
+    decimal e.at
+    ∷ (named_table c e.slot.table).name
+    ∷ decimal e.slot.entry
+    ∷ slot_name c e.slot
+    ∷ look_word (look_of (seen_of e.slot))
+    ∷ map (λ answer. hex_word (data_of answer)) (option_to_list (good e.slot))
+
+abbrev pub ended_text : Parts → EndedSlot → List ℕ
+ended_text c e = decimal e.number ++ flat_map spaced_word (ended_words c e)
+
+abbrev pub last_slot_text : Parts → Option EndedSlot → List ℕ
+last_slot_text c last = option_map_or (ended_text c) last (codes "none")
+
+-- the same as a value of JSON
+abbrev pub ended_value : Parts → EndedSlot → List ℕ
+ended_value c e =
+    object
+    (member (codes "slot") (decimal e.number)
+    ∷ time_member e.at
+    ∷ member (codes "table") (quoted_text (named_table c e.slot.table).name)
+    ∷ member (codes "entry") (decimal e.slot.entry)
+    ∷ frame_member c e.slot
+    ∷ member (codes "seen") (quoted_text (look_word (look_of (seen_of e.slot))))
+    ∷ member (codes "data") (option_map_or (λ answer. hex_text (data_of answer)) (good e.slot) null)
+    ∷ [])
+
+abbrev pub last_slot_value : Parts → Option EndedSlot → List ℕ
+last_slot_value c last = option_map_or (ended_value c) last null
+
+-- the entry at this place, of these in order, is the last one that finished a slot
+abbrev pub EndsAt : List LogEntry → Option ℕ → Type 0
+EndsAt es None = before_last_finish (reverse es) ≡ None
+EndsAt es (Some i) = (i < length es) × (before_last_finish (reverse es) ≡ Some (reverse (take i es)))
+
+-- ---- what is kept of the entries before the slot's end, and how many they are
+pub record LastSlotData : Type 0 where
+  pub track : TrackData
+  pub entries : ℕ
+
+-- it is kept of a beginning of these entries, which are in order
+abbrev pub IsKeptOf : Parts → List LogEntry → LastSlotData → Type 0
+IsKeptOf c es l = (l.entries ≤ length es) × (l.track ≡ track_of c (reverse (take l.entries es)))
+
+-- the open slot of a track, as it is when it ends
+abbrev pub ended : TrackData → Slot → EndedSlot
+ended t s = record { number = t.slots; at = t.time; slot = s }
+
+abbrev pub tracked_slot_end : TrackData → Option EndedSlot
+tracked_slot_end t = option_map (ended t) t.slot
+
+abbrev pub kept_slot : Option LastSlotData → Option EndedSlot
+kept_slot last = option_map_or (λ (l : LastSlotData). tracked_slot_end l.track) last None

@@ -1,0 +1,250 @@
+//! The slot that ended last.
+
+ghost use Rattle.std.specs.Prelude.{◌≡◌, ◌≤◌, IfOk, IfSome, List, codes, flat_map, length, map};
+ghost use Rattle.std.specs.Prelude.{option_map, reverse, take};
+ghost use Rattle.std.specs.Option.{option_map_or, option_to_list};
+ghost use Rattle.lin_core.specs.History.{did, good, is_finish};
+ghost use Rattle.lin_core.specs.declared.log.LogEntry.{LogEntry};
+ghost use Rattle.lin_log.specs.Words.{hex_word, spaced_word};
+ghost use Rattle.lin_parts.specs.declared.parts.Parts.{Parts};
+ghost use Rattle.lin_text.specs.Written.{Grows};
+ghost use Rattle.lin_export.specs.Json.{hex_text, member, null};
+ghost use Rattle.lin_export.specs.LastSlot.{EndsAt, IsKeptOf, ended, ended_text, ended_value, kept_slot};
+ghost use Rattle.lin_export.specs.LastSlot.{last_slot, last_slot_text, last_slot_value, tracked_slot_end};
+ghost use Rattle.lin_export.specs.Members.{member_shown};
+ghost use Rattle.lin_export.specs.Open.{tracked_slot};
+ghost use Rattle.lin_export.specs.Shown.{data_of};
+
+use crate::json::{Member, put_members};
+use crate::slot::{OpenSlot, SeenSlot};
+use crate::slot_names::{slot_name, table_name};
+use crate::slot_object::frame_member;
+use crate::track::Track;
+use lin_core::{Listed, Log, LogEntry, Reply, Step};
+use lin_log::{Word, put_words};
+use lin_parts::Cluster;
+use lin_text::TextWriter;
+use std::alloc::{AllocError, Global};
+use std::io::Write;
+use std::marker::Model;
+
+/// What is kept of the entries of a log before the end of the slot that ended last, and how many they
+/// are. As the log grows, each entry is read once. Contracts see both.
+#[derive(Drop)]
+pub struct LastSlot {
+    track: Track,
+    entries: usize,
+}
+
+impl Model for LastSlot {
+    ghost use Rattle.lin_export.specs.LastSlot.{LastSlotData};
+
+    ghost Value = { LastSlotData };
+
+    ghost view = { λ l. record { track = l.track; entries = l.entries } };
+}
+
+/// Whether an entry finished a slot.
+fn finishes(entry: &LogEntry) -> bool
+    ensures { result ≡ did is_finish entry.now }
+{
+    match (&entry.step, &entry.reply) {
+        (Step::Finish, Reply::Done(_)) => true,
+        _ => false,
+    }
+}
+
+/// How many entries precede the last one that finished a slot.
+fn last_finish(log: &Log) -> Option<usize>
+    ensures { EndsAt log.now.entries result }
+{
+    let mut left = log.len();
+    while left > 0 {
+        left -= 1;
+        if finishes(log.entry(left)) {
+            return Some(left);
+        }
+    }
+    None
+}
+
+/// The data bytes of a good response.
+fn put_data<W: Write>(out: &mut TextWriter<'_, W>, slot: &OpenSlot)
+    ensures { Grows W.contents out.old out.new (flat_map spaced_word
+        (map (λ answer. hex_word (data_of answer)) (option_to_list (good (tracked_slot slot.now))))) }
+{
+    if let SeenSlot::Good(answer) = slot.look() {
+        let bytes = answer.as_slice();
+        put_words(out, &[Word::Hex(&bytes[..bytes.len().saturating_sub(1)])]);
+    }
+}
+
+/// A slot as it is when it ends, after a space.
+fn put_slot<W: Write>(
+    out: &mut TextWriter<'_, W>,
+    cluster: &Cluster,
+    track: &Track,
+    slot: &OpenSlot,
+)
+    ensures { Grows W.contents out.old out.new
+        (spaced_word (ended_text cluster.now (ended track.now (tracked_slot slot.now)))) }
+{
+    put_words(
+        out,
+        &[
+            Word::Number(track.slots()),
+            Word::Number(track.time()),
+            Word::Name(table_name(cluster, slot.table())),
+            Word::Number(u64::from(slot.entry())),
+            Word::Name(slot_name(cluster, slot)),
+            Word::Text(slot.look().kind().word()),
+        ],
+    );
+    put_data(out, slot);
+}
+
+/// The open slot of a track as it is when it ends, after a space.
+fn put_ending<W: Write>(out: &mut TextWriter<'_, W>, cluster: &Cluster, track: &Track)
+    ensures { Grows W.contents out.old out.new (spaced_word (last_slot_text cluster.now (tracked_slot_end track.now))) }
+{
+    match track.slot() {
+        Some(slot) => put_slot(out, cluster, track, slot),
+        None => out.put_text(" none"),
+    }
+}
+
+/// Puts the slot that ended last, after a space: its number, the time at its start, its table, its
+/// entry, the name of its frame, how it was seen, and the data bytes of a good response; `none` before
+/// the first one.
+pub fn put_last_slot<W: Write>(
+    out: &mut TextWriter<'_, W>,
+    cluster: &Cluster,
+    last: Option<&LastSlot>,
+)
+    ensures { Grows W.contents out.old out.new
+        (spaced_word (last_slot_text cluster.now (kept_slot (option_map (λ l. l.now) last.entry)))) }
+{
+    match last {
+        Some(last) => put_ending(out, cluster, &last.track),
+        None => out.put_text(" none"),
+    }
+}
+
+/// The data bytes of a good response; null for others.
+fn data_member(slot: &OpenSlot) -> Member<'_>
+    ensures { member_shown result ≡ member (codes "data")
+        (option_map_or (λ answer. hex_text (data_of answer)) (good (tracked_slot slot.now)) null) }
+{
+    match slot.look() {
+        SeenSlot::Good(answer) => {
+            let bytes = answer.as_slice();
+            Member::Hex("data", &bytes[..bytes.len().saturating_sub(1)])
+        }
+        _ => Member::Null("data"),
+    }
+}
+
+/// A slot as it is when it ends, as a value of JSON.
+fn put_slot_value<'a, W: Write>(
+    out: &mut TextWriter<'_, W>,
+    cluster: &'a Cluster,
+    track: &Track,
+    slot: &'a OpenSlot,
+)
+    ensures { Grows W.contents out.old out.new
+        (ended_value cluster.now (ended track.now (tracked_slot slot.now))) }
+{
+    out.put(b"{\"slot\":");
+    out.put_number(track.slots());
+    put_members(
+        out,
+        &[
+            Member::Number("time_us", track.time()),
+            Member::Text("table", table_name(cluster, slot.table())),
+            Member::Number("entry", u64::from(slot.entry())),
+            frame_member(cluster, slot),
+            Member::Text("seen", slot.look().kind().word().as_bytes()),
+            data_member(slot),
+        ],
+    );
+    out.put_byte(b'}');
+}
+
+/// The open slot of a track as it is when it ends, as a value of JSON.
+fn put_ending_value<W: Write>(out: &mut TextWriter<'_, W>, cluster: &Cluster, track: &Track)
+    ensures { Grows W.contents out.old out.new (last_slot_value cluster.now (tracked_slot_end track.now)) }
+{
+    match track.slot() {
+        Some(slot) => put_slot_value(out, cluster, track, slot),
+        None => out.put(b"null"),
+    }
+}
+
+/// Puts the slot that ended last as an object; null before the first one.
+pub fn put_last_slot_value<W: Write>(
+    out: &mut TextWriter<'_, W>,
+    cluster: &Cluster,
+    last: Option<&LastSlot>,
+)
+    ensures { Grows W.contents out.old out.new
+        (last_slot_value cluster.now (kept_slot (option_map (λ l. l.now) last.entry))) }
+{
+    match last {
+        Some(last) => put_ending_value(out, cluster, &last.track),
+        None => out.put(b"null"),
+    }
+}
+
+impl LastSlot {
+    /// Nothing is read.
+    fn new(alloc: Global) -> LastSlot
+        ensures none { result.entries ≡ 0 }
+        ensures kept { (c : Parts) (es : List LogEntry) → IsKeptOf c es result }
+    {
+        LastSlot {
+            track: Track::new(alloc),
+            entries: 0,
+        }
+    }
+
+    /// What was found in a beginning of a log, if it isn't longer than this; otherwise nothing is read.
+    fn before(alloc: Global, known: Option<LastSlot>, end: usize) -> LastSlot
+        ensures within { result.entries ≤ end }
+        ensures kept { (c : Parts) (es : List LogEntry) → IfSome known (IsKeptOf c es) → IsKeptOf c es result }
+    {
+        match known {
+            Some(known) => {
+                if known.entries <= end {
+                    known
+                } else {
+                    LastSlot::new(alloc)
+                }
+            }
+            None => LastSlot::new(alloc),
+        }
+    }
+
+    /// Finds the slot that ended last in a log, from what was found in a beginning of it.
+    ///
+    /// # Errors
+    /// Out of memory.
+    pub fn find(
+        alloc: Global,
+        cluster: &Cluster,
+        log: &Log,
+        known: Option<LastSlot>,
+    ) -> Result<Option<LastSlot>, AllocError>
+        requires { IfSome known (IsKeptOf cluster.now log.now.entries) }
+        ensures last { IfOk result (λ last.
+            kept_slot last ≡ last_slot cluster.now (reverse log.now.entries)) }
+        ensures kept { IfOk result (λ last. IfSome last (IsKeptOf cluster.now log.now.entries)) }
+    {
+        let Some(end) = last_finish(log) else {
+            return Ok(None);
+        };
+        let mut last = LastSlot::before(alloc, known, end);
+        last.track.follow_to(cluster, log, last.entries, end)?;
+        last.entries = end;
+        Ok(Some(last))
+    }
+}

@@ -1,0 +1,8 @@
+use Rattle.std.proofs.Common.{map}
+use Rattle.lin_frame.specs.Words.{numbers}
+use Rattle.lin_text.specs.Written.{Grows}
+use Rattle.lin_live.specs.Values.{addressed_node, with_gaps}
+use Rattle.lin_live.proofs.answer_texts.put_nodes.Given as goal
+
+abbrev pub invariant-loop-node : goal.invariant-loop-node
+invariant-loop-node g l = Grows g.W.Write.contents l.initial.out l.out (with_gaps (map (addressed_node l.cluster) (numbers l.node)))
