@@ -10,3 +10,5 @@ pub mod Inert
 pub mod Leveled
 pub mod Openings
 pub mod laws
+pub mod Remaining
+pub mod FaultTexts

@@ -8,7 +8,6 @@ use Rattle.lin_core.specs.declared.log.LogEntry.{LogEntry}
 use Rattle.lin_log.specs.Words.{text}
 use Rattle.lin_bench.specs.declared.got.Judgement.{Judgement}
 use Rattle.lin_export.specs.Csv.{csv}
-use Rattle.lin_export.specs.Jsonl.{jsonl}
 use Rattle.lin_export.specs.Named.{named_log}
 use Rattle.lin_export.specs.Pcap.{pcap}
 use Rattle.lin_export.specs.Vcd.{vcd}
@@ -18,6 +17,7 @@ use Rattle.lin_export.specs.declared.fault.ExportFault.TheVariants as export
 use Rattle.lin_tool.specs.Page.{page}
 use Rattle.lin_values.specs.Coded.{CodedData}
 use Rattle.lin_tool.specs.Junit.{junit}
+use Rattle.lin_tool.specs.Objects.{objects}
 use Rattle.lin_tool.specs.declared.fault.Fault.{Fault}
 use Rattle.lin_tool.specs.declared.fault.Fault.TheVariants.{OutOfMemory, WriteFailed}
 use Rattle.lin_tool.specs.declared.formats.Format.{Format}
@@ -25,8 +25,8 @@ use Rattle.lin_tool.specs.declared.formats.Shown.{Shown}
 use Rattle.lin_tool.specs.declared.formats.Format.TheVariants.{Log, Named, Csv, Jsonl, Pcap}
 use Rattle.lin_tool.specs.declared.formats.Format.TheVariants.{Vcd, Html, Junit}
 
--- a log in a format, of a run that opened with this table and this capacity of the queues; a picture
--- and a report also have the judgements of a play, a picture as they are told of a script whose file
+-- a log in a format, of a run that opened with this table and this capacity of the queues; objects, a
+-- picture and a report also have the judgements of a play, a picture as they are told of a script whose file
 -- has this name, and the log with names, a table, objects, a dump and a picture what signals mean,
 -- where that is told
 abbrev pub log_as : Format → Option (Bor (List ℕ)) → Parts → Option CodedData → ℕ → ℕ
@@ -34,7 +34,7 @@ abbrev pub log_as : Format → Option (Bor (List ℕ)) → Parts → Option Code
 log_as Log named c k opening capacity log js = text log
 log_as Named named c k opening capacity log js = named_log c k log
 log_as Csv named c k opening capacity log js = csv c k log
-log_as Jsonl named c k opening capacity log js = jsonl c k opening capacity log
+log_as (Jsonl script) named c k opening capacity log js = objects c k opening capacity script.now log js
 log_as Pcap named c k opening capacity log js = pcap c log
 log_as Vcd named c k opening capacity log js = vcd c k log
 log_as (Html file) named c k opening capacity log js = page named c k file.now log js

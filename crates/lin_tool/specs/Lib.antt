@@ -4,6 +4,7 @@ pub mod Comparing
 pub mod Field
 pub mod Formats
 pub mod Junit
+pub mod Objects
 pub mod Levels
 pub mod Listing
 pub mod Living
@@ -20,4 +21,5 @@ pub mod Running
 pub mod Statuses
 pub mod Tally
 pub mod Telling
+pub mod FaultText
 pub mod laws

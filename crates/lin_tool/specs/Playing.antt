@@ -9,8 +9,9 @@ use Rattle.lin_log.specs.declared.fault.ScriptFault.TheVariants as script
 use Rattle.lin_values.specs.Coded.{CodedData}
 use Rattle.lin_bench.specs.Scripts.{Script, read}
 use Rattle.lin_bench.specs.Meanings.{with_meanings}
-use Rattle.lin_bench.specs.Played.{Run, play_result, some_unmet}
-use Rattle.lin_bench.specs.Plays.{Overfills, has_rule}
+use Rattle.lin_bench.specs.Played.{Run, played_under, some_unmet}
+use Rattle.lin_bench.specs.Plays.{OverfillsUnder, has_rule}
+use Rattle.lin_bench.specs.declared.faults.SlotFault.{SlotFault}
 use Rattle.lin_bench.specs.declared.fault.PlayFault.{PlayFault}
 use Rattle.lin_bench.specs.declared.fault.PlayFault.TheVariants as play
 use Rattle.lin_bench.specs.declared.got.Judgement.{Judgement}
@@ -48,11 +49,12 @@ pub record Says (c : Parts) (k : Option CodedData) (told : Option (List ℕ)) (s
   pub short : length bytes ≤ 16777216
   pub all : read c k bytes ≡ said
 
--- the lines of a bench script, played strictly or not, come to this
-abbrev pub ComesTo : Bool → Option CodedData → Parts → ℕ → ℕ → Option (List ℕ) → Result Run ℕ
-    → Type 0
-ComesTo strict k c opening capacity told end =
-    (ls : List (ℕ × ScriptLine)) × Says c k told (Ok ls) × (play_result strict c opening capacity ls ≡ end)
+-- the lines of a bench script, played under faults, strictly or not, come to this
+abbrev pub ComesTo : List SlotFault → Bool → Option CodedData → Parts → ℕ → ℕ → Option (List ℕ)
+    → Result Run ℕ → Type 0
+ComesTo fs strict k c opening capacity told end =
+    (ls : List (ℕ × ScriptLine)) × Says c k told (Ok ls)
+    × (played_under strict c opening capacity fs ls ≡ end)
 
 -- judgements; where what values mean is known, with that
 abbrev pub judgements_with_meanings : Option CodedData → List Judgement → List Judgement
@@ -107,53 +109,61 @@ WritesShown s core script result old new silent heard =
     silent heard
 
 -- the lines of a bench script came to a run, and this was written of it
-abbrev pub WritesRunOf : Format → Option CodedData → Bool → Option (Bor (List ℕ)) → Bool → Parts
+abbrev pub WritesRunOf : List SlotFault → Format → Option CodedData → Bool → Option (Bor (List ℕ)) → Bool → Parts
     → ℕ → ℕ → Result Unit Fault → Option (List ℕ) → Option (List ℕ) → Option (List ℕ)
     → Option (List ℕ) → Option (List ℕ) → Type 0
-WritesRunOf format k shows named strict c opening capacity result told old new silent heard =
-    (run : Run) × ComesTo strict k c opening capacity told (Ok run)
+WritesRunOf fs format k shows named strict c opening capacity result told old new silent heard =
+    (run : Run) × ComesTo fs strict k c opening capacity told (Ok run)
     × WritesPlayed format (run_as format k shows named c opening capacity run) (judgements_with_meanings k run.judgements)
     (told_text named strict c (reverse run.bench.past) (judgements_with_meanings k run.judgements)) result old new
     silent heard
 
--- What a play in this format answers, what the writer took (from old to new), and what the writer
+-- What a play under faults answers in this format, what the writer took (from old to new), and what the writer
 -- of errors took (from silent to heard). Of a log that was written, all judgements are met exactly
 -- where the answer is Ok.
-abbrev pub PlaysScript : Format → Option CodedData → Bool → Option (Bor (List ℕ)) → Bool → Parts
+abbrev pub PlaysScriptUnder : List SlotFault → Format → Option CodedData → Bool → Option (Bor (List ℕ)) → Bool → Parts
     → ℕ → ℕ → Result Unit Fault → Option (List ℕ) → Option (List ℕ) → Option (List ℕ)
     → Option (List ℕ) → Option (List ℕ) → Type 0
-PlaysScript format k shows named strict c opening capacity (Ok done) told old new silent heard =
-    WritesRunOf format k shows named strict c opening capacity (Ok done) told old new silent heard
-PlaysScript format k shows named strict c opening capacity
+PlaysScriptUnder fs format k shows named strict c opening capacity (Ok done) told old new silent heard =
+    WritesRunOf fs format k shows named strict c opening capacity (Ok done) told old new silent heard
+PlaysScriptUnder fs format k shows named strict c opening capacity
     (Err (Unmet outcome)) told old new silent heard =
-    WritesRunOf format k shows named strict c opening capacity (Err (Unmet outcome))
+    WritesRunOf fs format k shows named strict c opening capacity (Err (Unmet outcome))
     told old new silent heard
-PlaysScript format k shows named strict c opening capacity
+PlaysScriptUnder fs format k shows named strict c opening capacity
     (Err (BadBenchLine n outcome)) told old new silent heard =
     (why : Reason) × (it : Says c k told (Err (n, why))) × Keeps old new
     × WritesText silent heard outcome (bad_text named c k it.bytes n why)
-PlaysScript format k shows named strict c opening capacity
+PlaysScriptUnder fs format k shows named strict c opening capacity
     (Err (SlotLimit n)) told old new silent heard =
-    ComesTo strict k c opening capacity told (Err n) × Keeps old new × Keeps silent heard
-PlaysScript format k shows named strict c opening capacity (Err LogFull) told old new silent heard =
-    (ls : List (ℕ × ScriptLine)) × Says c k told (Ok ls) × Overfills c opening capacity ls
+    ComesTo fs strict k c opening capacity told (Err n) × Keeps old new × Keeps silent heard
+PlaysScriptUnder fs format k shows named strict c opening capacity (Err LogFull) told old new silent heard =
+    (ls : List (ℕ × ScriptLine)) × Says c k told (Ok ls) × OverfillsUnder c opening capacity fs ls
     × (has_rule ls ≡ true) × Keeps old new × Keeps silent heard
-PlaysScript format k shows named strict c opening capacity
+PlaysScriptUnder fs format k shows named strict c opening capacity
     (Err ScriptTooLong) told old new silent heard =
     RefusesScript script.TooLong told old new × Keeps silent heard
-PlaysScript format k shows named strict c opening capacity
+PlaysScriptUnder fs format k shows named strict c opening capacity
     (Err ReadFailed) told old new silent heard =
     Keeps old new × Keeps silent heard
-PlaysScript format k shows named strict c opening capacity
+PlaysScriptUnder fs format k shows named strict c opening capacity
     (Err OutOfMemory) told old new silent heard =
     (Keeps old new × Keeps silent heard)
-    ⊎ WritesRunOf format k shows named strict c opening capacity (Err OutOfMemory)
+    ⊎ WritesRunOf fs format k shows named strict c opening capacity (Err OutOfMemory)
     told old new silent heard
-PlaysScript format k shows named strict c opening capacity
+PlaysScriptUnder fs format k shows named strict c opening capacity
     (Err WriteFailed) told old new silent heard =
-    WritesRunOf format k shows named strict c opening capacity (Err WriteFailed)
+    WritesRunOf fs format k shows named strict c opening capacity (Err WriteFailed)
     told old new silent heard
-PlaysScript format k shows named strict c opening capacity (Err _) told old new silent heard = ⊥
+PlaysScriptUnder fs format k shows named strict c opening capacity (Err _) told old new silent heard = ⊥
+
+-- and without faults
+abbrev pub PlaysScript : Format → Option CodedData → Bool → Option (Bor (List ℕ)) → Bool → Parts
+    → ℕ → ℕ → Result Unit Fault → Option (List ℕ) → Option (List ℕ) → Option (List ℕ)
+    → Option (List ℕ) → Option (List ℕ) → Type 0
+PlaysScript format k shows named strict c opening capacity result told old new silent heard =
+    PlaysScriptUnder [] format k shows named strict c opening capacity result told old new silent
+    heard
 
 -- the same with what was opened
 abbrev pub PlaysOpened : Opened → Option (Bor (List ℕ)) → Result Unit Fault → Option (List ℕ) → Option (List ℕ)

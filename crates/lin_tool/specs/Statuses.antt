@@ -7,6 +7,7 @@ use Rattle.lin_tool.specs.declared.fault.Fault.TheVariants.{OutOfMemory, ReadFai
 use Rattle.lin_tool.specs.declared.fault.Fault.TheVariants.{TaskLimit, NoThread, LogFull}
 use Rattle.lin_tool.specs.declared.fault.Fault.TheVariants.{LogDiffers, BadBenchLine, SlotLimit}
 use Rattle.lin_tool.specs.declared.fault.Fault.TheVariants.{BadLines, Unmet, Remarks}
+use Rattle.lin_tool.specs.declared.fault.Fault.TheVariants.{BadFaults}
 
 -- 1 for a fault of the input, 3 for lack of memory, 4 where standard input, a file or standard
 -- output failed, 5 where a run met a limit, 6 where a log isn't the text of its own history or
@@ -23,6 +24,7 @@ exit_status NoSuchTable = 1
 exit_status (BadBenchLine n told) = 1
 exit_status BadLines = 1
 exit_status (SlotLimit n) = 1
+exit_status (BadFaults told) = 1
 exit_status OutOfMemory = 3
 exit_status ReadFailed = 4
 exit_status WriteFailed = 4

@@ -15,6 +15,7 @@ use Rattle.lin_tool.specs.declared.fault.Fault.TheVariants.{OutOfMemory, ReadFai
 use Rattle.lin_tool.specs.declared.fault.Fault.TheVariants.{TaskLimit, NoThread, LogFull}
 use Rattle.lin_tool.specs.declared.fault.Fault.TheVariants.{LogDiffers, SlotLimit, BadBenchLine}
 use Rattle.lin_tool.specs.declared.fault.Fault.TheVariants.{BadLines, Unmet, Remarks}
+use Rattle.lin_tool.specs.declared.fault.Fault.TheVariants.{BadFaults}
 
 -- a line and a column
 abbrev pub place_word : ℕ → ℕ → List ℕ
@@ -78,3 +79,4 @@ fault_text (SlotLimit n) = line (codes "script" ∷ decimal n ∷ codes "slot li
 fault_text (BadBenchLine n told) = []
 fault_text BadLines = []
 fault_text (Unmet told) = []
+fault_text (BadFaults told) = []

@@ -75,6 +75,11 @@ pub enum Fault {
     Unmet {
         told: Result<(), WriteFailed>,
     },
+    /// A fault under which a script is to be played isn't valid. Why it isn't was reported where it was
+    /// read, if that could be written.
+    BadFaults {
+        told: Result<(), WriteFailed>,
+    },
 }
 
 impl Fault {
@@ -96,6 +101,7 @@ impl Fault {
             | Fault::NoSuchTable
             | Fault::BadBenchLine { .. }
             | Fault::BadLines
+            | Fault::BadFaults { .. }
             | Fault::SlotLimit { .. } => 1,
             Fault::OutOfMemory => 3,
             Fault::ReadFailed | Fault::WriteFailed => 4,

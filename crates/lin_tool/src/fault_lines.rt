@@ -47,7 +47,7 @@ fn put_numbered<W: Write>(out: &mut TextWriter<'_, W>, before: &str, number: u64
 }
 
 /// The line of a fault, or the lines of findings; nothing of what was told while a bench script was
-/// played.
+/// played, or before.
 pub(crate) fn put_fault<W: Write>(out: &mut TextWriter<'_, W>, fault: &Fault)
     ensures { Grows W.contents out.old out.new (fault_text fault.now) }
 {
@@ -70,7 +70,10 @@ pub(crate) fn put_fault<W: Write>(out: &mut TextWriter<'_, W>, fault: &Fault)
         Fault::LogFull => out.put_text("log full\n"),
         Fault::LogDiffers { line } => put_numbered(out, "log ", *line, " differs\n"),
         Fault::SlotLimit { line } => put_numbered(out, "script ", *line, " slot limit\n"),
-        Fault::BadBenchLine { .. } | Fault::BadLines | Fault::Unmet { .. } => {}
+        Fault::BadBenchLine { .. }
+        | Fault::BadLines
+        | Fault::Unmet { .. }
+        | Fault::BadFaults { .. } => {}
     }
 }
 

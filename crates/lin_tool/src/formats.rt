@@ -7,12 +7,11 @@ ghost use Rattle.lin_tool.specs.Formats.{shown_log};
 ghost use Rattle.lin_tool.specs.declared.formats.Format.TheVariants.{Log};
 
 use crate::junit::write_junit;
+use crate::objects::write_objects;
 use crate::page::write_page;
 use lin_bench::Judgement;
 use lin_core::Core;
-use lin_export::{
-    ExportFault, Opening, write_csv, write_jsonl, write_named, write_pcap, write_vcd,
-};
+use lin_export::{ExportFault, write_csv, write_named, write_pcap, write_vcd};
 use lin_log::write_log;
 use lin_values::Coded;
 use std::alloc::Global;
@@ -27,8 +26,9 @@ pub enum Format<'a> {
     Named,
     /// A table of the slots (RFC 4180).
     Csv,
-    /// The run, its slots and what became of messages as objects (JSON, RFC 8259), one a line.
-    Jsonl,
+    /// The run, its slots and what became of messages as objects (JSON, RFC 8259), one a line, and failed
+    /// checks under this name of the script.
+    Jsonl(&'a str),
     /// A capture of the frames (pcap, LINKTYPE_LIN).
     Pcap,
     /// A dump of changes over time (IEEE 1364-2005, section 18).
@@ -50,7 +50,7 @@ pub struct Shown<'a, 's> {
     pub table: u16,
     /// How many messages of a host there was room for, which objects tell.
     pub capacity: usize,
-    /// The judgements of a play, which a picture and a report have.
+    /// The judgements of a play, which objects, a picture and a report have.
     pub judgements: &'a [Judgement],
     /// The name of the play's script, where a picture tells judgements by their places in it.
     pub script: Option<&'s str>,
@@ -83,13 +83,7 @@ pub fn write_shown<W: Write>(
         },
         Format::Named => write_named(alloc, cluster, coded, log, writer),
         Format::Csv => write_csv(alloc, cluster, coded, log, writer),
-        Format::Jsonl => {
-            let opening = Opening {
-                table: shown.table,
-                capacity: shown.capacity,
-            };
-            write_jsonl(alloc, cluster, coded, opening, log, writer)
-        }
+        Format::Jsonl(script) => write_objects(alloc, shown, script, core, writer),
         Format::Pcap => write_pcap(alloc, cluster, log, writer),
         Format::Vcd => write_vcd(alloc, cluster, coded, log, writer),
         Format::Html(file) => {

@@ -1,10 +1,8 @@
 //! The judgements of a play as a report for what reads those of tests (JUnit's, in XML 1.0).
 
-ghost use Rattle.std.specs.Prelude.{◌≡◌, ◌++◌, [], codes, drop, flat_map, IfOk, List, Some, ℕ};
-ghost use Rattle.std.specs.Option.{option_map_or};
+ghost use Rattle.std.specs.Prelude.{◌≡◌, ◌++◌, codes, flat_map, IfOk, List, Some, ℕ};
 ghost use Rattle.std.specs.Str.{is_utf8};
 ghost use Rattle.lin_log.specs.Words.{spaced_word};
-ghost use Rattle.lin_bench.specs.Texts.{found_text, what_text};
 ghost use Rattle.lin_export.specs.Putting.{PutsAll};
 ghost use Rattle.lin_text.specs.Written.{Grows, WritesText};
 ghost use Rattle.lin_tool.specs.Junit.{case_end, case_name, case_text, xml_byte, xml_text, junit_head};
@@ -13,9 +11,10 @@ ghost use Rattle.lin_tool.specs.Placing.{placed_missed, AtMoment};
 
 use crate::placing::{Moment, put_missed, within};
 use crate::tally::unmet_in;
-use lin_bench::{Judged, Judgement, is_unmet, put_found, put_what};
+use lin_bench::{Judgement, is_unmet};
 use lin_core::Log;
 use lin_export::ExportFault;
+use lin_live::{found_text, what_text, without_space};
 use lin_parts::Cluster;
 use lin_text::{TextBuffer, TextWriter, WriteFailed};
 use std::alloc::{AllocError, Global};
@@ -52,35 +51,6 @@ fn put_escaped<W: Write>(out: &mut TextWriter<'_, W>, text: &[u8])
     let is_text = is_utf8(text);
     for byte in text {
         put_escaped_byte(out, *byte, is_text);
-    }
-}
-
-/// What was judged, with a space before it. An error means out of memory.
-fn what_text(alloc: Global, cluster: &Cluster, judged: &Judged) -> Result<Vec<u8>, AllocError>
-    ensures { IfOk result (λ v. v.items ≡ spaced_word (what_text cluster.now judged.now)) }
-{
-    let mut text = Vec::new(alloc);
-    let mut buffer = TextBuffer::empty();
-    let mut out = TextWriter::new(&mut text, &mut buffer);
-    put_what(&mut out, cluster, judged);
-    match out.finish() {
-        Ok(()) => Ok(text),
-        Err(_) => Err(AllocError),
-    }
-}
-
-/// What is so in its place, with a space before it. An error means out of memory.
-fn found_text(alloc: Global, cluster: &Cluster, judged: &Judged) -> Result<Vec<u8>, AllocError>
-    ensures { IfOk result (λ v. v.items
-        ≡ option_map_or spaced_word (found_text cluster.now judged.now) []) }
-{
-    let mut text = Vec::new(alloc);
-    let mut buffer = TextBuffer::empty();
-    let mut out = TextWriter::new(&mut text, &mut buffer);
-    put_found(&mut out, cluster, judged);
-    match out.finish() {
-        Ok(()) => Ok(text),
-        Err(_) => Err(AllocError),
     }
 }
 
@@ -130,16 +100,6 @@ fn put_failure<W: Write>(out: &mut TextWriter<'_, W>, found: &[u8], missed: &[u8
     out.put_text("\">");
     put_escaped(out, missed);
     out.put_text("</failure>\n</testcase>\n");
-}
-
-/// A text without the space before it.
-fn without_space(text: &[u8]) -> &[u8]
-    ensures { result.now ≡ drop 1 text.now }
-{
-    match text {
-        [_, rest @ ..] => rest,
-        [] => text,
-    }
 }
 
 /// The case of a judgement at this moment of a log. An error means out of memory; nothing was put

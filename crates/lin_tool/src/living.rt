@@ -1,17 +1,19 @@
 //! `linsim live`: a bench in hand, which answers each line as it comes.
 
-ghost use Rattle.std.specs.Prelude.{◌≡◌, ◌<◌, IfErr, IfOk, length};
+ghost use Rattle.std.specs.Prelude.{◌≡◌, ◌<◌, ℕ, IfErr, IfOk, List, length};
+ghost use Rattle.std.specs.Borrow.{Bor};
 ghost use Rattle.lin_tool.specs.Living.{Lives, ends, hand_of_opened};
-ghost use Rattle.lin_live.specs.declared.answer_format.AnswerFormat.TheVariants.{Log, Named};
+ghost use Rattle.lin_live.specs.declared.answer_format.AnswerFormat.TheVariants.{Log, Named, Jsonl};
 ghost use Rattle.lin_tool.specs.declared.fault.Fault.TheVariants.{OutOfMemory as NoMemory};
 ghost use Rattle.lin_tool.specs.declared.formats.Format.TheVariants.{Log as LogFormat};
-ghost use Rattle.lin_tool.specs.declared.formats.Format.TheVariants.{Named as NamedFormat};
+ghost use Rattle.lin_tool.specs.declared.formats.Format.TheVariants.{Jsonl as JsonlFormat, Named as NamedFormat};
 
 use crate::fault::Fault;
 use crate::formats::Format;
 use crate::notes::Notes;
 use crate::opening::{Opened, Settings, begin, within_limits};
 use lin_core::Core;
+use lin_export::{Opening, write_run};
 use lin_live::{AnswerFormat, Hand};
 use std::alloc::Global;
 use std::fs::Files;
@@ -77,21 +79,49 @@ pub fn answer_lines<R: Read, W: Write>(
     ended
 }
 
-/// How entries are told in a format of logs: with names, or as the log's own text in place of any
-/// other one.
+/// How entries are told in a format of logs: with names, as objects, or as the log's own text in place
+/// of any other one.
 fn answer_format(format: Format<'_>) -> AnswerFormat
     ensures named { format.entry ≡ NamedFormat → result ≡ Named }
+    ensures objects { (script : Bor (List ℕ)) → format.entry ≡ JsonlFormat script → result ≡ Jsonl }
     ensures log { format.entry ≡ LogFormat → result ≡ Log }
 {
     match format {
         Format::Named => AnswerFormat::Named,
+        Format::Jsonl(_) => AnswerFormat::Jsonl,
         _ => AnswerFormat::Log,
     }
 }
 
+/// Writes what answers begin with: as objects, the one that a run begins with. The writer is flushed.
+///
+/// # Errors
+/// `WriteFailed`.
+fn begin_answers<W: Write>(
+    opened: &Opened<'_>,
+    format: AnswerFormat,
+    writer: &mut W,
+) -> Result<(), Fault> {
+    match format {
+        AnswerFormat::Log | AnswerFormat::Named => return Ok(()),
+        AnswerFormat::Jsonl => {}
+    }
+    let opening = Opening {
+        table: opened.table,
+        capacity: within_limits(opened.settings.capacity),
+    };
+    if write_run(&opened.cluster, opening, writer).is_err() {
+        return Err(Fault::WriteFailed);
+    }
+    match writer.flush() {
+        Ok(()) => Ok(()),
+        Err(_) => Err(Fault::WriteFailed),
+    }
+}
+
 /// Answers each line on standard input on standard output before it reads on, over the cluster of
-/// the settings; entries are told as the log with names where the settings have that format, and
-/// else as the log's own text. Warnings of the LDF go to `errors` first.
+/// the settings; entries are told as the log with names or as objects where the settings have that
+/// format, and else as the log's own text. Warnings of the LDF go to `errors` first.
 ///
 /// # Errors
 /// Those of `cluster_of_file`, and `NoSuchTable`, after which nothing was read; those of
@@ -104,14 +134,11 @@ pub fn live<R: AllocGlobal + Files + Input + Print, E: Write>(
 ) -> Result<(), Fault> {
     let opened = begin(rt, settings, true, notes)?;
     notes.tell_warnings(errors);
-    let hand = bench_in_hand(rt.alloc(), opened, answer_format(settings.format))?;
-    let answer = answer_lines(
-        rt.alloc(),
-        hand,
-        &mut rt.reader(),
-        &mut io::writer(rt),
-        notes,
-    );
+    let format = answer_format(settings.format);
+    let mut writer = io::writer(rt);
+    begin_answers(&opened, format, &mut writer)?;
+    let hand = bench_in_hand(rt.alloc(), opened, format)?;
+    let answer = answer_lines(rt.alloc(), hand, &mut rt.reader(), &mut writer, notes);
     notes.add_unread(&answer, None);
     answer
 }

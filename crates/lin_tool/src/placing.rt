@@ -2,7 +2,7 @@
 //! moments of a log.
 
 ghost use Rattle.std.specs.Prelude.{◌≡◌, ◌≤◌, ◌+◌, ◌*◌, ◌<◌, ◌^◌, ◌∷◌, ◌++◌, ℕ, [], List};
-ghost use Rattle.std.specs.Prelude.{codes, flat_map, length};
+ghost use Rattle.std.specs.Prelude.{codes, flat_map, length, min};
 ghost use Rattle.std.specs.Fmt.{decimal};
 ghost use Rattle.lin_parts.specs.declared.parts.Parts.{Parts};
 ghost use Rattle.lin_core.specs.History.{Slot, slot_after_event, slot_after_events};
@@ -247,6 +247,7 @@ fn put_unmet<W: Write>(
 pub(crate) fn within(log: &Log, entries: usize) -> usize
     ensures there { result ≤ length log.now.entries }
     ensures few { result < 2 ^ 32 }
+    ensures count { result ≡ min entries (length log.now.entries) }
     ensures same { past_at log.now.entries result ≡ past_at log.now.entries entries }
 {
     entries.min(log.len())

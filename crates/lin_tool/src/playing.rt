@@ -5,12 +5,14 @@ ghost use Rattle.std.specs.Prelude.{◌≡◌, ◌≢◌, ◌≤◌, ◌<◌, []
 ghost use Rattle.std.specs.Io.KnownBytes.{Keeps};
 ghost use Rattle.lin_text.specs.Written.{WritesText};
 ghost use Rattle.lin_export.specs.WhereTold.{given_coding};
+ghost use Rattle.lin_tool.specs.Opening.{room_for};
 ghost use Rattle.lin_tool.specs.Placing.{missed_text};
 ghost use Rattle.lin_tool.specs.Playing.{judgements_with_meanings, coding_if_physical};
-ghost use Rattle.lin_tool.specs.Playing.{script_errors, script_verdict, told_text, PlaysOpened, ReadsScriptLines};
-ghost use Rattle.lin_tool.specs.Playing.{ReportsJudgements, TellsBad, WritesShown};
+ghost use Rattle.lin_tool.specs.Playing.{script_errors, script_verdict, told_text, PlaysOpened};
+ghost use Rattle.lin_tool.specs.Playing.{PlaysScriptUnder, ReadsScriptLines, ReportsJudgements, TellsBad, WritesShown};
 
 use crate::fault::Fault;
+use crate::fault_text::{FaultsFault, read_faults, write_bad_fault};
 use crate::formats::{Format, Shown, write_shown};
 use crate::junit::write_error;
 use crate::notes::Notes;
@@ -18,11 +20,12 @@ use crate::opening::{Opened, Settings, begin, within_limits};
 use crate::placing::{write_bad_lines, write_placed_unmet};
 use crate::tally::write_tally;
 use lin_bench::{
-    Judgement, Played, ReadFault, Reason, ScriptLine, bad_lines, play as play_lines, read,
+    Judgement, PlayedUnder, ReadFault, Reason, ScriptLine, SlotFault, bad_lines, play_under, read,
     some_unmet, told_meanings, write_bad_line, write_unmet,
 };
 use lin_core::Core;
 use lin_log::read_bytes;
+use lin_parts::Cluster;
 use lin_text::{Many, WriteFailed};
 use lin_values::Coded;
 use std::alloc::{AllocError, Global};
@@ -239,6 +242,30 @@ pub fn play_script<R: Read, W: Write, E: Write>(
         (W.contents writer.old) (W.contents writer.new)
         (E.contents errors.old) (E.contents errors.new) }
 {
+    play_under_faults(alloc, opened, &[], reader, writer, errors, notes)
+}
+
+/// Plays a bench script as `play_script` does, where the steps of its lines are made under faults.
+///
+/// # Errors
+/// As of `play_script`.
+pub fn play_under_faults<R: Read, W: Write, E: Write>(
+    alloc: Global,
+    opened: Opened<'_>,
+    faults: &[SlotFault],
+    reader: &mut R,
+    writer: &mut W,
+    errors: &mut E,
+    notes: &mut Notes<'_>,
+) -> Result<(), Fault>
+    requires { opened.table < length opened.cluster.tables }
+    ensures { PlaysScriptUnder faults.now opened.entry.settings.format opened.entry.coded
+        opened.entry.settings.is_physical notes.old.wanted.script opened.entry.settings.is_strict
+        opened.entry.cluster opened.entry.table (room_for opened.entry.settings.capacity) result
+        (R.remaining reader.old)
+        (W.contents writer.old) (W.contents writer.new)
+        (E.contents errors.old) (E.contents errors.new) }
+{
     let bytes = read_bytes(alloc, reader)?;
     let script = Script {
         bytes: bytes.as_slice(),
@@ -253,14 +280,27 @@ pub fn play_script<R: Read, W: Write, E: Write>(
         settings,
     } = opened;
     let capacity = within_limits(settings.capacity);
-    let Played { core, judgements } = play_lines(
+    let PlayedUnder {
+        core,
+        judgements,
+        limit,
+        ..
+    } = play_under(
         alloc,
         cluster,
         table,
         capacity,
         lines,
         settings.is_strict,
+        faults,
     )?;
+    match limit {
+        Some(line) => {
+            mem::forget(core);
+            return Err(Fault::SlotLimit { line });
+        }
+        None => {}
+    }
     let judgements = in_words(alloc, coded.as_ref(), judgements)?;
     let shown = Shown {
         format: settings.format,
@@ -287,30 +327,72 @@ fn tell_unplayed<W: Write>(file: &str, fault: &Fault, writer: &mut W) -> Result<
     }
 }
 
+/// Reads the faults under which a script is to be played, if there are any, and writes to `errors` why the
+/// first one that isn't valid isn't.
+///
+/// # Errors
+/// `BadFaults`, `OutOfMemory`.
+fn faults_of<E: Write>(
+    alloc: Global,
+    cluster: &Cluster,
+    faults: Option<&str>,
+    errors: &mut E,
+) -> Result<Vec<SlotFault>, Fault> {
+    let Some(text) = faults else {
+        return Ok(Vec::new(alloc));
+    };
+    match read_faults(alloc, cluster, text.as_bytes()) {
+        Ok(faults) => Ok(faults),
+        Err(FaultsFault::Bad(bad)) => Err(Fault::BadFaults {
+            told: write_bad_fault(&bad, errors),
+        }),
+        Err(FaultsFault::OutOfMemory) => Err(Fault::OutOfMemory),
+    }
+}
+
 /// Reads the bench script in the file at the path `script`, or without one that on standard input,
-/// plays it over the cluster of the settings, and writes the log on standard output in their format;
+/// plays it over the cluster of the settings, under faults if there are any, and writes the log on
+/// standard output in their format;
 /// where that is a report, one of a script that wasn't played has an error.
 /// Warnings of the LDF, and what is said of a bad line and of expectations that aren't met, go to
 /// `errors`.
 ///
 /// # Errors
-/// Those of `cluster_of_file`, and `NoSuchTable`, after which nothing was written; those of
+/// Those of `cluster_of_file`, `NoSuchTable` and `BadFaults`, after which nothing was written; those of
 /// `play_script`.
 pub fn play<R: AllocGlobal + Files + Input + Print, E: Write>(
     rt: &R,
     settings: &Settings<'_>,
     script: Option<&str>,
+    faults: Option<&str>,
     errors: &mut E,
     notes: &mut Notes<'_>,
 ) -> Result<(), Fault> {
     let opened = begin(rt, settings, true, notes)?;
     notes.tell_warnings(errors);
-    notes.begin_script();
     let (alloc, mut writer) = (rt.alloc(), io::writer(rt));
+    let faults = faults_of(alloc, &opened.cluster, faults, errors)?;
+    notes.begin_script();
     let answer = match script {
-        None => play_script(alloc, opened, &mut rt.reader(), &mut writer, errors, notes),
+        None => play_under_faults(
+            alloc,
+            opened,
+            faults.as_slice(),
+            &mut rt.reader(),
+            &mut writer,
+            errors,
+            notes,
+        ),
         Some(path) => match fs::open(rt, path) {
-            Ok(mut file) => play_script(alloc, opened, &mut file, &mut writer, errors, notes),
+            Ok(mut file) => play_under_faults(
+                alloc,
+                opened,
+                faults.as_slice(),
+                &mut file,
+                &mut writer,
+                errors,
+                notes,
+            ),
             Err(_) => Err(Fault::ReadFailed),
         },
     };

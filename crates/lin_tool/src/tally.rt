@@ -28,7 +28,7 @@ pub(crate) fn unmet_in(judgements: &[Judgement]) -> usize
 }
 
 /// How many messages wait, of all hosts.
-fn waiting_in(core: &Core) -> u128
+pub(crate) fn waiting_in(core: &Core) -> u128
     ensures { result ≡ waiting_in core.now.cluster (past_of core.now) }
 {
     let mut count: u128 = 0;

@@ -2,3 +2,4 @@
 
 mod faults;
 mod formats;
+mod last_slots;

@@ -1,6 +1,6 @@
-//! Tests of what stands on logs: formats, lists, bench scripts, lines in hand, and the program's
-//! calls; of texts of the field; and of what values mean. They are apart from the crates of these,
-//! so that those aren't proved a second time with them.
+//! Tests of what stands on logs: formats, lists, bench scripts, faults, lines in hand, and the
+//! program's calls; of texts of the field; and of what values mean. They are apart from the crates of
+//! these, so that those aren't proved a second time with them.
 #![tactic(auto)]
 
 #[cfg(test)]
@@ -11,6 +11,8 @@ mod clusters;
 mod export;
 #[cfg(test)]
 mod fakes;
+#[cfg(test)]
+mod faults_in_slots;
 #[cfg(test)]
 mod field;
 #[cfg(test)]

@@ -402,7 +402,7 @@ fn formats_end_where_a_write_fails(rt: HostRuntime) -> Result<(), Fail> {
         Format::Log,
         Format::Named,
         Format::Csv,
-        Format::Jsonl,
+        Format::Jsonl("-"),
         Format::Pcap,
         Format::Vcd,
         Format::Html(b"door.ldf"),

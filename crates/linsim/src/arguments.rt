@@ -19,7 +19,7 @@ const PLAY_NOTE: &str =
     "Lines of a bench script:\n  the steps of replay's scripts, by name or number\n  slot, slot hurt BYTES, slot leave NODE.., slots N, slots N ms, slots idle\n  slots N until FORM, slots N while FORM, slots N leave NODE..\n  expect FORM, forget\n  when NODE PATTERN answer BYTES, when NODE PATTERN silent, timeouts N ms, every N ms STEP,\n  response_errors on, services on\n\nValues are numbers, or physical values and texts after = or ~: write Temp = 5 degC.\n\nThe log is written first, then one line on standard error for each expectation that failed. The format junit is a\ntest report instead of the log.\n\nExample: linsim play door.ldf door.bench --where > door.log";
 
 const LIVE_NOTE: &str =
-    "Each line of standard input is answered before the next one is read. The answer is the log of that line, then one\nline that begins with #: ok, is VALUE, expected WHAT: GOT, refused NUMBER NAME, bad line: REASON or slot limit.\n\nQuestions: ? signal NODE SIGNAL, ? waiting NODE, ? idle, ? time, ? asleep, ? next.\n\nExample: linsim live door.ldf < door.bench";
+    "Each line of standard input is answered before the next one is read. The answer is the log of that line, then one\nline that begins with #: ok, is VALUE, expected WHAT: GOT, refused NUMBER NAME, bad line: REASON or slot limit.\nWith --to jsonl, the answer is JSON objects, the last one of the type answer.\n\nQuestions: ? signal NODE SIGNAL, ? waiting NODE, ? idle, ? time, ? asleep, ? next, ? slot, ? nodes,\n? version.\n\nExample: linsim live door.ldf < door.bench";
 
 const CHECK_NOTE: &str =
     "Standard output has one line per item: node NUMBER NAME NAD (- for none), signal NUMBER NAME, and\ntable NUMBER NAME ENTRIES.\n\nStandard error has one line per problem. A syntax error is ldf LINE:COLUMN fault NUMBER NAME; only the first is\nreported. An error in the description is LINE:COLUMN finding NUMBER NAME. A warning of --field, --physical, --lint\nor --configuration is LINE:COLUMN warning NUMBER NAME, and doesn't change the exit status without --deny. A file of\nmore than 4,194,304 bytes is ldf too long.\n\nKINDS is one or more of these, with commas between them: all, a number, FROM-TO, the name of a warning. A warning\nthat is allowed isn't reported, even if it is denied too.\n\nExample: linsim check door.ldf --lint --deny all --allow 54,OffTimeBase";
@@ -58,7 +58,7 @@ static PLAY_FORMATS: [&str; 8] = [
 ];
 
 /// The values of `--to` of `live`.
-static ANSWER_FORMATS: [&str; 2] = ["log", "named"];
+static ANSWER_FORMATS: [&str; 3] = ["log", "named", "jsonl"];
 
 fn format<'a>(alloc: Global, words: &'a [&'a str]) -> Arg<'a> {
     Arg::new(alloc, "to")
@@ -290,6 +290,7 @@ fn play<'a>(alloc: Global) -> Result<Command<'a>, AllocError> {
         .arg(script(alloc))?
         .arg(table(alloc))?
         .arg(capacity(alloc))?
+        .arg(faults(alloc))?
         .arg(format(alloc, PLAY_FORMATS.as_slice()))?
         .arg(field(alloc))?
         .arg(meanings(alloc))?
@@ -297,6 +298,13 @@ fn play<'a>(alloc: Global) -> Result<Command<'a>, AllocError> {
         .arg(script_places(alloc))?
         .arg(strict(alloc))?
         .arg(explain(alloc))
+}
+
+fn faults<'a>(alloc: Global) -> Arg<'a> {
+    Arg::new(alloc, "fault")
+        .long("fault")
+        .value_name("FAULTS")
+        .help("Faults in slots: 17:damage, 17..19:damage or 17..:absent:NODE; + between faults")
 }
 
 fn live<'a>(alloc: Global) -> Result<Command<'a>, AllocError> {
@@ -366,14 +374,16 @@ pub(crate) enum Request<'a> {
     },
     /// `linsim check FILE --field --plain [--deny KINDS] [--allow KINDS]`
     CheckPlain(&'a str),
-    /// `linsim live FILE [--table T] [--capacity N] [--to log|named] [--field] [--physical]
+    /// `linsim live FILE [--table T] [--capacity N] [--to log|named|jsonl] [--field] [--physical]
     /// [--configuration]`
     Live(Settings<'a>),
     /// `linsim play FILE [SCRIPT] [--table T] [--capacity N] [--to FORMAT] [--physical]
-    /// [--configuration] [--where] [--strict]`. `script` is `None` for standard input.
+    /// [--configuration] [--where] [--strict] [--fault FAULTS]`. `script` is `None` for standard
+    /// input.
     Play {
         settings: Settings<'a>,
         script: Option<&'a str>,
+        faults: Option<&'a str>,
     },
     /// `linsim replay [FILE] [--table T] [--capacity N] [--to FORMAT] [--physical] [--configuration]`
     Replay(Settings<'a>),
@@ -393,7 +403,7 @@ fn format_of<'a>(word: Option<&str>, file: Option<&'a str>) -> Format<'a> {
     match word {
         Some("named") => Format::Named,
         Some("csv") => Format::Csv,
-        Some("jsonl") => Format::Jsonl,
+        Some("jsonl") => Format::Jsonl("-"),
         Some("pcap") => Format::Pcap,
         Some("vcd") => Format::Vcd,
         Some("html") => Format::Html(file.unwrap_or("built-in").as_bytes()),
@@ -464,12 +474,15 @@ fn settings_of<'a>(found: &ArgMatches<'a>) -> Settings<'a> {
     }
 }
 
-/// Returns the settings of `play`. A JUnit report has the name of the script, as `--where` does.
+/// Returns the settings of `play`. A JUnit report and objects have the name of the script, as `--where`
+/// does.
 fn play_settings_of<'a>(found: &ArgMatches<'a>) -> Settings<'a> {
     let mut settings = settings_of(found);
     settings.is_strict = found.get_flag("strict");
-    if found.get_str("to") == Some("junit") {
-        settings.format = Format::Junit(script_of(found));
+    match found.get_str("to") {
+        Some("junit") => settings.format = Format::Junit(script_of(found)),
+        Some("jsonl") => settings.format = Format::Jsonl(script_of(found)),
+        _ => {}
     }
     settings
 }
@@ -514,6 +527,7 @@ fn request_of<'a>(matches: &ArgMatches<'a>) -> Option<Request<'a>> {
         Some(("play", found)) => Some(Request::Play {
             settings: play_settings_of(found),
             script: found.get_str("script").filter(|path| *path != "-"),
+            faults: found.get_str("fault"),
         }),
         Some(("replay", found)) if found.get_flag("same") => {
             Some(Request::Compare(settings_of(found)))

@@ -51,9 +51,11 @@ fn perform<
         } => lin_tool::check_object(rt, file, reading, extras, notes),
         Request::CheckPlain(file) => lin_tool::check_plain(rt, file, notes),
         Request::Live(settings) => lin_tool::live(rt, &settings, errors, notes),
-        Request::Play { settings, script } => {
-            lin_tool::play(rt, &settings, script, errors, notes)
-        }
+        Request::Play {
+            settings,
+            script,
+            faults,
+        } => lin_tool::play(rt, &settings, script, faults, errors, notes),
         Request::Replay(settings) => lin_tool::replay(rt, &settings, notes),
         Request::Compare(settings) => lin_tool::compare(rt, &settings, notes),
         Request::Run { settings, slots } => {

@@ -36,12 +36,12 @@ use Rattle.lin_bench.specs.declared.reason.Reason.{Reason as ScriptReason}
 use Rattle.lin_live.proofs.Cuts.{pieces-some}
 use Rattle.lin_live.proofs.Growth.{Keeps, kept-made}
 use Rattle.lin_live.proofs.Plays.{live-is-play}
-use Rattle.lin_live.specs.Lines.{but_last, last_line, last_one, lines, pieces_at_lf}
+use Rattle.lin_live.specs.Lines.{but_last, last_line as last_of, last_one, lines, pieces_at_lf}
 use Rattle.lin_live.specs.Play.{IsPlain, is_question, in_hand_of, empty_run}
-use Rattle.lin_live.specs.Told.{HandData, entries_text, heard_as, verdict_with_meaning, reply, shown_coding, steps_ending, heard_answer, without_byte_order_mark, verdict_ending}
+use Rattle.lin_live.specs.Told.{Ending, HandData, entries_text, hash_ending, heard_as, is_text, last_line, verdict_with_meaning, reply, shown_coding, steps_ending, heard_answer, without_byte_order_mark, verdict_ending}
 use Rattle.lin_live.specs.Transcript.{state_after, most_bytes, short, transcript}
 use Rattle.lin_live.specs.declared.answer_format.AnswerFormat.{AnswerFormat}
-use Rattle.lin_live.specs.declared.answer_format.AnswerFormat.TheVariants.{Log, Named}
+use Rattle.lin_live.specs.declared.answer_format.AnswerFormat.TheVariants.{Log, Named, Jsonl}
 use Rattle.lin_live.specs.declared.heard.Heard.{Heard}
 use Rattle.lin_live.specs.declared.heard.Heard.TheVariants.{Ask, Make}
 use Rattle.lin_live.specs.declared.reason.Reason.{Reason}
@@ -160,37 +160,46 @@ step-begins l Bus s a b rest = (98, _, refl, (refl, refl, refl))
 step-begins l (Host n) s a b rest = (104, _, refl, (refl, refl, refl))
 step-begins l (Node n) s a b rest = (110, _, refl, (refl, refl, refl))
 
-entries-begin : (f : AnswerFormat) (c : Parts) (k : Option CodedData) (past es : List LogEntry) (last rest : List ℕ) → Begins (last ++ rest) → Begins ((entries_text f c k past es ++ last) ++ rest)
-entries-begin Log c k past [] last rest b = b
-entries-begin Named c k past [] last rest b = b
-entries-begin Log c k past (e ∷ es) last rest b =
+entries-begin : (f : AnswerFormat) (c : Parts) (k : Option CodedData) (past es : List LogEntry) (last rest : List ℕ) → is_text f ≡ true → Begins (last ++ rest) → Begins ((entries_text f c k past es ++ last) ++ rest)
+entries-begin Log c k past [] last rest text b = b
+entries-begin Named c k past [] last rest text b = b
+entries-begin Jsonl c k past es last rest text b = absurd (cc)
+entries-begin Log c k past (e ∷ es) last rest text b =
     step-begins plain e.port e.step (flat_map reply_line (plain_replies e []) ++ log_text plain plain_replies (e ∷ []) es) last rest
-entries-begin Named c k past (e ∷ es) last rest b =
+entries-begin Named c k past (e ∷ es) last rest text b =
     step-begins (named_language c) e.port e.step (flat_map reply_line (reply_lines c k e past) ++ log_text (named_language c) (reply_lines c k) (e ∷ past) es) last rest
 
-steps-begin : (o : Option Refusal) (rest : List ℕ) → Begins (steps_ending o ++ rest)
-steps-begin None rest = (35, _, refl, (refl, refl, refl))
-steps-begin (Some why) rest = (35, _, refl, (refl, refl, refl))
+steps-begin : (c : Parts) (k : Option CodedData) (o : Option Refusal) (rest : List ℕ) → Begins (hash_ending c k (steps_ending o) ++ rest)
+steps-begin c k None rest = (35, _, refl, (refl, refl, refl))
+steps-begin c k (Some why) rest = (35, _, refl, (refl, refl, refl))
 
-verdict-begins : (c : Parts) (v : Verdict) (es : List LogEntry) (rest : List ℕ) → Begins (verdict_ending c v es ++ rest)
-verdict-begins c SlotLimit es rest = (35, _, refl, (refl, refl, refl))
-verdict-begins c (Unmet what got) es rest = (35, _, refl, (refl, refl, refl))
-verdict-begins c Nothing es rest = steps-begin (first_refusal es) rest
-verdict-begins c (Met what) es rest = steps-begin (first_refusal es) rest
+verdict-begins : (c : Parts) (k : Option CodedData) (v : Verdict) (es : List LogEntry) (rest : List ℕ) → Begins (hash_ending c k (verdict_ending c v es) ++ rest)
+verdict-begins c k SlotLimit es rest = (35, _, refl, (refl, refl, refl))
+verdict-begins c k (Unmet what got) es rest = (35, _, refl, (refl, refl, refl))
+verdict-begins c k Nothing es rest = steps-begin c k (first_refusal es) rest
+verdict-begins c k (Met what) es rest = steps-begin c k (first_refusal es) rest
 
-last-begins : (h : HandData) (said : Result (Option Heard) Reason) (rest : List ℕ) → Begins ((heard_answer h said).1.last_line ++ rest)
-last-begins h (Err why) rest = (35, _, refl, (refl, refl, refl))
-last-begins h (Ok None) rest = (35, _, refl, (refl, refl, refl))
-last-begins h (Ok (Some (Ask asked))) rest = (35, _, refl, (refl, refl, refl))
-last-begins h (Ok (Some (Make line))) rest =
-    let m = made h.cluster h.opening h.capacity h.bench line in verdict-begins h.cluster (verdict_with_meaning h.coded m.1) (entries_since h.bench.past m.0.past) rest
+hash-begins : (h : HandData) (k : Option CodedData) (said : Result (Option Heard) Reason) (rest : List ℕ) → Begins (hash_ending h.cluster k (heard_answer h said).1.ending ++ rest)
+hash-begins h k (Err why) rest = (35, _, refl, (refl, refl, refl))
+hash-begins h k (Ok None) rest = (35, _, refl, (refl, refl, refl))
+hash-begins h k (Ok (Some (Ask asked))) rest = (35, _, refl, (refl, refl, refl))
+hash-begins h k (Ok (Some (Make line))) rest =
+    let m = made h.cluster h.opening h.capacity h.bench line in verdict-begins h.cluster k (verdict_with_meaning h.coded m.1) (entries_since h.bench.past m.0.past) rest
 
-transcript-begins : (h : HandData) (line : List ℕ) (more : List (List ℕ)) → Begins (transcript reply h (line ∷ more))
-transcript-begins h line more =
+last-begins : (f : AnswerFormat) (c : Parts) (k : Option CodedData) (e : Ending) (rest : List ℕ) → is_text f ≡ true → Begins (hash_ending c k e ++ rest) → Begins (last_line f c k e ++ rest)
+last-begins Log c k e rest text b = b
+last-begins Named c k e rest text b = b
+last-begins Jsonl c k e rest text b = absurd (cc)
+
+transcript-begins : (h : HandData) (line : List ℕ) (more : List (List ℕ)) → is_text h.format ≡ true → Begins (transcript reply h (line ∷ more))
+transcript-begins h line more text =
     let begun = record h { begun = true } in
     let said = heard_as h.cluster h.coded (without_byte_order_mark h (short line)) in
     let rest = transcript reply (reply h (short line)).0 more in
-    entries-begin h.format h.cluster (shown_coding h) h.bench.past (heard_answer begun said).1.entries (heard_answer begun said).1.last_line rest (last-begins begun said rest)
+    let k = shown_coding h in
+    let ending = (heard_answer begun said).1.ending in
+    entries-begin h.format h.cluster k h.bench.past (heard_answer begun said).1.entries (last_line h.format h.cluster k ending) rest text
+    (last-begins h.format h.cluster k ending rest text (hash-begins begun k said rest))
 
 -- a text that begins so, and a line of it, has no mark
 no-mark : (t : List ℕ) → (slice_index t 0 == 239) ≡ false → without_mark t ≡ t
@@ -217,15 +226,15 @@ nothing-said h b = rw (b, nothing-read h.cluster h.coded) refl
 not-empty : (x : ℕ) (xs : List ℕ) → (length (x ∷ xs) == 0) ≡ false
 not-empty x xs = grind (arith, common_steps)
 
-last-some : (x : ℕ) (xs : List ℕ) → last_line (x ∷ xs) ≡ strip_carriage_return (x ∷ xs) ∷ []
+last-some : (x : ℕ) (xs : List ℕ) → last_of (x ∷ xs) ≡ strip_carriage_return (x ∷ xs) ∷ []
 last-some x xs = rw (not-empty x xs) refl
 
-last-same : (h : HandData) → h.begun ≡ true → (p : List ℕ) → state_after reply h (last_line p) ≡ state_after reply h (strip_carriage_return p ∷ [])
+last-same : (h : HandData) → h.begun ≡ true → (p : List ℕ) → state_after reply h (last_of p) ≡ state_after reply h (strip_carriage_return p ∷ [])
 last-same h b [] = sym (nothing-said h b)
 last-same h b (x ∷ xs) = ap (state_after reply h) (last-some x xs)
 
 lines-same : (h : HandData) → h.begun ≡ true → (p : List ℕ) (ps : List (List ℕ))
-    → state_after reply h (map strip_carriage_return (but_last (p ∷ ps)) ++ last_line (last_one (p ∷ ps))) ≡ state_after reply h (map strip_carriage_return (p ∷ ps))
+    → state_after reply h (map strip_carriage_return (but_last (p ∷ ps)) ++ last_of (last_one (p ∷ ps))) ≡ state_after reply h (map strip_carriage_return (p ∷ ps))
 lines-same h b p [] = last-same h b p
 lines-same h b p (q ∷ qs) =
     let line = short (strip_carriage_return p) in
@@ -234,18 +243,18 @@ lines-same h b p (q ∷ qs) =
 pieces-same : (h : HandData) → h.begun ≡ true → (t : List ℕ) (ps : List (List ℕ)) (p : List ℕ) (qs : List (List ℕ)) → ps ≡ p ∷ qs → ps ≡ pieces_at_lf t
     → state_after reply h (lines t) ≡ state_after reply h (map strip_carriage_return (pieces_at_lf t))
 pieces-same h b t ps p qs e is =
-    ap (λ (l : List (List ℕ)). state_after reply h (map strip_carriage_return (but_last l) ++ last_line (last_one l))) (sym is ∙ e) ∙ lines-same h b p qs
+    ap (λ (l : List (List ℕ)). state_after reply h (map strip_carriage_return (but_last l) ++ last_of (last_one l))) (sym is ∙ e) ∙ lines-same h b p qs
     ∙ ap (λ (l : List (List ℕ)). state_after reply h (map strip_carriage_return l)) (sym e ∙ is)
 
 -- ---- the first line
 abbrev HasFirst : ℕ → List (List ℕ) → Type 0
 HasFirst x ls = (line : List ℕ) × (more : List (List ℕ)) × (ls ≡ line ∷ more) × (slice_index line 0 ≡ x)
 
-first-of : (x : ℕ) → (x == 13) ≡ false → (p : List ℕ) (qs : List (List ℕ)) → HasFirst x (map strip_carriage_return (but_last ((x ∷ p) ∷ qs)) ++ last_line (last_one ((x ∷ p) ∷ qs)))
+first-of : (x : ℕ) → (x == 13) ≡ false → (p : List ℕ) (qs : List (List ℕ)) → HasFirst x (map strip_carriage_return (but_last ((x ∷ p) ∷ qs)) ++ last_of (last_one ((x ∷ p) ∷ qs)))
 first-of x h p [] = (_, _, last-some x p, strip-first x p h)
 first-of x h p (q ∷ qs) = (_, _, refl, strip-first x p h)
 
-onto-of : (x : ℕ) → (x == 13) ≡ false → (ps : List (List ℕ)) → HasFirst x (map strip_carriage_return (but_last (onto_first x ps)) ++ last_line (last_one (onto_first x ps)))
+onto-of : (x : ℕ) → (x == 13) ≡ false → (ps : List (List ℕ)) → HasFirst x (map strip_carriage_return (but_last (onto_first x ps)) ++ last_of (last_one (onto_first x ps)))
 onto-of x h [] = first-of x h [] []
 onto-of x h (p ∷ ps) = first-of x h p ps
 
@@ -299,4 +308,4 @@ again-by h ls t fits shorts b =
 
 pub transcripts-are-inputs : TranscriptsAreInputs
 transcripts-are-inputs h [] t fits shorts = (ap (λ (p : List LogEntry). reverse p) (sym t.begins), refl)
-transcripts-are-inputs h (line ∷ more) t fits shorts = again-by h (line ∷ more) t fits shorts (transcript-begins h line more)
+transcripts-are-inputs h (line ∷ more) t fits shorts = again-by h (line ∷ more) t fits shorts (transcript-begins h line more t.of_text)

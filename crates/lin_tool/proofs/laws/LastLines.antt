@@ -1,9 +1,11 @@
 -- The last lines of answers: each begins with `#`, and has no LF but at its end.
-use Rattle.std.proofs.Common.{◌≡◌, ℕ, true, List, [], ◌∷◌, ◌++◌, refl, ap, subst, append_assoc, codes, length, Option, Some, None}
+use Rattle.std.proofs.Common.{◌≡◌, ℕ, true, List, [], ◌∷◌, ◌++◌, refl, ap, subst, append_assoc, codes, flat_map, length, map, Option, Some, None}
 use Rattle.std.specs.Prelude.{IfSome}
 use Rattle.std.specs.Fmt.{decimal}
 use Rattle.std.specs.Option.{option_map_or}
 use Rattle.lin_frame.specs.declared.value.Value.{Value}
+use Rattle.lin_frame.specs.Words.{numbers}
+use Rattle.lin_parts.specs.Cluster.{nad, node_of, nodes}
 use Rattle.lin_parts.specs.declared.parts.Parts.{Parts}
 use Rattle.lin_core.specs.History.{asleep, time}
 use Rattle.lin_core.specs.Links.{waiting}
@@ -22,6 +24,8 @@ use Rattle.lin_values.specs.Coded.{CodedData}
 use Rattle.lin_values.specs.Meaning.{meaning_if_coded}
 use Rattle.lin_values.specs.Meant.{Meant}
 use Rattle.lin_values.specs.Shown.{shown}
+use Rattle.lin_export.specs.LastSlot.{EndedSlot, ended_words, last_slot, last_slot_text}
+use Rattle.lin_export.specs.Listing.{address_word}
 use Rattle.lin_export.specs.Named.{slot_names}
 use Rattle.lin_bench.specs.Texts.{expected_text, got_text, table_word}
 use Rattle.lin_bench.specs.Slots.{pending}
@@ -32,14 +36,15 @@ use Rattle.lin_bench.specs.declared.got.Verdict.{Verdict}
 use Rattle.lin_bench.specs.declared.got.Verdict.TheVariants.{Nothing, Met, Unmet, SlotLimit}
 use Rattle.lin_bench.specs.declared.rules.Noted.{Noted}
 use Rattle.lin_bench.specs.Strict.{first_refusal}
-use Rattle.lin_live.specs.Told.{hash_line, idle_text, slot_text, steps_ending, value_text, verdict_ending}
+use Rattle.lin_live.specs.Told.{Is, hash_ending, hash_line, steps_ending, verdict_ending}
+use Rattle.lin_live.specs.Values.{addressed_node, after_gap, idle_text, objects_version, program_version, said, said_text, slot_text, with_gaps}
 use Rattle.lin_live.specs.declared.question.Question.{Question}
 use Rattle.lin_live.specs.declared.question.Question.TheVariants as question
 use Rattle.lin_tool.specs.laws.NamedScripts.{AreOneLine, HasFrameNames, IsOneLine}
 use Rattle.lin_tool.specs.laws.Transcripts.{IsRemark}
 use Rattle.lin_tool.proofs.laws.OneLine.{expected-clean, got-clean, pending-clean}
 use Rattle.lin_tool.proofs.laws.Remarks.{Clean, a-remark, clean-both, each-way, is_clean, quiet-clean}
-use Rattle.lin_tool.proofs.laws.Replies.{refusal-quiet, slot-quiet, value-quiet}
+use Rattle.lin_tool.proofs.laws.Replies.{ended-quiet, node-name, refusal-quiet, slot-quiet, value-quiet}
 
 abbrev Quiet : List ℕ → Type 0
 Quiet w = is_quiet w ≡ true
@@ -75,7 +80,26 @@ module _ (c : Parts) (a : HasNames (named_language c)) (b : HasFrameNames c) whe
   next-said None = refl
   next-said (Some s) = quiet-clean (slot_text c (s.0, s.1) s.2) (slot-said s)
 
-  value-said : (k : Option CodedData) → IfSome k AreOneLine → (opening : ℕ) (past : List LogEntry) (noted : List Noted) (q : Question) → Clean (value_text c k opening past noted q)
+  address-quiet : (o : Option ℕ) → Quiet (spaced_word (address_word o))
+  address-quiet None = refl
+  address-quiet (Some n) = quiet-decimal n
+
+  node-said : (n : ℕ) → Quiet (addressed_node c n)
+  node-said n = both (node_of c n).name (spaced_word (address_word (nad c n))) (node-name c a n) (address-quiet (nad c n))
+
+  gaps-said : (ns : List ℕ) → Quiet (flat_map after_gap (map (addressed_node c) ns))
+  gaps-said [] = refl
+  gaps-said (n ∷ ns) = both (after_gap (addressed_node c n)) _ (node-said n) (gaps-said ns)
+
+  nodes-said : (ns : List ℕ) → Quiet (with_gaps (map (addressed_node c) ns))
+  nodes-said [] = refl
+  nodes-said (n ∷ ns) = both (addressed_node c n) _ (node-said n) (gaps-said ns)
+
+  ended-said : (o : Option EndedSlot) → Quiet (last_slot_text c o)
+  ended-said None = refl
+  ended-said (Some e) = both (decimal e.number) _ (quiet-decimal e.number) (quiet-spaced (ended_words c e) (ended-quiet c a b e))
+
+  value-said : (k : Option CodedData) → IfSome k AreOneLine → (opening : ℕ) (past : List LogEntry) (noted : List Noted) (q : Question) → Clean (said_text c k (said c opening past noted q))
   value-said k one opening past noted (question.Signal n s) =
       let v = value_at c past n s in
       let meant = option_map_or (λ (m : Meant). spaced_word (shown m)) (meaning_if_coded k s v) [] in
@@ -87,6 +111,11 @@ module _ (c : Parts) (a : HasNames (named_language c)) (b : HasFrameNames c) whe
   value-said k one opening past noted question.Next =
       each-way Clean (asleep past) (codes "asleep") (option_map_or (λ (s : ℕ × ℕ × Option ℕ). slot_text c (s.0, s.1) s.2) (next_slot c opening past) (codes "open")) refl
       (next-said (next_slot c opening past))
+  value-said k one opening past noted question.Version =
+      let objects = decimal objects_version in
+      quiet-clean (program_version ++ spaced_word objects) (both program_version (spaced_word objects) refl (quiet-decimal objects_version))
+  value-said k one opening past noted question.Nodes = quiet-clean (with_gaps (map (addressed_node c) (numbers (nodes c)))) (nodes-said (numbers (nodes c)))
+  value-said k one opening past noted question.LastSlot = quiet-clean (last_slot_text c (last_slot c past)) (ended-said (last_slot c past))
 
   -- ---- last lines
   pub ending-remark : (words : List ℕ) → is_clean words ≡ true → IsRemark (hash_line words)
@@ -95,14 +124,14 @@ module _ (c : Parts) (a : HasNames (named_language c)) (b : HasFrameNames c) whe
   quiet-remark : (words : List ℕ) → Quiet words → IsRemark (hash_line words)
   quiet-remark words h = ending-remark words (quiet-clean words h)
 
-  steps-remark : (o : Option Refusal) → IsRemark (steps_ending o)
-  steps-remark None = quiet-remark (codes "ok") refl
-  steps-remark (Some why) =
+  steps-remark : (k : Option CodedData) (o : Option Refusal) → IsRemark (hash_ending c k (steps_ending o))
+  steps-remark k None = quiet-remark (codes "ok") refl
+  steps-remark k (Some why) =
       quiet-remark (codes "refused " ++ (decimal (refusal_number why) ++ spaced_word (refusal_word why)))
       (both (decimal (refusal_number why)) _ (quiet-decimal (refusal_number why)) (refusal-quiet why))
 
-  unmet-remark : (what : Expected) (is : Got) → IsRemark (verdict_ending c (Unmet what is) [])
-  unmet-remark what is =
+  unmet-remark : (k : Option CodedData) (what : Expected) (is : Got) → IsRemark (hash_ending c k (verdict_ending c (Unmet what is) []))
+  unmet-remark k what is =
       let w = expected_text c what in
       let g = got_text c is in
       let body = codes " expected " ++ (w ++ (codes ": " ++ g)) in
@@ -110,12 +139,12 @@ module _ (c : Parts) (a : HasNames (named_language c)) (b : HasFrameNames c) whe
       subst (λ t. IsRemark (35 ∷ t)) same (a-remark body (clean-both w (codes ": " ++ g) (expected-clean c a b what) (got-clean c a b is)))
 
   -- what was judged of a line
-  pub verdict-remark : (v : Verdict) (es : List LogEntry) → IsRemark (verdict_ending c v es)
-  verdict-remark SlotLimit es = quiet-remark (codes "slot limit") refl
-  verdict-remark (Unmet what is) es = unmet-remark what is
-  verdict-remark Nothing es = steps-remark (first_refusal es)
-  verdict-remark (Met what) es = steps-remark (first_refusal es)
+  pub verdict-remark : (k : Option CodedData) (v : Verdict) (es : List LogEntry) → IsRemark (hash_ending c k (verdict_ending c v es))
+  verdict-remark k SlotLimit es = quiet-remark (codes "slot limit") refl
+  verdict-remark k (Unmet what is) es = unmet-remark k what is
+  verdict-remark k Nothing es = steps-remark k (first_refusal es)
+  verdict-remark k (Met what) es = steps-remark k (first_refusal es)
 
   pub value-remark : (k : Option CodedData) → IfSome k AreOneLine → (opening : ℕ) (past : List LogEntry) (noted : List Noted) (q : Question)
-      → IsRemark (hash_line (codes "is " ++ value_text c k opening past noted q))
-  value-remark k one opening past noted q = ending-remark (codes "is " ++ value_text c k opening past noted q) (value-said k one opening past noted q)
+      → IsRemark (hash_ending c k (Is (said c opening past noted q)))
+  value-remark k one opening past noted q = ending-remark (codes "is " ++ said_text c k (said c opening past noted q)) (value-said k one opening past noted q)

@@ -23,9 +23,11 @@ use Rattle.lin_log.proofs.Logs.{entry_text, quiet-events, text-entries}
 use Rattle.lin_log.proofs.Quiet.{line-end, quiet-called, quiet-decimal, quiet-hex, quiet-spaced}
 use Rattle.lin_values.specs.Coded.{CodedData}
 use Rattle.lin_export.specs.Named.{reply_lines}
-use Rattle.lin_live.specs.Told.{entries_text}
+use Rattle.lin_export.specs.Jsonl.{entry_objects}
+use Rattle.lin_export.proofs.Tellings.{each-append}
+use Rattle.lin_live.specs.Told.{entries_text, is_text}
 use Rattle.lin_live.specs.declared.answer_format.AnswerFormat.{AnswerFormat}
-use Rattle.lin_live.specs.declared.answer_format.AnswerFormat.TheVariants.{Log, Named}
+use Rattle.lin_live.specs.declared.answer_format.AnswerFormat.TheVariants.{Log, Named, Jsonl}
 use Rattle.lin_tool.specs.laws.NamedScripts.{AreOneLine, HasFrameNames}
 use Rattle.lin_tool.specs.laws.Transcripts.{with_line_end}
 use Rattle.lin_tool.proofs.laws.Remarks.{Stays, quiet-clean, stays-both, stays-line, stays-nothing}
@@ -115,10 +117,11 @@ plain-quiet (Refused r) =
     let q : are_quiet ws ≡ true = rw (quiet-decimal (refusal_number r)) refl in
     All-cons (λ ws. are_quiet ws ≡ true) ws [] q (All-nil (λ ws. are_quiet ws ≡ true))
 
-pub entries-stay : (f : AnswerFormat) (c : Parts) (k : Option CodedData) → HasNames (named_language c) → HasFrameNames c → IfSome k AreOneLine → (past es : List LogEntry)
+pub entries-stay : (f : AnswerFormat) (c : Parts) (k : Option CodedData) → is_text f ≡ true → HasNames (named_language c) → HasFrameNames c → IfSome k AreOneLine → (past es : List LogEntry)
     → Stays (entries_text f c k past es)
-entries-stay Log c k a b one past es = log-stays plain plain_replies plain-names (λ e p. plain-quiet e.reply) [] es
-entries-stay Named c k a b one past es = log-stays (named_language c) (reply_lines c k) a (λ e p. reply-quiet c k a b one e p e.reply) past es
+entries-stay Log c k text a b one past es = log-stays plain plain_replies plain-names (λ e p. plain-quiet e.reply) [] es
+entries-stay Named c k text a b one past es = log-stays (named_language c) (reply_lines c k) a (λ e p. reply-quiet c k a b one e p e.reply) past es
+entries-stay Jsonl c k text a b one past es = absurd (cc)
 
 -- ---- entries, and then more
 back-to-front : (e : LogEntry) (es past : List LogEntry) → reverse (e ∷ es) ++ past ≡ reverse es ++ e ∷ past
@@ -143,3 +146,4 @@ pub entries-append : (f : AnswerFormat) (c : Parts) (k : Option CodedData) (past
     → entries_text f c k past (xs ++ ys) ≡ entries_text f c k past xs ++ entries_text f c k (reverse xs ++ past) ys
 entries-append Log c k past xs ys = text-append xs ys
 entries-append Named c k past xs ys = log-append (named_language c) (reply_lines c k) past xs ys
+entries-append Jsonl c k past xs ys = each-append (entry_objects c k) past xs ys

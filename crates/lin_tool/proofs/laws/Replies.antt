@@ -12,7 +12,7 @@ use Rattle.lin_frame.specs.Bits.{unpacked_value}
 use Rattle.lin_frame.specs.declared.layout.Place.{Place}
 use Rattle.lin_frame.specs.declared.value.Value.{Value}
 use Rattle.lin_frame.specs.declared.value.Value.TheVariants.{Scalar, Bytes}
-use Rattle.lin_parts.specs.Cluster.{entry_name, frame_name, frame_of, line_of, node_of, nodes, signal_of}
+use Rattle.lin_parts.specs.Cluster.{entry_name, frame_name, frame_of, line_of, named_table, node_of, nodes, signal_of}
 use Rattle.lin_parts.specs.declared.parts.Entry.{Entry}
 use Rattle.lin_parts.specs.declared.parts.Entry.TheVariants.{Frame, Sporadic, Event as Triggered, MasterReq, SlaveResp, Fixed, Quiet}
 use Rattle.lin_parts.specs.declared.parts.EventFrame.{EventFrame}
@@ -21,13 +21,16 @@ use Rattle.lin_parts.specs.declared.parts.Parts.{Parts}
 use Rattle.lin_parts.specs.declared.parts.Signal.{Signal}
 use Rattle.lin_parts.specs.declared.parts.SignalFrame.{SignalFrame}
 use Rattle.lin_parts.specs.declared.parts.SporadicFrame.{SporadicFrame}
+use Rattle.lin_parts.specs.declared.parts.Table.{Table}
 use Rattle.lin_parts.specs.Services.{asks, service_name}
 use Rattle.lin_core.proofs.slots.ClusterFrames.{no_event, no_frame, no_sporadic}
-use Rattle.lin_core.specs.History.{Slot, header_is, open_slot, time}
+use Rattle.lin_core.specs.History.{Slot, good, header_is, open_slot, seen_of, time}
 use Rattle.lin_core.specs.Slots.{node_with}
-use Rattle.lin_core.specs.Tables.{refusal_number, refusal_word}
+use Rattle.lin_core.specs.Tables.{look_of, look_word, refusal_number, refusal_word}
 use Rattle.lin_core.specs.declared.event.Event.{Event}
 use Rattle.lin_core.specs.declared.event.Event.TheVariants as event
+use Rattle.lin_core.specs.declared.event.Look.{Look}
+use Rattle.lin_core.specs.declared.event.Look.TheVariants as look
 use Rattle.lin_core.specs.declared.event.Seen.TheVariants as seen
 use Rattle.lin_core.specs.declared.log.LogEntry.{LogEntry}
 use Rattle.lin_core.specs.declared.reply.Refusal.{Refusal}
@@ -38,11 +41,12 @@ use Rattle.lin_core.specs.declared.step.Step.{Step}
 use Rattle.lin_core.specs.declared.step.Step.TheVariants.{Finish, Write}
 use Rattle.lin_log.specs.Language.{named_language}
 use Rattle.lin_log.specs.Laws.{HasNames, IsQuiet, are_quiet, is_name, is_quiet}
-use Rattle.lin_log.specs.Words.{event_words, value_word}
+use Rattle.lin_log.specs.Words.{event_words, hex_word, value_word}
 use Rattle.lin_log.proofs.Items.{item-name, joined}
 use Rattle.lin_log.proofs.Quiet.{quiet-decimal, quiet-encoded, quiet-event, quiet-hex, quiet-visible}
 use Rattle.lin_export.specs.Named.{words_after_event, control_words, event_lines, frame_values, frame_words, good_words, lines_of_reply, named_event, place_values, seen_values, signal_words, slot_values, slot_names, sporadic_frame_under, time_words, transport, transport_words, value_lines, who_word, written_values}
-use Rattle.lin_export.specs.Shown.{slot_frame}
+use Rattle.lin_export.specs.LastSlot.{EndedSlot, ended_words}
+use Rattle.lin_export.specs.Shown.{data_of, slot_frame, slot_name}
 use Rattle.lin_export.specs.WhereTold.{where_told}
 use Rattle.lin_values.specs.Coded.{CodedData}
 use Rattle.lin_values.specs.Meaning.{meaning}
@@ -64,7 +68,7 @@ name-by : (n k : ℕ) (name : List ℕ) (t : Bool) → nat_lt k n ≡ t → (k <
 name-by n k name true e p q = quiet-name name (p (grind (arith, common_steps)))
 name-by n k name false e p q = rw (q (grind (arith, common_steps))) refl
 
-node-name : (c : Parts) → HasNames (named_language c) → (k : ℕ) → is_quiet (node_of c k).name ≡ true
+pub node-name : (c : Parts) → HasNames (named_language c) → (k : ℕ) → is_quiet (node_of c k).name ≡ true
 node-name c a k =
     name-by (nodes c) k (node_of c k).name (nat_lt k (nodes c)) refl (a.of_nodes.words k)
     (λ le. ap (λ (n : NodeParts). n.name) (get_or_past c.nodes k (record { name = []; nad = None }) le))
@@ -73,6 +77,11 @@ signal-name : (c : Parts) → HasNames (named_language c) → (k : ℕ) → is_q
 signal-name c a k =
     name-by (length c.signals) k (signal_of c k).name (nat_lt k (length c.signals)) refl (a.of_signals.words k)
     (λ le. ap (λ (s : Signal). s.name) (get_or_past c.signals k (record { name = []; publisher = 0; subscribers = []; size = 1; initial = Scalar 0 }) le))
+
+table-name : (c : Parts) → HasNames (named_language c) → (k : ℕ) → is_quiet (named_table c k).name ≡ true
+table-name c a k =
+    name-by (length c.tables) k (named_table c k).name (nat_lt k (length c.tables)) refl (a.of_tables.words k)
+    (λ le. ap (λ (t : Table). t.name) (get_or_past c.tables k (record { name = []; lines = [] }) le))
 
 pub frame-name : (c : Parts) → HasFrameNames c → (f : ℕ) → is_quiet (frame_name c f) ≡ true
 frame-name c b f = listed-name (λ (x : SignalFrame). x.name) no_frame refl c.frames f b.of_frames
@@ -269,3 +278,24 @@ reply-quiet c k a b one e past (Refused r) =
     let ws : List (List ℕ) = codes "refused" ∷ decimal (refusal_number r) ∷ refusal_word r ∷ [] in
     let q : are_quiet ws ≡ true = rw (quiet-decimal (refusal_number r), refusal-quiet r) refl in
     one-quiet (Some ws) q
+
+-- the words of a slot that has ended
+slot-name-quiet : (c : Parts) → HasFrameNames c → (s : Slot) → is_quiet (slot_name c s) ≡ true
+slot-name-quiet c b s =
+    let entry = (line_of c s.table s.entry).entry in
+    option-quiet (frame_name c) (slot_frame c entry s) (entry_name c entry) (frame-name c b) (entry-name c b entry)
+
+look-quiet : (how : Look) → is_quiet (look_word how) ≡ true
+look-quiet look.Silent = refl
+look-quiet look.NoAnswer = refl
+look-quiet look.Good = refl
+look-quiet look.Damaged = refl
+look-quiet look.Collided = refl
+
+data-quiet : (o : Option (List ℕ)) → are_quiet (map (λ answer. hex_word (data_of answer)) (option_to_list o)) ≡ true
+data-quiet None = refl
+data-quiet (Some answer) = rw (quiet-hex (data_of answer)) refl
+
+pub ended-quiet : (c : Parts) → HasNames (named_language c) → HasFrameNames c → (e : EndedSlot) → are_quiet (ended_words c e) ≡ true
+ended-quiet c a b e =
+    rw (quiet-decimal e.at, table-name c a e.slot.table, quiet-decimal e.slot.entry, slot-name-quiet c b e.slot, look-quiet (look_of (seen_of e.slot)), data-quiet (good e.slot)) refl

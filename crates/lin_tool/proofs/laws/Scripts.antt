@@ -22,10 +22,10 @@ use Rattle.lin_bench.proofs.Steps.{named-texts, plain-scripts}
 use Rattle.lin_bench.specs.Plain.{SaysSteps}
 use Rattle.lin_live.proofs.Cuts.{pieces-clean, pieces-some}
 use Rattle.lin_live.specs.Lines.{HasNoLf, pieces_at_lf}
-use Rattle.lin_live.specs.Told.{HandData, entries_text, reply, shown_coding}
+use Rattle.lin_live.specs.Told.{HandData, entries_text, is_text, reply, shown_coding}
 use Rattle.lin_live.specs.Transcript.{transcript}
 use Rattle.lin_live.specs.declared.answer_format.AnswerFormat.{AnswerFormat}
-use Rattle.lin_live.specs.declared.answer_format.AnswerFormat.TheVariants.{Log, Named}
+use Rattle.lin_live.specs.declared.answer_format.AnswerFormat.TheVariants.{Log, Named, Jsonl}
 use Rattle.lin_tool.specs.laws.NamedScripts.{AreOneLine, HasFrameNames}
 use Rattle.lin_tool.specs.laws.Transcripts.{IsTranscript, TranscriptsAreBenchScripts, TranscriptsAreScripts, with_line_end, is_said, log_after, without_remarks}
 use Rattle.lin_tool.proofs.laws.LogLines.{plain-names, plain-quiet, plain_replies}
@@ -120,11 +120,13 @@ remarks-say-nothing l t xs h =
 abbrev pub told_in : AnswerFormat → Parts → Language
 told_in Log c = plain
 told_in Named c = named_language c
+told_in Jsonl c = plain
 
-entries-say : (f : AnswerFormat) (c : Parts) (k : Option CodedData) (log : List LogEntry) → HasNames (named_language c) → HasFrameNames c → IfSome k AreOneLine → All FitsEntry log
+entries-say : (f : AnswerFormat) (c : Parts) (k : Option CodedData) (log : List LogEntry) → is_text f ≡ true → HasNames (named_language c) → HasFrameNames c → IfSome k AreOneLine → All FitsEntry log
     → text_says (told_in f c) (entries_text f c k [] log) ≡ Ok (steps_of log)
-entries-say Log c k log a b one fits = texts-again plain plain_replies log plain-names (λ e past. plain-quiet e.reply) fits
-entries-say Named c k log a b one fits = texts-again (named_language c) (reply_lines c k) log a (λ e past. reply-quiet c k a b one e past e.reply) fits
+entries-say Log c k log text a b one fits = texts-again plain plain_replies log plain-names (λ e past. plain-quiet e.reply) fits
+entries-say Named c k log text a b one fits = texts-again (named_language c) (reply_lines c k) log a (λ e past. reply-quiet c k a b one e past e.reply) fits
+entries-say Jsonl c k log text a b one fits = absurd (cc)
 
 pub transcript-says : (h : HandData) (ls : List (List ℕ)) → IsTranscript h ls → All FitsEntry (log_after h ls)
     → text_says (told_in h.format h.cluster) (transcript reply h ls) ≡ Ok (steps_of (log_after h ls))
@@ -132,7 +134,7 @@ transcript-says h ls t fits =
     let l = told_in h.format h.cluster in
     remarks-say-nothing l (transcript reply h ls) (steps_of (log_after h ls))
     (ap (text_says l) (transcripts-are-logs h ls t)
-    ∙ entries-say h.format h.cluster (shown_coding h) (log_after h ls) t.names t.frames (shown-one h (fits-one h.cluster h.coded t.coded)) fits)
+    ∙ entries-say h.format h.cluster (shown_coding h) (log_after h ls) t.of_text t.names t.frames (shown-one h (fits-one h.cluster h.coded t.coded)) fits)
 
 pub transcripts-are-scripts : TranscriptsAreScripts
 unfolding script
@@ -144,6 +146,7 @@ says-steps : (f : AnswerFormat) (c : Parts) (opening capacity : ℕ) (t : List �
 unfolding script
 says-steps Log c opening capacity t steps h = plain-scripts c opening capacity t steps (ap without_reason h)
 says-steps Named c opening capacity t steps h = named-texts c opening capacity t steps h
+says-steps Jsonl c opening capacity t steps h = plain-scripts c opening capacity t steps (ap without_reason h)
 
 pub transcripts-are-bench-scripts : TranscriptsAreBenchScripts
 transcripts-are-bench-scripts h ls opening capacity t fits =

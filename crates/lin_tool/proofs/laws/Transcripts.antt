@@ -14,11 +14,11 @@ use Rattle.lin_live.proofs.Growth.{answers-are-the-log, answers-are-written, tol
 use Rattle.lin_live.specs.Answers.{answers, answers_text}
 use Rattle.lin_bench.specs.Made.{made}
 use Rattle.lin_bench.specs.Strict.{entries_since}
-use Rattle.lin_live.specs.Told.{Answer, HandData, line_answer, entries_text, heard_as, verdict_with_meaning, question_reason_text, shown_coding, heard_answer, without_byte_order_mark}
-use Rattle.lin_live.specs.Lines.{HasNoLf, but_last, last_line, pieces_at_lf, after_last_lf}
+use Rattle.lin_live.specs.Told.{Answer, Ending, HandData, hash_ending, is_text, last_line, line_answer, entries_text, heard_as, verdict_with_meaning, question_reason_text, shown_coding, heard_answer, without_byte_order_mark}
+use Rattle.lin_live.specs.Lines.{HasNoLf, but_last, last_line as last_of, pieces_at_lf, after_last_lf}
 use Rattle.lin_live.specs.Transcript.{short}
 use Rattle.lin_live.specs.declared.answer_format.AnswerFormat.{AnswerFormat}
-use Rattle.lin_live.specs.declared.answer_format.AnswerFormat.TheVariants.{Log, Named}
+use Rattle.lin_live.specs.declared.answer_format.AnswerFormat.TheVariants.{Log, Named, Jsonl}
 use Rattle.lin_live.specs.declared.heard.Heard.{Heard}
 use Rattle.lin_live.specs.declared.heard.Heard.TheVariants.{Ask, Make}
 use Rattle.lin_live.specs.declared.reason.Reason.{Reason}
@@ -42,47 +42,58 @@ pub shown-one : (h : HandData) → IfSome h.coded AreOneLine → IfSome (shown_c
 shown-one h one = one-by h.is_physical h.coded one
 
 -- ---- the last lines of answers
-abbrev HasRemark : Answer → Type 0
-HasRemark a = IsRemark a.last_line
+abbrev HasRemark : AnswerFormat → Parts → Option CodedData → Answer → Type 0
+HasRemark f c k a = IsRemark (last_line f c k a.ending)
+
+-- an answer in a text ends with a line that begins with `#`
+text-line : (f : AnswerFormat) (c : Parts) (k : Option CodedData) (e : Ending) → is_text f ≡ true → IsRemark (hash_ending c k e) → IsRemark (last_line f c k e)
+text-line Log c k e is h = h
+text-line Named c k e is h = h
+text-line Jsonl c k e is h = absurd (cc)
 
 told-remark : (h : HandData) → HasNames (named_language h.cluster) → HasFrameNames h.cluster → IfSome h.coded AreOneLine → (said : Result (Option Heard) Reason)
-    → HasRemark (heard_answer h said).1
+    → IsRemark (hash_ending h.cluster (shown_coding h) (heard_answer h said).1.ending)
 told-remark h a b one (Err why) = ending-remark h.cluster a b (codes "bad line: " ++ question_reason_text why) (live-clean why)
 told-remark h a b one (Ok None) = ending-remark h.cluster a b (codes "ok") refl
 told-remark h a b one (Ok (Some (Ask asked))) =
     value-remark h.cluster a b (shown_coding h) (shown-one h one) h.opening h.bench.past h.bench.rules.noted asked
 told-remark h a b one (Ok (Some (Make line))) =
-    let m = made h.cluster h.opening h.capacity h.bench line in verdict-remark h.cluster a b (verdict_with_meaning h.coded m.1) (entries_since h.bench.past m.0.past)
+    let m = made h.cluster h.opening h.capacity h.bench line in
+    verdict-remark h.cluster a b (shown_coding h) (verdict_with_meaning h.coded m.1) (entries_since h.bench.past m.0.past)
 
-all-remarks : (h : HandData) (c : Parts) (k : Option CodedData) → h.cluster ≡ c → h.coded ≡ k → HasNames (named_language c) → HasFrameNames c → IfSome k AreOneLine → (ls : List (List ℕ))
-    → AllByRecursion HasRemark (answers h ls)
-all-remarks h c k is so a b one [] = tt
-all-remarks h c k is so a b one (line ∷ more) =
+all-remarks : (h : HandData) (f : AnswerFormat) (physical : Bool) (c : Parts) (k : Option CodedData) → h.format ≡ f → h.is_physical ≡ physical → h.cluster ≡ c → h.coded ≡ k → is_text f ≡ true
+    → HasNames (named_language c) → HasFrameNames c → IfSome k AreOneLine → (ls : List (List ℕ)) → AllByRecursion (HasRemark f c (if physical then k else None)) (answers h ls)
+all-remarks h f physical c k form phys is so text a b one [] = tt
+all-remarks h f physical c k form phys is so text a b one (line ∷ more) =
     let begun = record h { begun = true } in
     let said = heard_as h.cluster h.coded (without_byte_order_mark h (short line)) in
     let here : IfSome h.coded AreOneLine = subst (λ (o : Option CodedData). IfSome o AreOneLine) (sym so) one in
     let kept = told-kept begun said in (
-      told-remark begun (subst (λ (x : Parts). HasNames (named_language x)) (sym is) a) (subst HasFrameNames (sym is) b) here said,
-      all-remarks (line_answer h (short line)).0 c k (kept.1 ∙ is) (kept.2 ∙ so) a b one more,
+      rw (sym is, sym so, sym phys)
+          (text-line f h.cluster (shown_coding h) _ text
+          (told-remark begun (subst (λ (x : Parts). HasNames (named_language x)) (sym is) a) (subst HasFrameNames (sym is) b) here said)),
+      all-remarks (line_answer h (short line)).0 f physical c k (kept.0 ∙ form) (kept.3 ∙ phys) (kept.1 ∙ is) (kept.2 ∙ so) text a b one more,
     )
 
 pub last-lines-are-remarks : LastLinesAreRemarks
-last-lines-are-remarks h ls t = all-remarks h h.cluster h.coded refl refl t.names t.frames (fits-one h.cluster h.coded t.coded) ls
+last-lines-are-remarks h ls t = all-remarks h h.format h.is_physical h.cluster h.coded refl refl refl refl t.of_text t.names t.frames (fits-one h.cluster h.coded t.coded) ls
 
 -- ---- the entries of answers
 none-told : (f : AnswerFormat) (c : Parts) (k : Option CodedData) (past : List LogEntry) → [] ≡ entries_text f c k past []
 none-told Log c k past = refl
 none-told Named c k past = refl
+none-told Jsonl c k past = refl
 
 answers-left : (f : AnswerFormat) (c : Parts) (k : Option CodedData) → HasNames (named_language c) → HasFrameNames c → IfSome k AreOneLine → (past : List LogEntry) (all : List Answer)
-    → AllByRecursion HasRemark all → without_remarks (answers_text f c k past all) ≡ entries_text f c k past (flat_map (λ a. a.entries) all)
-answers-left f c k a b one past [] h = none-told f c k past
-answers-left f c k a b one past (x ∷ more) h =
+    → is_text f ≡ true → AllByRecursion (HasRemark f c k) all → without_remarks (answers_text f c k past all) ≡ entries_text f c k past (flat_map (λ a. a.entries) all)
+answers-left f c k a b one past [] text h = none-told f c k past
+answers-left f c k a b one past (x ∷ more) text h =
     let told = entries_text f c k past x.entries in
     let rest = answers_text f c k (reverse x.entries ++ past) more in
-    ap without_remarks (append_assoc told x.last_line rest)
-    ∙ entries-stay f c k a b one past x.entries (x.last_line ++ rest)
-    ∙ ap (λ t. told ++ t) (remark-goes x.last_line h.0 rest ∙ answers-left f c k a b one (reverse x.entries ++ past) more h.1)
+    let last = last_line f c k x.ending in
+    ap without_remarks (append_assoc told last rest)
+    ∙ entries-stay f c k text a b one past x.entries (last ++ rest)
+    ∙ ap (λ t. told ++ t) (remark-goes last h.0 rest ∙ answers-left f c k a b one (reverse x.entries ++ past) more text h.1)
     ∙ sym (entries-append f c k past x.entries (flat_map (λ y. y.entries) more))
 
 pub transcripts-are-logs : TranscriptsAreLogs
@@ -90,7 +101,7 @@ transcripts-are-logs h ls t =
     let all = flat_map (λ x. x.entries) (answers h ls) in
     let k = shown_coding h in
     ap without_remarks (answers-are-written h ls)
-    ∙ answers-left h.format h.cluster k t.names t.frames (shown-one h (fits-one h.cluster h.coded t.coded)) h.bench.past (answers h ls) (last-lines-are-remarks h ls t)
+    ∙ answers-left h.format h.cluster k t.names t.frames (shown-one h (fits-one h.cluster h.coded t.coded)) h.bench.past (answers h ls) t.of_text (last-lines-are-remarks h ls t)
     ∙ ap (λ p. entries_text h.format h.cluster k p all) t.begins
     ∙ ap (entries_text h.format h.cluster k []) (sym (answers-are-the-log h ls ∙ ap (λ (p : List LogEntry). reverse p ++ all) t.begins))
 
@@ -104,8 +115,8 @@ closed-clean [] rest h k = k
 closed-clean (p ∷ []) rest h k = k
 closed-clean (p ∷ q ∷ ps) rest h k = (strip-clean p h.0, closed-clean (q ∷ ps) rest h.1 k)
 
-last-clean : (p : List ℕ) → HasNoLf p → AllByRecursion HasNoLf (last_line p)
+last-clean : (p : List ℕ) → HasNoLf p → AllByRecursion HasNoLf (last_of p)
 last-clean p h = each-way (AllByRecursion HasNoLf) (length p == 0) [] (strip_carriage_return p ∷ []) tt (strip-clean p h, tt)
 
 pub lines-have-no-lf : LinesHaveNoLf
-lines-have-no-lf bytes = closed-clean (pieces_at_lf bytes) (last_line (after_last_lf bytes)) (pieces-clean bytes) (last-clean (after_last_lf bytes) (tail-clean bytes))
+lines-have-no-lf bytes = closed-clean (pieces_at_lf bytes) (last_of (after_last_lf bytes)) (pieces-clean bytes) (last-clean (after_last_lf bytes) (tail-clean bytes))

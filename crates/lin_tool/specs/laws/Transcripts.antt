@@ -1,5 +1,5 @@
 -- Transcripts of lines on a bench in hand, as texts.
-use Rattle.std.specs.Prelude.{◌≡◌, ◌≤◌, ℕ, ◌==◌, Bool, false, not, filter, flat_map, List, [], ◌∷◌}
+use Rattle.std.specs.Prelude.{◌≡◌, ◌≤◌, ℕ, ◌==◌, Bool, true, false, not, filter, flat_map, List, [], ◌∷◌}
 use Rattle.std.specs.Prelude.{◌++◌, length, map, Ok, reverse, slice_index, IfSome}
 use Rattle.std.specs.List.{All, AllByRecursion}
 use Rattle.std.specs.Str.Lines.{strip_carriage_return}
@@ -14,7 +14,7 @@ use Rattle.lin_bench.specs.Plain.{HasNoMarks, SaysSteps}
 use Rattle.lin_live.specs.Answers.{answers}
 use Rattle.lin_live.specs.Lines.{HasNoLf, but_last, lines, pieces_at_lf, after_last_lf}
 use Rattle.lin_live.specs.Play.{in_hand_of, empty_run}
-use Rattle.lin_live.specs.Told.{HandData, entries_text, reply, shown_coding}
+use Rattle.lin_live.specs.Told.{HandData, entries_text, is_text, last_line, reply, shown_coding}
 use Rattle.lin_live.specs.Transcript.{state_after, most_bytes, transcript}
 use Rattle.lin_live.specs.declared.answer_format.AnswerFormat.TheVariants.{Log}
 use Rattle.lin_tool.specs.laws.NamedScripts.{AreOneLine, HasFrameNames}
@@ -38,9 +38,10 @@ pub record FitsCluster (c : Parts) (k : CodedData) : Type 0 where
   pub one_line : AreOneLine k
   pub no_marks : HasNoMarks c
 
--- names are words, and a bench in hand that begins has answered lines, bad ones too, without an LF
--- in them
+-- names are words, and a bench in hand that begins has answered lines in texts, bad ones too, without
+-- an LF in them
 pub record IsTranscript (h : HandData) (ls : List (List ℕ)) : Type 0 where
+  pub of_text : is_text h.format ≡ true
   pub names : HasNames (named_language h.cluster)
   pub frames : HasFrameNames h.cluster
   pub coded : IfSome h.coded (FitsCluster h.cluster)
@@ -89,7 +90,7 @@ TranscriptsAreInputs = (h : HandData) (ls : List (List ℕ))
     → (log_after (anew h) (lines (transcript reply h ls)) ≡ log_after h ls)
     × ((state_after reply (anew h) (lines (transcript reply h ls))).was_bad ≡ false)
 
--- the last line of each answer is one line, which begins with `#`
+-- the last line of each answer in a text is one line, which begins with `#`
 pub record IsRemark (t : List ℕ) : Type 0 where
   pub words : List ℕ
   pub has_no_lf : HasNoLf words
@@ -97,7 +98,7 @@ pub record IsRemark (t : List ℕ) : Type 0 where
 
 abbrev pub LastLinesAreRemarks : Type 0
 LastLinesAreRemarks = (h : HandData) (ls : List (List ℕ)) → IsTranscript h ls
-    → AllByRecursion (λ a. IsRemark a.last_line) (answers h ls)
+    → AllByRecursion (λ a. IsRemark (last_line h.format h.cluster (shown_coding h) a.ending)) (answers h ls)
 
 -- the lines of an input have no LF in them
 abbrev pub LinesHaveNoLf : Type 0

@@ -6,10 +6,8 @@ ghost use Rattle.std.specs.Prelude.{Some};
 use crate::clusters::{expect_bytes, run};
 use crate::samples;
 use lin_core::Core;
-use lin_export::{
-    ExportFault, Opening, write_csv, write_first_slots, write_jsonl, write_named, write_pcap,
-    write_vcd,
-};
+use lin_export::{ExportFault, write_csv, write_first_slots, write_named, write_pcap, write_vcd};
+use lin_tool::{Format, Shown, write_shown};
 use std::alloc::{AllocError, Global};
 use std::io::{Error, ErrorKind, Write};
 use std::process::Abort;
@@ -93,17 +91,17 @@ fn write_form<W: Write>(
     match form {
         Form::Named => write_named(alloc, cluster, None, log, writer),
         Form::Csv => write_csv(alloc, cluster, None, log, writer),
-        Form::Jsonl => write_jsonl(
-            alloc,
-            cluster,
-            None,
-            Opening {
+        Form::Jsonl => {
+            let shown = Shown {
+                format: Format::Jsonl("-"),
+                coded: None,
                 table: 0,
                 capacity: 16,
-            },
-            log,
-            writer,
-        ),
+                judgements: &[],
+                script: None,
+            };
+            write_shown(alloc, &shown, core, writer)
+        }
         Form::Pcap => write_pcap(alloc, cluster, log, writer),
         Form::Vcd => write_vcd(alloc, cluster, None, log, writer),
         Form::FirstSlots => write_first_slots(alloc, cluster, log, writer),

@@ -1,0 +1,53 @@
+use Rattle.std.proofs.Common.{◌≡◌, ◌∙◌, Bool, true, false, List, [], ℕ, Option, Some, None, refl, sym, ap, drop}
+use Rattle.std.specs.Prelude.{if◌then◌else◌}
+use Rattle.std.specs.Option.{option_map_or}
+use Rattle.lin_parts.specs.declared.parts.Parts.{Parts}
+use Rattle.lin_core.specs.declared.log.LogEntry.{LogEntry}
+use Rattle.lin_log.specs.Words.{spaced_word}
+use Rattle.lin_text.proofs.Growing.{grows-nothing}
+use Rattle.lin_export.specs.Jsonl.{unmet_line}
+use Rattle.lin_export.proofs.Puttings.{puts-all, puts-some}
+use Rattle.lin_bench.specs.Played.{is_unmet}
+use Rattle.lin_bench.specs.Texts.{found_text, what_text}
+use Rattle.lin_bench.specs.declared.got.Judgement.{Judgement}
+use Rattle.lin_tool.specs.Objects.{check_object}
+use Rattle.lin_tool.proofs.objects.put_check.Goals as goal
+
+abbrev text_or_none : Option (List ℕ) → List ℕ
+text_or_none o = option_map_or (λ text. text) o []
+
+behind-space : (o : Option (List ℕ)) → drop 1 (option_map_or spaced_word o []) ≡ text_or_none o
+behind-space None = refl
+behind-space (Some text) = refl
+
+unmet-object : (c : Parts) (script : List ℕ) (past : List LogEntry) (j : Judgement) (what got : List ℕ) → is_unmet j.judged ≡ true
+    → what ≡ what_text c j.judged → got ≡ text_or_none (found_text c j.judged) → unmet_line c past script j.line what got ≡ check_object c script past j
+unmet-object c script past j what got h e f =
+    ap (λ w. unmet_line c past script j.line w got) e ∙ ap (λ t. unmet_line c past script j.line (what_text c j.judged) t) f
+    ∙ ap (λ (b : Bool). if b then unmet_line c past script j.line (what_text c j.judged) (text_or_none (found_text c j.judged)) else []) (sym h)
+
+met-object : (c : Parts) (script : List ℕ) (past : List LogEntry) (j : Judgement) → is_unmet j.judged ≡ false → [] ≡ check_object c script past j
+met-object c script past j h =
+    ap (λ (b : Bool). if b then unmet_line c past script j.line (what_text c j.judged) (text_or_none (found_text c j.judged)) else []) (sym h)
+
+pub returns-then-not-is_unmet : goal.returns-then-not-is_unmet
+returns-then-not-is_unmet g c = λ past told.
+    puts-all (met-object c.args.cluster.now c.args.script.now past c.args.judgement.now (sym c.is_unmet.ensures ∙ c.if-not-is_unmet.true)) (grows-nothing c.args.out.now)
+
+pub returns-in_err-what : goal.returns-in_err-what
+returns-in_err-what g c = λ past told.
+    puts-some (check_object c.args.cluster.now c.args.script.now past c.args.judgement.now) c.from_residual.ensures.0 refl (grows-nothing c.args.out.now)
+
+pub returns-in_err-got : goal.returns-in_err-got
+returns-in_err-got g c = λ past told.
+    puts-some (check_object c.args.cluster.now c.args.script.now past c.args.judgement.now) c.from_residual-in_err-got.ensures.0 refl (grows-nothing c.args.out.now)
+
+pub returns : goal.returns
+returns g c = λ past told.
+    let x = c.args.cluster.now in
+    let j = c.args.judgement.now in
+    puts-all
+    (unmet-object x c.args.script.now past j _ _ (sym c.is_unmet.ensures ∙ c.if-not-is_unmet.false)
+    (c.without_space.ensures ∙ ap (drop 1) (c.as_slice.ensures.value ∙ c.in_ok-what.ensures))
+    (c.without_space-2.ensures ∙ ap (drop 1) (c.as_slice-2.ensures.value ∙ c.in_ok-got.ensures) ∙ behind-space (found_text x j.judged)))
+    (c.put_unmet.ensures x past told)

@@ -1,0 +1,47 @@
+-- The objects of a run, with the failed checks of its script.
+use Rattle.std.specs.Prelude.{ℕ, if◌then◌else◌, List, [], ◌∷◌, ◌++◌, drop, length, max, min, reverse, take}
+use Rattle.std.specs.Prelude.{Option}
+use Rattle.std.specs.List.{count_by}
+use Rattle.std.specs.Option.{option_map_or}
+use Rattle.lin_parts.specs.declared.parts.Parts.{Parts}
+use Rattle.lin_core.specs.declared.log.LogEntry.{LogEntry}
+use Rattle.lin_values.specs.Coded.{CodedData}
+use Rattle.lin_bench.specs.Played.{is_unmet}
+use Rattle.lin_bench.specs.Texts.{found_text, what_text}
+use Rattle.lin_bench.specs.declared.got.Judgement.{Judgement}
+use Rattle.lin_export.specs.Jsonl.{end_line, objects_of, run_line, unmet_line}
+use Rattle.lin_export.specs.declared.jsonl.Counts.{Counts}
+use Rattle.lin_tool.specs.Page.{events_so, is_lost_event, is_refusal}
+use Rattle.lin_tool.specs.Tally.{waiting_in}
+
+-- a failed check of a script of this name, made after a history
+abbrev pub check_object : Parts → List ℕ → List LogEntry → Judgement → List ℕ
+check_object c script past j =
+    if is_unmet j.judged
+    then unmet_line c past script j.line (what_text c j.judged)
+    (option_map_or (λ text. text) (found_text c j.judged) [])
+    else []
+
+-- the objects of the entries from one on, and each failed check after the entries that the log had then
+abbrev pub checked_objects : Parts → Option CodedData → List ℕ → List LogEntry → ℕ → List Judgement → List ℕ
+checked_objects c k script log from [] = objects_of c k (reverse (take from log)) (drop from log)
+checked_objects c k script log from (j ∷ js) =
+    let end = max (min j.entries (length log)) from
+    in objects_of c k (reverse (take from log)) (drop from (take end log))
+    ++ (check_object c script (reverse (take end log)) j ++ checked_objects c k script log end js)
+
+-- a run in numbers
+abbrev pub counts_of : Parts → List LogEntry → List Judgement → Counts
+counts_of c log js = record {
+  expected = length js;
+  unmet = count_by (λ (j : Judgement). is_unmet j.judged) js;
+  refused = count_by (λ (e : LogEntry). is_refusal e.reply) log;
+  lost = events_so is_lost_event log;
+  waiting = waiting_in c (reverse log);
+}
+
+-- the objects of a run that opened with this table and this capacity of the queues
+abbrev pub objects : Parts → Option CodedData → ℕ → ℕ → List ℕ → List LogEntry → List Judgement → List ℕ
+objects c k opening capacity script log js =
+    run_line c opening capacity
+    ++ (checked_objects c k script log 0 js ++ end_line c (reverse log) (counts_of c log js))
