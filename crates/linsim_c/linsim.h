@@ -24,8 +24,9 @@
  * 4,294,967,295 entries of a log. A line of a bench script runs 1,000,000 slots at most. The log of a handle grows until the
  * handle is closed; a bench also keeps its newest answer.
  *
- * Stack: in the tests, linsim_replay, linsim_open, linsim_open_bench and linsim_line of a bench script used less than 160 KiB,
- * and each other call less than 80 KiB, in the proved and in the unproved library.
+ * Stack: in the tests, linsim_replay, linsim_open and linsim_open_bench used less than 160 KiB, linsim_line of a bench script less
+ * than 320 KiB, and each other call less than 80 KiB, in the unproved library. The proved one used no more where it was measured,
+ * which is each call but linsim_line of a bench script.
  *
  * Versions: names, arguments, values, layouts and the text of logs stay the same in all libraries with the soname
  * liblinsim.so.0. Later versions may add functions, statuses, flags, and members at the end of linsim_bench_settings.
@@ -86,10 +87,11 @@ typedef struct linsim_settings {
     uint16_t table;  /* the schedule table at the beginning, by its number from 0 */
 } linsim_settings;
 
-/* How the answers of a bench report entries: settings.format. 2 is reserved for JSON Lines. */
+/* How the answers of a bench report entries: settings.format. */
 enum {
-    LINSIM_FORMAT_LOG = 0,  /* by numbers, as the log */
-    LINSIM_FORMAT_NAMED = 1 /* with names, as `--to named` */
+    LINSIM_FORMAT_LOG = 0,   /* by numbers, as the log */
+    LINSIM_FORMAT_NAMED = 1, /* with names, as `--to named` */
+    LINSIM_FORMAT_JSONL = 2  /* as JSON Lines, as `--to jsonl`; the last line is an object, too */
 };
 
 /* The bits of linsim_bench_settings.flags. */
@@ -107,7 +109,7 @@ typedef struct linsim_bench_settings {
     size_t size;     /* the bytes of the struct that the caller has, 8 to 4,096 */
     size_t capacity; /* maximum number of waiting messages of a host, 1 to 1,024; 0: 16 */
     uint32_t flags;  /* the sum of LINSIM_FIELD, LINSIM_PHYSICAL and LINSIM_CONFIGURATION, as far as wanted, or 0 */
-    uint16_t format; /* LINSIM_FORMAT_LOG or LINSIM_FORMAT_NAMED */
+    uint16_t format; /* LINSIM_FORMAT_LOG, LINSIM_FORMAT_NAMED or LINSIM_FORMAT_JSONL */
     uint16_t table;  /* the schedule table at the beginning, by its number from 0 */
 } linsim_bench_settings;
 

@@ -29,23 +29,27 @@ static uint8_t *read_all(FILE *file, size_t *length) {
     exit(100);
 }
 
+static int begins(const uint8_t *line, size_t length, const char *words) {
+    return length >= strlen(words) && memcmp(line, words, strlen(words)) == 0;
+}
+
 /* The number of an answer, by its last line. */
 static uint32_t ending_of(const uint8_t *answer, size_t length) {
     static const struct {
-        const char *words;
+        const char *words, *object;
         uint32_t number;
-    } ends[] = {{"# ok\n", LINSIM_END_OK},
-                {"# is ", LINSIM_END_IS},
-                {"# refused ", LINSIM_END_REFUSED},
-                {"# expected ", LINSIM_END_EXPECTED},
-                {"# bad line: ", LINSIM_END_BAD_LINE},
-                {"# slot limit\n", LINSIM_END_SLOT_LIMIT}};
+    } ends[] = {{"# ok\n", "{\"type\":\"answer\",\"end\":\"ok\"}\n", LINSIM_END_OK},
+                {"# is ", "{\"type\":\"answer\",\"end\":\"is\",", LINSIM_END_IS},
+                {"# refused ", "{\"type\":\"answer\",\"end\":\"refused\",", LINSIM_END_REFUSED},
+                {"# expected ", "{\"type\":\"answer\",\"end\":\"expected\",", LINSIM_END_EXPECTED},
+                {"# bad line: ", "{\"type\":\"answer\",\"end\":\"bad line\",", LINSIM_END_BAD_LINE},
+                {"# slot limit\n", "{\"type\":\"answer\",\"end\":\"slot limit\"}\n", LINSIM_END_SLOT_LIMIT}};
     size_t from = length, n;
     expect(length > 0 && answer[length - 1] == '\n', "an answer has no last line");
     for (from = length - 1; from > 0 && answer[from - 1] != '\n'; from--)
         ;
     for (n = 0; n < sizeof ends / sizeof *ends; n++)
-        if (length - from >= strlen(ends[n].words) && memcmp(answer + from, ends[n].words, strlen(ends[n].words)) == 0)
+        if (begins(answer + from, length - from, ends[n].words) || begins(answer + from, length - from, ends[n].object))
             return ends[n].number;
     return 0;
 }

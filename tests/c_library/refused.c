@@ -306,6 +306,7 @@ int main(int argc, char **argv) {
     opened_bench(LINSIM_CONFIGURATION);
     bench_lines(LINSIM_FORMAT_LOG);
     bench_lines(LINSIM_FORMAT_NAMED);
+    bench_lines(LINSIM_FORMAT_JSONL);
     long_message();
     printf("%lu passed, %lu failed\n", passed, failed);
     return failed != 0;

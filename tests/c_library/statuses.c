@@ -181,7 +181,7 @@ static uint32_t opened_with(const void *settings, size_t size) {
 /* The sizes of settings: shorter ones have the defaults for what they don't have, and longer ones have no more bytes but 0. */
 static void sizes(void) {
     enum { KNOWN = sizeof(linsim_bench_settings), MOST = 4096 };
-    static const linsim_bench_settings wrong = {0, 5000, 8, 2, 1};
+    static const linsim_bench_settings wrong = {0, 5000, 8, 3, 1};
     static uint8_t settings[MOST + 1];
     size_t size;
     for (size = 0; size < 8; size++)
@@ -240,7 +240,7 @@ static void benches_opened(void) {
     settings.flags = 8;
     CHECK(is_left(opened(&handle, ldf, ldf_length, &settings), LINSIM_UNKNOWN_FLAGS, 0, 0, 0, 0));
     settings.flags = settings.capacity = 0;
-    settings.format = 2;
+    settings.format = 3;
     CHECK(is_left(opened(&handle, bytes("x"), 1, &settings), LINSIM_UNKNOWN_FORMAT, 0, 0, 0, 0));
     settings.format = 65535;
     CHECK(is_left(opened(&handle, ldf, ldf_length, &settings), LINSIM_UNKNOWN_FORMAT, 0, 0, 0, 0));
@@ -387,7 +387,7 @@ static void limits(void) {
     CHECK(LINSIM_IS_OPEN == 12 && LINSIM_IS_CLOSED == 13 && LINSIM_BAD_SIZE == 14 && LINSIM_UNKNOWN_FORMAT == 15);
     CHECK(LINSIM_END_OK == 1 && LINSIM_END_IS == 2 && LINSIM_END_REFUSED == 3 && LINSIM_END_EXPECTED == 4);
     CHECK(LINSIM_END_BAD_LINE == 5 && LINSIM_END_SLOT_LIMIT == 6);
-    CHECK(LINSIM_FORMAT_LOG == 0 && LINSIM_FORMAT_NAMED == 1 && LINSIM_FIELD == 1 && LINSIM_PHYSICAL == 2);
+    CHECK(LINSIM_FORMAT_LOG == 0 && LINSIM_FORMAT_NAMED == 1 && LINSIM_FORMAT_JSONL == 2 && LINSIM_FIELD == 1 && LINSIM_PHYSICAL == 2);
     CHECK(LINSIM_CONFIGURATION == 4);
 }
 

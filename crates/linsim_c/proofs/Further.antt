@@ -1,6 +1,6 @@
--- Settings of which all bytes have a meaning.
+-- What is left after all bytes of a list.
 use Rattle.std.proofs.Common.{◌≡◌, ℕ, ◌≤◌, List, [], drop, length, sym}
 use Rattle.std.proofs.Common.{drop_of_length-le}
 
-pub none_further : (bytes : List ℕ) → length bytes ≤ 24 → [] ≡ drop 24 bytes
-none_further bytes all = sym (drop_of_length-le bytes all)
+pub none_further : (bytes : List ℕ) → (from : ℕ) → length bytes ≤ from → [] ≡ drop from bytes
+none_further bytes from all = sym (drop_of_length-le bytes all)

@@ -1,5 +1,5 @@
 -- Lines of bench scripts, answered as `live` answers them.
-use Rattle.std.specs.Prelude.{◌≡◌, ℕ, ◌==◌, nat_eq, Bool, if◌then◌else◌, List, [], Option, codes}
+use Rattle.std.specs.Prelude.{◌≡◌, ℕ, ◌==◌, ◌||◌, nat_eq, Bool, if◌then◌else◌, List, [], Option, codes, drop}
 use Rattle.std.specs.Prelude.{Result, Ok, Err}
 use Rattle.std.specs.List.{find, slice_split, starts_with}
 use Rattle.std.specs.Option.{unwrap_or}
@@ -16,25 +16,41 @@ pub record AnsweringBench : Type 0 where
   pub hand : HandData
   pub answer : List ℕ
 
--- ---- how an answer ended: by its last line, the only one that begins with #
+-- ---- how an answer ended: by its last line, the only one that begins as a text or as an object that says it
 abbrev pub line_begins : List ℕ → List ℕ → Bool
 line_begins words line = starts_with nat_eq line words
 
-abbrev pub hash_line_in : List ℕ → Option (List ℕ)
-hash_line_in answer = find (line_begins (codes "#")) (slice_split (λ b. b == 10) answer)
+abbrev pub text_mark : List ℕ
+text_mark = codes "# "
+
+abbrev pub object_mark : List ℕ
+object_mark = codes "{\"type\":\"answer\",\"end\":\""
+
+abbrev pub says_end : List ℕ → Bool
+says_end line = line_begins text_mark line || line_begins object_mark line
+
+abbrev pub end_line_in : List ℕ → Option (List ℕ)
+end_line_in answer = find says_end (slice_split (λ b. b == 10) answer)
 
 abbrev pub last_line_of_answer : List ℕ → List ℕ
-last_line_of_answer answer = unwrap_or (hash_line_in answer) []
+last_line_of_answer answer = unwrap_or (end_line_in answer) []
+
+-- the line after its mark
+abbrev pub end_said : List ℕ → List ℕ
+end_said line = drop (if line_begins text_mark line then 2 else 24) line
+
+abbrev pub ending_of_words : List ℕ → ℕ
+ending_of_words said =
+    if line_begins (codes "ok") said then 1
+    else if line_begins (codes "is") said then 2
+    else if line_begins (codes "refused") said then 3
+    else if line_begins (codes "expected") said then 4
+    else if line_begins (codes "bad line") said then 5
+    else if line_begins (codes "slot limit") said then 6
+    else 0
 
 abbrev pub ending_in : List ℕ → ℕ
-ending_in line =
-    if line_begins (codes "# ok") line then 1
-    else if line_begins (codes "# is ") line then 2
-    else if line_begins (codes "# refused ") line then 3
-    else if line_begins (codes "# expected ") line then 4
-    else if line_begins (codes "# bad line: ") line then 5
-    else if line_begins (codes "# slot limit") line then 6
-    else 0
+ending_in line = ending_of_words (end_said line)
 
 abbrev pub ending_number : List ℕ → ℕ
 ending_number answer = ending_in (last_line_of_answer answer)

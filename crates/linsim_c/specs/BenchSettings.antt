@@ -4,7 +4,7 @@ use Rattle.std.specs.Prelude.{◌≡◌, ◌<◌, ◌≤◌, ◌+◌, ◌*◌, �
 use Rattle.std.specs.Prelude.{if◌then◌else◌, List, drop, length, slice_index_or, take, Result, Ok, Err}
 use Rattle.std.specs.List.{list_any}
 use Rattle.lin_live.specs.declared.answer_format.AnswerFormat.{AnswerFormat}
-use Rattle.lin_live.specs.declared.answer_format.AnswerFormat.TheVariants.{Log, Named}
+use Rattle.lin_live.specs.declared.answer_format.AnswerFormat.TheVariants.{Log, Named, Jsonl}
 use Rattle.linsim_c.specs.declared.bench_settings.BenchSettings.{BenchSettings}
 use Rattle.linsim_c.specs.declared.fault.Fault.{Fault}
 use Rattle.linsim_c.specs.declared.fault.Fault.TheVariants.{BadSize, UnknownFlags, BadCapacity}
@@ -58,7 +58,7 @@ abbrev pub capacity_of : ℕ → ℕ
 capacity_of number = if number == 0 then 16 else number
 
 abbrev pub format_of : ℕ → AnswerFormat
-format_of number = if number == 0 then Log else Named
+format_of number = if number == 0 then Log else if number == 1 then Named else Jsonl
 
 abbrev pub settings_in : List ℕ → BenchSettings
 settings_in bytes = record {
@@ -73,7 +73,7 @@ settings_in bytes = record {
 -- each of them has a meaning
 abbrev pub AreSound : List ℕ → Type 0
 AreSound bytes =
-    HasSize bytes × (word_at bytes 16 ≤ 7) × (number_at bytes 8 ≤ 1024) × (half_at bytes 20 ≤ 1)
+    HasSize bytes × (word_at bytes 16 ≤ 7) × (number_at bytes 8 ≤ 1024) × (half_at bytes 20 ≤ 2)
 
 -- why settings aren't read, in the order in which it is told
 abbrev pub SettingsFaults : Fault → List ℕ → Type 0
@@ -82,7 +82,7 @@ SettingsFaults UnknownFlags bytes = HasSize bytes × (7 < word_at bytes 16)
 SettingsFaults BadCapacity bytes =
     HasSize bytes × (word_at bytes 16 ≤ 7) × (1024 < number_at bytes 8)
 SettingsFaults UnknownFormat bytes =
-    HasSize bytes × (word_at bytes 16 ≤ 7) × (number_at bytes 8 ≤ 1024) × (1 < half_at bytes 20)
+    HasSize bytes × (word_at bytes 16 ≤ 7) × (number_at bytes 8 ≤ 1024) × (2 < half_at bytes 20)
 SettingsFaults _ bytes = ⊥
 
 abbrev pub ReadsSettings : Result BenchSettings Fault → List ℕ → Type 0

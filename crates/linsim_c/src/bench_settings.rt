@@ -81,15 +81,15 @@ pub(crate) fn read_size(first: &[u8]) -> usize
     }
 }
 
-/// The bytes of settings that have no meaning.
+/// The bytes from a place on; none if there are no more than that.
 #[tactic(auto, using(crate::proofs::Further::none_further))]
-fn further(bytes: &[u8]) -> &[u8]
-    ensures { result.now ≡ drop 24 bytes.now }
+pub(crate) fn after(bytes: &[u8], from: usize) -> &[u8]
+    ensures { result.now ≡ drop from bytes.now }
 {
-    if bytes.len() <= KNOWN {
+    if bytes.len() <= from {
         b""
     } else {
-        &bytes[KNOWN..]
+        &bytes[from..]
     }
 }
 
@@ -97,7 +97,7 @@ fn further(bytes: &[u8]) -> &[u8]
 fn has_more(bytes: &[u8]) -> bool
     ensures { result ≡ has_more bytes.now }
 {
-    further(bytes).iter().any(|byte| *byte != 0)
+    after(bytes, KNOWN).iter().any(|byte| *byte != 0)
 }
 
 /// The flags of settings, bit by bit.
@@ -150,12 +150,13 @@ fn capacity_of(number: usize) -> Result<usize, Fault>
 /// # Errors
 /// `UnknownFormat`.
 fn format_of(number: u16) -> Result<AnswerFormat, Fault>
-    ensures value { IfOk result (λ said. (number ≤ 1) × (said ≡ format_of number)) }
-    ensures unknown { IfErr result (λ why. (why ≡ NoFormat) × (1 < number)) }
+    ensures value { IfOk result (λ said. (number ≤ 2) × (said ≡ format_of number)) }
+    ensures unknown { IfErr result (λ why. (why ≡ NoFormat) × (2 < number)) }
 {
     match number {
         0 => Ok(AnswerFormat::Log),
         1 => Ok(AnswerFormat::Named),
+        2 => Ok(AnswerFormat::Jsonl),
         _ => Err(Fault::UnknownFormat),
     }
 }

@@ -1,9 +1,10 @@
 //! A bench in hand that keeps its newest answer.
 
 ghost use Rattle.std.specs.Prelude.{◌≡◌, ◌≤◌, [], IfSome, length, option_map};
-ghost use Rattle.linsim_c.specs.Answering.{AnswersOn, ending_in, heard_line, last_line_of_answer, hash_line_in};
+ghost use Rattle.linsim_c.specs.Answering.{AnswersOn, end_line_in, end_said, ending_in, heard_line, last_line_of_answer, says_end};
 ghost use Rattle.linsim_c.specs.Writing.{Writes};
 
+use crate::bench_settings::after;
 use crate::entry_texts::put;
 use crate::fault::Fault;
 use crate::line_call::LONGEST_LINE;
@@ -29,23 +30,47 @@ impl Model for SessionBench {
     ghost view = { λ b. record { hand = b.hand; answer = b.answer.items } };
 }
 
-/// The first line of an answer that begins with `#`, without its LF.
-fn remark(answer: &[u8]) -> Option<&[u8]>
-    ensures { option_map (λ l. l.now) result ≡ hash_line_in answer.now }
+/// What the last line of an answer begins with, as text.
+const TEXT_MARK: &[u8] = b"# ";
+
+/// What the last line of an answer begins with, as an object.
+const OBJECT_MARK: &[u8] = b"{\"type\":\"answer\",\"end\":\"";
+
+/// Whether a line says how an answer ended.
+fn says_end(line: &[u8]) -> bool
+    ensures { result ≡ says_end line.now }
+{
+    line.starts_with(TEXT_MARK) || line.starts_with(OBJECT_MARK)
+}
+
+/// The line of an answer that says how it ended, without its LF.
+fn end_line(answer: &[u8]) -> Option<&[u8]>
+    ensures { option_map (λ l. l.now) result ≡ end_line_in answer.now }
 {
     answer
         .split(|byte| *byte == b'\n')
-        .find(|line| line.starts_with(b"#"))
+        .find(|line| says_end(line))
 }
 
-/// The last line of an answer, without its LF: the only one that begins with `#`. Empty if there is
+/// The last line of an answer, without its LF: the only one that says how it ended. Empty if there is
 /// none.
 fn last_line(answer: &[u8]) -> &[u8]
     ensures { result.now ≡ last_line_of_answer answer.now }
 {
-    match remark(answer) {
+    match end_line(answer) {
         Some(line) => line,
         None => b"",
+    }
+}
+
+/// What the last line of an answer says after its mark.
+fn end_said(last: &[u8]) -> &[u8]
+    ensures { result.now ≡ end_said last.now }
+{
+    if last.starts_with(TEXT_MARK) {
+        after(last, TEXT_MARK.len())
+    } else {
+        after(last, OBJECT_MARK.len())
     }
 }
 
@@ -53,17 +78,18 @@ fn last_line(answer: &[u8]) -> &[u8]
 fn ending(last: &[u8]) -> u32
     ensures { result ≡ ending_in last.now }
 {
-    if last.starts_with(b"# ok") {
+    let said = end_said(last);
+    if said.starts_with(b"ok") {
         1
-    } else if last.starts_with(b"# is ") {
+    } else if said.starts_with(b"is") {
         2
-    } else if last.starts_with(b"# refused ") {
+    } else if said.starts_with(b"refused") {
         3
-    } else if last.starts_with(b"# expected ") {
+    } else if said.starts_with(b"expected") {
         4
-    } else if last.starts_with(b"# bad line: ") {
+    } else if said.starts_with(b"bad line") {
         5
-    } else if last.starts_with(b"# slot limit") {
+    } else if said.starts_with(b"slot limit") {
         6
     } else {
         0
