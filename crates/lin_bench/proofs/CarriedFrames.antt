@@ -1,25 +1,11 @@
 -- Slots, and the frames that they carry.
-use Rattle.std.proofs.Common.{◌≡◌, ◌∙◌, ℕ, ◌+◌, ◌-◌, ◌<◌, ◌≤◌, ◌==◌, ◌||◌, Bool, true, false, cond, List, [], ◌∷◌, ◌++◌, Option, Some, None, refl, sym, ap, arith, get_or, length, map, reverse, take}
+use Rattle.std.proofs.Common.{◌≡◌, ◌∙◌, ℕ, ◌-◌, ◌==◌, ◌||◌, Bool, List, [], ◌∷◌, None, refl, ap, map}
 use Rattle.std.specs.Prelude.{find}
 use Rattle.std.specs.List.{list_any}
-use Rattle.std.proofs.lemmas.List.{reverse-append, take_more}
-use Rattle.lin_parts.specs.Cluster.{event_of, frame_of}
+use Rattle.lin_parts.specs.Cluster.{frame_of}
 use Rattle.lin_parts.specs.declared.parts.Parts.{Parts}
-use Rattle.lin_core.specs.History.{Slot, did, header_is, is_finish, open_slot}
-use Rattle.lin_core.specs.declared.log.LogEntry.{LogEntry}
+use Rattle.lin_core.specs.History.{Slot, header_is}
 use Rattle.lin_bench.specs.Carried.{shape}
-use Rattle.lin_bench.specs.Verdicts.{last_slot}
-
--- ---- entries from the newest on
-pub newest-first : (es : List LogEntry) (i : ℕ) (e : LogEntry) → i < length es → e ≡ get_or es i e → reverse (take (i + 1) es) ≡ e ∷ reverse (take i es)
-newest-first es i e h is =
-    ap reverse (take_more es i e h ∙ ap (λ x. take i es ++ x ∷ []) (sym is)) ∙ reverse-append (take i es) (e ∷ [])
-
-pub finished-here : (e : LogEntry) (past : List LogEntry) → did is_finish e ≡ true → last_slot (e ∷ past) ≡ open_slot past
-finished-here e past is = rw is refl
-
-pub finished-before : (e : LogEntry) (past : List LogEntry) → did is_finish e ≡ false → last_slot (e ∷ past) ≡ last_slot past
-finished-before e past is = rw is refl
 
 -- ---- frames by their publishers
 find-same : (p q : ℕ → Bool) (xs : List ℕ) → ((x : ℕ) → p x ≡ q x) → find p xs ≡ find q xs

@@ -1,11 +1,10 @@
 -- What is kept of a slot that is open at a place in a log.
-use Rattle.std.specs.Prelude.{◌≡◌, ◌<◌, ℕ, Bool, true, false, List, length, map, reverse, take}
-use Rattle.std.specs.Prelude.{slice_index_or, Option, option_map, Some, None}
-use Rattle.lin_core.specs.History.{Slot, did, open_slot}
+use Rattle.std.specs.Prelude.{◌≡◌, ℕ, Bool, true, false, List, map}
+use Rattle.std.specs.Prelude.{Option, option_map}
+use Rattle.lin_core.specs.History.{Slot, open_slot}
 use Rattle.lin_core.specs.declared.log.LogEntry.{LogEntry}
 use Rattle.lin_core.specs.declared.step.Step.{Step}
 use Rattle.lin_core.specs.declared.step.Step.TheVariants.{Open}
-use Rattle.lin_bench.specs.Verdicts.{last_slot}
 use Rattle.lin_bench.specs.declared.carried.OpenSlot.{OpenSlot}
 
 -- the table, the entry, the header, and the nodes that put responses
@@ -38,8 +37,3 @@ KeepsOpenSlot kept past = option_map shape_in kept ≡ option_map shape (open_sl
 abbrev pub is_open_step : Step → Bool
 is_open_step Open = true
 is_open_step step = false
-
--- the slot that ended last was open after so many entries
-abbrev pub EndsAt : List LogEntry → Option ℕ → Type 0
-EndsAt es None = last_slot (reverse es) ≡ None
-EndsAt es (Some i) = (i < length es) × (last_slot (reverse es) ≡ open_slot (reverse (take i es)))

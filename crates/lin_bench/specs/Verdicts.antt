@@ -12,7 +12,7 @@ use Rattle.lin_parts.specs.Cluster.{line_of, nodes}
 use Rattle.lin_parts.specs.declared.parts.Entry.{Entry}
 use Rattle.lin_parts.specs.declared.parts.Entry.TheVariants.{MasterReq, SlaveResp, Fixed}
 use Rattle.lin_parts.specs.declared.parts.Parts.{Parts}
-use Rattle.lin_core.specs.History.{Slot, asleep, did, events, is_finish, open_slot, time}
+use Rattle.lin_core.specs.History.{Slot, asleep, events, open_slot, time}
 use Rattle.lin_core.specs.Links.{waiting}
 use Rattle.lin_core.specs.Signals.{carried_by, value_at}
 use Rattle.lin_core.specs.Slots.{next_due}
@@ -28,6 +28,7 @@ use Rattle.lin_core.specs.declared.log.LogEntry.{LogEntry}
 use Rattle.lin_core.specs.declared.reply.Refusal.{Refusal}
 use Rattle.lin_core.specs.declared.reply.Reply.{Reply}
 use Rattle.lin_core.specs.declared.reply.Reply.TheVariants.{Done, Refused}
+use Rattle.lin_log.specs.LastFinish.{before_last_finish}
 use Rattle.lin_bench.specs.Meant.{is_among_values}
 use Rattle.lin_bench.specs.Rules.{fits}
 use Rattle.lin_bench.specs.Slots.{pending}
@@ -162,8 +163,7 @@ first_loss past taken which = loss_after which taken [] (all_events past)
 
 -- ---- what the last slot that ended carried
 abbrev pub last_slot : List LogEntry → Option Slot
-last_slot [] = None
-last_slot (e ∷ past) = if did is_finish e then open_slot past else last_slot past
+last_slot past = option_map_or open_slot (before_last_finish past) None
 
 abbrev pub carried_for : Parts → Entry → Slot → Option Carried
 carried_for c MasterReq s = Some RequestFrame

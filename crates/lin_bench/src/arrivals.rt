@@ -12,9 +12,10 @@ ghost use Rattle.lin_bench.specs.Searches.{before};
 ghost use Rattle.lin_bench.specs.Verdicts.{last_time, times_taken};
 
 use crate::expected::Since;
-use crate::replies::{is_done, is_finish};
+use crate::replies::is_done;
 use crate::taken::{EventKind, LogPlace, events_of, skipped};
 use lin_core::{Event, Log, LogEntry, Step};
+use lin_log::finishes;
 use lin_parts::Cluster;
 
 /// What a walk back over the entries of a log keeps: the time in microseconds of the slots that ended
@@ -84,13 +85,6 @@ fn tells(entry: &LogEntry, earlier: EarlierMessages) -> bool
     ensures { result ≡ list_any (precedes earlier) (events entry.now) }
 {
     events_of(entry).iter().any(|event| earlier.has(event))
-}
-
-/// Whether an entry finished a slot.
-fn finishes(entry: &LogEntry) -> bool
-    ensures { result ≡ did is_finish entry.now }
-{
-    is_done(entry) && is_finish(&entry.step)
 }
 
 impl Walk {

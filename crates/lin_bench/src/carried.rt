@@ -4,16 +4,17 @@ ghost use Rattle.std.specs.Prelude.{◌≡◌, ◌==◌, ◌<◌, ◌≤◌, Lis
 ghost use Rattle.std.specs.List.{list_any};
 ghost use Rattle.lin_parts.specs.Cluster.{frame_of, line_of};
 ghost use Rattle.lin_parts.specs.Rules.{IsEntry};
-ghost use Rattle.lin_core.specs.History.{Slot, did, is_finish, no_slot, slot_after_event, slot_after_events};
+ghost use Rattle.lin_core.specs.History.{Slot, did, no_slot, slot_after_event, slot_after_events};
 ghost use Rattle.lin_core.specs.declared.log.LogEntry.{LogEntry};
-ghost use Rattle.lin_bench.specs.Carried.{EndsAt, KeepsOpenSlot, is_open_step, shape, shape_in};
+ghost use Rattle.lin_bench.specs.Carried.{KeepsOpenSlot, is_open_step, shape, shape_in};
 ghost use Rattle.lin_bench.specs.Verdicts.{carried_by_slot, last_carried};
 ghost use Rattle.lin_core.specs.Signals.{carried_by};
 
 use crate::expected::Carried;
-use crate::replies::{is_done, is_finish};
+use crate::replies::is_done;
 use crate::taken::events_of;
 use lin_core::{Event, Log, LogEntry, Step, frame_under};
+use lin_log::last_finish;
 use lin_parts::{Cluster, Entry};
 use std::alloc::{AllocError, Global};
 
@@ -140,13 +141,6 @@ fn opens(entry: &LogEntry) -> bool
     is_done(entry) && matches!(entry.step, Step::Open)
 }
 
-/// Whether an entry finished a slot.
-fn finishes(entry: &LogEntry) -> bool
-    ensures { result ≡ did is_finish entry.now }
-{
-    is_done(entry) && is_finish(&entry.step)
-}
-
 /// The last of so many entries that opened a slot.
 fn last_open(log: &Log, end: usize) -> Option<usize>
     requires { end ≤ length log.now.entries }
@@ -180,20 +174,6 @@ pub(crate) fn open_after(
             walk(alloc, log, slot, index + 1, end)
         }
     }
-}
-
-/// How many entries stand before the last one that finished a slot.
-fn last_finish(log: &Log) -> Option<usize>
-    ensures { EndsAt log.now.entries result }
-{
-    let mut left = log.len();
-    while left > 0 {
-        left -= 1;
-        if finishes(log.entry(left)) {
-            return Some(left);
-        }
-    }
-    None
 }
 
 /// What an entry of a table is for; a configuration entry where the cluster has none there.

@@ -1,18 +1,13 @@
 -- The slot that ended last.
-use Rattle.std.proofs.Common.{◌≡◌, ◌∙◌, ◌∷◌, List, Some, None, true, false, refl, sym, ap}
+use Rattle.std.proofs.Common.{◌≡◌, ◌∙◌, List, Some, None, refl, sym, ap}
 use Rattle.std.specs.Prelude.{Option, option_map}
 use Rattle.std.specs.Option.{option_map_or}
 use Rattle.lin_parts.specs.declared.parts.Parts.{Parts}
-use Rattle.lin_core.specs.History.{Slot, did, is_finish, open_slot}
+use Rattle.lin_core.specs.History.{Slot, open_slot}
 use Rattle.lin_core.specs.declared.log.LogEntry.{LogEntry}
-use Rattle.lin_export.specs.LastSlot.{before_last_finish, ended, ended_slot, last_slot, tracked_slot_end}
+use Rattle.lin_log.specs.LastFinish.{before_last_finish}
+use Rattle.lin_export.specs.LastSlot.{ended, ended_slot, last_slot, tracked_slot_end}
 use Rattle.lin_export.specs.Track.{TrackData, shown_slot, track_of}
-
-pub finished-here : (e : LogEntry) (past : List LogEntry) → did is_finish e ≡ true → before_last_finish (e ∷ past) ≡ Some past
-finished-here e past is = rw is refl
-
-pub finished-before : (e : LogEntry) (past : List LogEntry) → did is_finish e ≡ false → before_last_finish (e ∷ past) ≡ before_last_finish past
-finished-before e past is = rw is refl
 
 -- a track has the slot that is open after its history
 ended-mapped : (t : TrackData) (o : Option Slot) → option_map (ended t) (option_map shown_slot o) ≡ option_map (λ (s : Slot). ended t (shown_slot s)) o

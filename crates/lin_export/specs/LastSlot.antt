@@ -1,13 +1,14 @@
 -- The slot that ended last in a history.
-use Rattle.std.specs.Prelude.{◌≡◌, ℕ, ◌≤◌, ◌<◌, if◌then◌else◌, List, [], ◌∷◌, ◌++◌, codes, flat_map, length, map}
-use Rattle.std.specs.Prelude.{reverse, take, Option, Some, None, option_map}
+use Rattle.std.specs.Prelude.{◌≡◌, ℕ, ◌≤◌, List, [], ◌∷◌, ◌++◌, codes, flat_map, length, map}
+use Rattle.std.specs.Prelude.{reverse, take, Option, None, option_map}
 use Rattle.std.specs.Fmt.{decimal}
 use Rattle.std.specs.Option.{option_map_or, option_to_list}
 use Rattle.lin_parts.specs.Cluster.{named_table}
 use Rattle.lin_parts.specs.declared.parts.Parts.{Parts}
-use Rattle.lin_core.specs.History.{Slot, did, good, is_finish, open_slot, seen_of, time}
+use Rattle.lin_core.specs.History.{Slot, good, open_slot, seen_of, time}
 use Rattle.lin_core.specs.Tables.{look_of, look_word}
 use Rattle.lin_core.specs.declared.log.LogEntry.{LogEntry}
+use Rattle.lin_log.specs.LastFinish.{before_last_finish}
 use Rattle.lin_log.specs.Words.{hex_word, spaced_word}
 use Rattle.lin_export.specs.Json.{hex_text, member, null, object, quoted_text}
 use Rattle.lin_export.specs.Jsonl.{frame_member, time_member}
@@ -26,11 +27,6 @@ ended_slot c past =
     option_map
     (λ s. record { number = finished_slot_count past; at = time c past; slot = shown_slot s })
     (open_slot past)
-
--- the history before the last finish that was done
-abbrev pub before_last_finish : List LogEntry → Option (List LogEntry)
-before_last_finish [] = None
-before_last_finish (e ∷ past) = if did is_finish e then Some past else before_last_finish past
 
 abbrev pub last_slot : Parts → List LogEntry → Option EndedSlot
 last_slot c past = option_map_or (ended_slot c) (before_last_finish past) None
@@ -67,11 +63,6 @@ ended_value c e =
 
 abbrev pub last_slot_value : Parts → Option EndedSlot → List ℕ
 last_slot_value c last = option_map_or (ended_value c) last null
-
--- the entry at this place, of these in order, is the last one that finished a slot
-abbrev pub EndsAt : List LogEntry → Option ℕ → Type 0
-EndsAt es None = before_last_finish (reverse es) ≡ None
-EndsAt es (Some i) = (i < length es) × (before_last_finish (reverse es) ≡ Some (reverse (take i es)))
 
 -- ---- what is kept of the entries before the slot's end, and how many they are
 pub record LastSlotData : Type 0 where

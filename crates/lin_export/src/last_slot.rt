@@ -1,15 +1,15 @@
 //! The slot that ended last.
 
-ghost use Rattle.std.specs.Prelude.{◌≡◌, ◌≤◌, IfOk, IfSome, List, codes, flat_map, length, map};
-ghost use Rattle.std.specs.Prelude.{option_map, reverse, take};
+ghost use Rattle.std.specs.Prelude.{◌≡◌, ◌≤◌, IfOk, IfSome, List, codes, flat_map, map};
+ghost use Rattle.std.specs.Prelude.{option_map, reverse};
 ghost use Rattle.std.specs.Option.{option_map_or, option_to_list};
-ghost use Rattle.lin_core.specs.History.{did, good, is_finish};
+ghost use Rattle.lin_core.specs.History.{good};
 ghost use Rattle.lin_core.specs.declared.log.LogEntry.{LogEntry};
 ghost use Rattle.lin_log.specs.Words.{hex_word, spaced_word};
 ghost use Rattle.lin_parts.specs.declared.parts.Parts.{Parts};
 ghost use Rattle.lin_text.specs.Written.{Grows};
 ghost use Rattle.lin_export.specs.Json.{hex_text, member, null};
-ghost use Rattle.lin_export.specs.LastSlot.{EndsAt, IsKeptOf, ended, ended_text, ended_value, kept_slot};
+ghost use Rattle.lin_export.specs.LastSlot.{IsKeptOf, ended, ended_text, ended_value, kept_slot};
 ghost use Rattle.lin_export.specs.LastSlot.{last_slot, last_slot_text, last_slot_value, tracked_slot_end};
 ghost use Rattle.lin_export.specs.Members.{member_shown};
 ghost use Rattle.lin_export.specs.Open.{tracked_slot};
@@ -20,8 +20,8 @@ use crate::slot::{OpenSlot, SeenSlot};
 use crate::slot_names::{slot_name, table_name};
 use crate::slot_object::frame_member;
 use crate::track::Track;
-use lin_core::{Listed, Log, LogEntry, Reply, Step};
-use lin_log::{Word, put_words};
+use lin_core::{Listed, Log};
+use lin_log::{Word, last_finish, put_words};
 use lin_parts::Cluster;
 use lin_text::TextWriter;
 use std::alloc::{AllocError, Global};
@@ -42,30 +42,6 @@ impl Model for LastSlot {
     ghost Value = { LastSlotData };
 
     ghost view = { λ l. record { track = l.track; entries = l.entries } };
-}
-
-/// Whether an entry finished a slot.
-fn finishes(entry: &LogEntry) -> bool
-    ensures { result ≡ did is_finish entry.now }
-{
-    match (&entry.step, &entry.reply) {
-        (Step::Finish, Reply::Done(_)) => true,
-        _ => false,
-    }
-}
-
-/// How many entries precede the last one that finished a slot.
-fn last_finish(log: &Log) -> Option<usize>
-    ensures { EndsAt log.now.entries result }
-{
-    let mut left = log.len();
-    while left > 0 {
-        left -= 1;
-        if finishes(log.entry(left)) {
-            return Some(left);
-        }
-    }
-    None
 }
 
 /// The data bytes of a good response.

@@ -14,3 +14,4 @@ pub mod Runs
 pub mod HexFields
 pub mod Stays
 pub mod HexPairs
+pub mod LastFinish

@@ -7,3 +7,4 @@ pub mod Judged
 pub mod Replay
 pub mod Laws
 pub mod Shown
+pub mod LastFinish

@@ -19,6 +19,7 @@ mod naming;
 mod reason;
 mod replaying;
 mod script;
+mod slot_ends;
 mod values;
 mod writing;
 
@@ -35,6 +36,7 @@ pub use naming::{Naming, NumberNaming};
 pub use reason::{LineFault, Reason};
 pub use replaying::{make_step, replay, run_script};
 pub use script::{first_line, read_bytes, read_script, without_return};
+pub use slot_ends::{finishes, last_finish};
 pub use values::{bytes_fields, hex_bytes, node_field, signal_field, table_field, value_field};
 pub use writing::{
     put_bytes, put_event, put_hex, put_node, put_number, put_port, put_signal, put_step, put_table,

@@ -1,8 +1,7 @@
 use Rattle.std.proofs.Common.{◌∙◌, ◌≡◌, ◌-◌, ◌+◌, ap, arith, reverse, sym, take}
-use Rattle.lin_export.specs.LastSlot.{before_last_finish}
-use Rattle.lin_export.proofs.LastSlots.{finished-before, finished-here}
-use Rattle.lin_export.proofs.Tellings.{before-next}
-use Rattle.lin_export.proofs.last_slot.last_finish.Goals as goal
+use Rattle.lin_log.specs.LastFinish.{before_last_finish}
+use Rattle.lin_log.proofs.LastFinish.{finished-before, finished-here, newest-first}
+use Rattle.lin_log.proofs.slot_ends.last_finish.Goals as goal
 
 pub returns-then-finishes : goal.returns-then-finishes
 returns-then-finishes c =
@@ -12,7 +11,7 @@ returns-then-finishes c =
     let one : c.loop-left.left ≡ i + 1 = omega arith in (
       omega arith,
       c.loop-left.invariant.same ∙ ap (λ n. before_last_finish (reverse (take n es))) one
-          ∙ ap before_last_finish (before-next es i e c.entry.ensures (omega arith))
+          ∙ ap before_last_finish (newest-first es i e (omega arith) c.entry.ensures)
           ∙ finished-here e (reverse (take i es)) (sym c.finishes.ensures ∙ c.if-finishes.true),
     )
 
@@ -26,6 +25,6 @@ loop-left-preserved c =
       within = omega arith;
       same =
           c.loop-left.invariant.same ∙ ap (λ n. before_last_finish (reverse (take n es))) one
-          ∙ ap before_last_finish (before-next es i e c.entry.ensures (omega arith))
+          ∙ ap before_last_finish (newest-first es i e (omega arith) c.entry.ensures)
           ∙ finished-before e (reverse (take i es)) (sym c.finishes.ensures ∙ c.if-finishes.false);
     }

@@ -1,6 +1,6 @@
 use Rattle.std.proofs.Common.{◌≡◌, ◌≤◌, length, reverse, take}
-use Rattle.lin_export.specs.LastSlot.{before_last_finish}
-use Rattle.lin_export.proofs.last_slot.last_finish.Given as goal
+use Rattle.lin_log.specs.LastFinish.{before_last_finish}
+use Rattle.lin_log.proofs.slot_ends.last_finish.Given as goal
 
 abbrev pub invariant-loop-left : goal.invariant-loop-left
 invariant-loop-left l = record {
