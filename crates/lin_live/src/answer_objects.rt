@@ -65,12 +65,15 @@ pub(crate) fn write_object<W: Write>(
 }
 
 /// Why a line is bad, as a text. An error means out of memory.
-fn reason_text(alloc: Global, reason: &Reason) -> Result<Vec<u8>, AllocError>
+fn reason_text(
+    alloc: Global,
+    buffer: &mut TextBuffer,
+    reason: &Reason,
+) -> Result<Vec<u8>, AllocError>
     ensures { IfOk result (λ v. v.items ≡ question_reason_text reason.now) }
 {
     let mut text = Vec::new(alloc);
-    let mut buffer = TextBuffer::empty();
-    let mut out = TextWriter::new(&mut text, &mut buffer);
+    let mut out = TextWriter::new(&mut text, buffer);
     put_why(&mut out, reason);
     match out.finish() {
         Ok(()) => Ok(text),
@@ -88,20 +91,24 @@ pub(crate) fn write_bad_object<W: Write>(
     ensures { (c : Parts) (k : Option CodedData) → WritesAlone (W.contents writer.old) (W.contents writer.new)
         (object_ending c k (Bad reason.now)) result }
 {
-    let text = reason_text(alloc, reason)?;
+    let text = reason_text(alloc, buffer, reason)?;
     let why = Member::Printable("reason", text.as_slice());
     write_object(writer, buffer, &[], "bad line", &[why])?;
     Ok(())
 }
 
 /// The answer to a question as words, after a space. An error means out of memory.
-fn words_of(alloc: Global, cluster: &Cluster, value: &AnswerValue) -> Result<Vec<u8>, AllocError>
+fn words_of(
+    alloc: Global,
+    buffer: &mut TextBuffer,
+    cluster: &Cluster,
+    value: &AnswerValue,
+) -> Result<Vec<u8>, AllocError>
     ensures { IfOk result (λ v. v.items
         ≡ spaced_word (said_text cluster.now None (as_said cluster.now value.now))) }
 {
     let mut text = Vec::new(alloc);
-    let mut buffer = TextBuffer::empty();
-    let mut out = TextWriter::new(&mut text, &mut buffer);
+    let mut out = TextWriter::new(&mut text, buffer);
     put_answer(&mut out, cluster, None, value);
     match out.finish() {
         Ok(()) => Ok(text),
@@ -211,7 +218,7 @@ pub(crate) fn write_value_object<W: Write>(
     ensures { WritesAlone (W.contents writer.old) (W.contents writer.new)
         (object_ending cluster.now (given_coding coded.entry) (Is (as_said cluster.now value.now))) result }
 {
-    let words = words_of(alloc, cluster, value)?;
+    let words = words_of(alloc, buffer, cluster, value)?;
     write_said(writer, buffer, cluster, coded, value, words.as_slice())?;
     Ok(())
 }
