@@ -8,7 +8,7 @@
 #include <stdlib.h>
 #include <string.h>
 
-enum { LEAST = 80 * 1024, MOST = 160 * 1024, LINE = 320 * 1024, ROOM = 1 << 20, PAINT = 0xA5 };
+enum { LEAST = 80 * 1024, MOST = 160 * 1024, ROOM = 1 << 20, PAINT = 0xA5 };
 
 static uint8_t ldf[1 << 22], script[1 << 24], out[1 << 24], stack[ROOM] __attribute__((aligned(4096)));
 static size_t ldf_length, script_length;
@@ -115,7 +115,7 @@ int main(int argc, char **argv) {
         bench_settings.flags = flags[n];
         printf("flags %lu:\n", (unsigned long)flags[n]);
         measure("linsim_open_bench", bench_opened, MOST);
-        measure("linsim_line of a bench", all_lines, LINE);
+        measure("linsim_line of a bench", all_lines, MOST);
         measure("linsim_newest of a bench", newest, LEAST);
         measure("linsim_close of a bench", closed, LEAST);
     }
