@@ -113,6 +113,12 @@ read_all c (text ∷ texts) = with_fault text (read_fault c text) (read_all c te
 abbrev pub read_faults : Parts → List ℕ → Result (List SlotFault) (List ℕ × FaultReason)
 read_faults c text = read_all c (slice_split (λ b. b == 43) text)
 
+-- the faults of an option: none where it isn't given
+abbrev pub given_faults : Parts → Option (Bor (List ℕ))
+    → Result (List SlotFault) (List ℕ × FaultReason)
+given_faults c None = Ok []
+given_faults c (Some text) = read_faults c text.now
+
 -- the texts of the faults that are left, and how long what is left is
 abbrev pub faults_left : Option (Bor (List ℕ)) → List (List ℕ)
 faults_left None = []
@@ -150,6 +156,8 @@ abbrev pub reason_line : FaultReason → List ℕ
 reason_line Form = codes "a fault is SLOT:damage or SLOT:absent:NODE"
 reason_line (Field reason) = reason_text reason
 
+abbrev pub fault_line : List ℕ → FaultReason → List ℕ
+fault_line text why = codes "fault " ++ (text ++ (codes ": " ++ (reason_line why ++ 10 ∷ [])))
+
 abbrev pub bad_fault_text : BadFault → List ℕ
-bad_fault_text bad =
-    codes "fault " ++ (bad.fault.now ++ (codes ": " ++ (reason_line bad.reason ++ 10 ∷ [])))
+bad_fault_text bad = fault_line bad.fault.now bad.reason

@@ -1,5 +1,6 @@
 -- What the program's live answers.
 use Rattle.std.specs.Prelude.{◌≡◌, ℕ, Bool, false, if◌then◌else◌, List, [], Option, Result, Ok, Err}
+use Rattle.std.specs.Io.KnownBytes.{Appends, Keeps}
 use Rattle.lin_parts.specs.declared.parts.Parts.{Parts}
 use Rattle.lin_values.specs.Coded.{CodedData}
 use Rattle.lin_bench.specs.Rules.{no_rules}
@@ -7,8 +8,10 @@ use Rattle.lin_bench.specs.Slots.{slot_limit}
 use Rattle.lin_live.specs.Serving.{IsLive}
 use Rattle.lin_live.specs.Told.{HandData, IsFull, reply}
 use Rattle.lin_live.specs.declared.answer_format.AnswerFormat.{AnswerFormat}
+use Rattle.lin_live.specs.declared.answer_format.AnswerFormat.TheVariants.{Jsonl}
 use Rattle.lin_live.specs.declared.fault.Fault.{Fault as LiveFault}
 use Rattle.lin_live.specs.declared.fault.Fault.TheVariants as live
+use Rattle.lin_tool.specs.Formats.{Begins}
 use Rattle.lin_tool.specs.Opening.{room_for}
 use Rattle.lin_tool.specs.declared.fault.Fault.{Fault}
 use Rattle.lin_tool.specs.declared.fault.Fault.TheVariants.{BadLines, Unmet, OutOfMemory}
@@ -41,6 +44,13 @@ hand_of_cluster format k is_physical c opening capacity = record {
 abbrev pub hand_of_opened : AnswerFormat → Opened → HandData
 hand_of_opened format o =
     hand_of_cluster format o.coded o.settings.is_physical o.cluster o.table (room_for o.settings.capacity)
+
+-- what answers begin with: as objects, what the run is of
+abbrev pub BeginsAnswers : AnswerFormat → List ℕ → Result Unit Fault → Option (List ℕ)
+    → Option (List ℕ) → Type 0
+BeginsAnswers Jsonl run (Ok done) old new = Appends old new run
+BeginsAnswers Jsonl run (Err fault) old new = Begins old new run
+BeginsAnswers format run result old new = (result ≡ Ok tt) × Keeps old new
 
 -- how a bench ends on which all lines were answered: its answers have told which lines were bad, and
 -- which expectations weren't met

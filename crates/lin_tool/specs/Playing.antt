@@ -17,6 +17,7 @@ use Rattle.lin_bench.specs.declared.fault.PlayFault.TheVariants as play
 use Rattle.lin_bench.specs.declared.got.Judgement.{Judgement}
 use Rattle.lin_bench.specs.declared.line.ScriptLine.{ScriptLine}
 use Rattle.lin_bench.specs.declared.reason.Reason.{Reason}
+use Rattle.lin_tool.specs.FaultText.{fault_line, given_faults}
 use Rattle.lin_tool.specs.Formats.{Begins, log_as, shown_log}
 use Rattle.lin_tool.specs.Opening.{room_for}
 use Rattle.lin_tool.specs.Placing.{bad_text, missed_text}
@@ -26,9 +27,10 @@ use Rattle.lin_text.specs.declared.fault.WriteFailed.{WriteFailed as Failed}
 use Rattle.lin_tool.specs.Replaying.{RefusesScript}
 use Rattle.lin_tool.specs.Tally.{tally_text}
 use Rattle.lin_tool.specs.declared.fault.Fault.{Fault}
-use Rattle.lin_tool.specs.declared.fault.Fault.TheVariants.{BadBenchLine, SlotLimit, LogFull, Unmet}
+use Rattle.lin_tool.specs.declared.fault.Fault.TheVariants.{BadBenchLine, BadFaults, SlotLimit, LogFull, Unmet}
 use Rattle.lin_tool.specs.declared.fault.Fault.TheVariants.{ScriptTooLong, OutOfMemory}
 use Rattle.lin_tool.specs.declared.fault.Fault.TheVariants.{ReadFailed, WriteFailed}
+use Rattle.lin_tool.specs.declared.fault_text.FaultReason.{FaultReason}
 use Rattle.lin_tool.specs.declared.formats.Format.{Format}
 use Rattle.lin_tool.specs.declared.formats.Format.TheVariants.{Log}
 use Rattle.lin_tool.specs.declared.formats.Shown.{Shown}
@@ -175,6 +177,16 @@ PlaysOpened o named result told old new silent heard =
 -- what is reported of the bad lines of a script, of which this is the first
 abbrev pub script_errors : PlayedScript → Opened → ℕ × Reason → List ℕ
 script_errors script o first = bad_text script.name o.cluster o.coded script.bytes.now first.0 first.1
+
+-- what reading the faults of an option answers; of one that isn't valid it is told why
+abbrev pub TakesFaults : {X : Type 0} → (X → List SlotFault) → Parts → Option (Bor (List ℕ))
+    → Result X Fault → Option (List ℕ) → Option (List ℕ) → Type 0
+TakesFaults view c given (Ok x) silent heard =
+    (given_faults c given ≡ Ok (view x)) × Keeps silent heard
+TakesFaults view c given (Err (BadFaults told)) silent heard =
+    (bad : List ℕ × FaultReason) × (given_faults c given ≡ Err bad)
+    × WritesText silent heard told (fault_line bad.0 bad.1)
+TakesFaults view c given (Err fault) silent heard = Keeps silent heard
 
 -- what telling bad lines by this text answers
 abbrev pub TellsBad : {E F : Type 0} → Result (Result Unit F) E → List ℕ → Option (List ℕ)

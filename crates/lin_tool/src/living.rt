@@ -2,7 +2,9 @@
 
 ghost use Rattle.std.specs.Prelude.{◌≡◌, ◌<◌, ℕ, IfErr, IfOk, List, length};
 ghost use Rattle.std.specs.Borrow.{Bor};
-ghost use Rattle.lin_tool.specs.Living.{Lives, ends, hand_of_opened};
+ghost use Rattle.lin_export.specs.Jsonl.{run_line};
+ghost use Rattle.lin_tool.specs.Living.{BeginsAnswers, Lives, ends, hand_of_opened};
+ghost use Rattle.lin_tool.specs.Opening.{room_for};
 ghost use Rattle.lin_live.specs.declared.answer_format.AnswerFormat.TheVariants.{Log, Named, Jsonl};
 ghost use Rattle.lin_tool.specs.declared.fault.Fault.TheVariants.{OutOfMemory as NoMemory};
 ghost use Rattle.lin_tool.specs.declared.formats.Format.TheVariants.{Log as LogFormat};
@@ -101,7 +103,11 @@ fn begin_answers<W: Write>(
     opened: &Opened<'_>,
     format: AnswerFormat,
     writer: &mut W,
-) -> Result<(), Fault> {
+) -> Result<(), Fault>
+    ensures { BeginsAnswers format
+        (run_line opened.now.cluster opened.now.table (room_for opened.now.settings.capacity)) result
+        (W.contents writer.old) (W.contents writer.new) }
+{
     match format {
         AnswerFormat::Log | AnswerFormat::Named => return Ok(()),
         AnswerFormat::Jsonl => {}

@@ -9,7 +9,7 @@ ghost use Rattle.lin_tool.specs.Opening.{room_for};
 ghost use Rattle.lin_tool.specs.Placing.{missed_text};
 ghost use Rattle.lin_tool.specs.Playing.{judgements_with_meanings, coding_if_physical};
 ghost use Rattle.lin_tool.specs.Playing.{script_errors, script_verdict, told_text, PlaysOpened};
-ghost use Rattle.lin_tool.specs.Playing.{PlaysScriptUnder, ReadsScriptLines, ReportsJudgements, TellsBad, WritesShown};
+ghost use Rattle.lin_tool.specs.Playing.{PlaysScriptUnder, ReadsScriptLines, ReportsJudgements, TakesFaults, TellsBad, WritesShown};
 
 use crate::fault::Fault;
 use crate::fault_text::{FaultsFault, read_faults, write_bad_fault};
@@ -337,7 +337,10 @@ fn faults_of<E: Write>(
     cluster: &Cluster,
     faults: Option<&str>,
     errors: &mut E,
-) -> Result<Vec<SlotFault>, Fault> {
+) -> Result<Vec<SlotFault>, Fault>
+    ensures { TakesFaults (λ v. v.items) cluster.now faults.entry result
+        (E.contents errors.old) (E.contents errors.new) }
+{
     let Some(text) = faults else {
         return Ok(Vec::new(alloc));
     };
