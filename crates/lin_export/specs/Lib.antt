@@ -25,6 +25,7 @@ pub mod Dumped
 pub mod PutsGroups
 pub mod Listing
 pub mod ListedFrames
+pub mod PlacedValues
 pub mod Marks
 pub mod ListedMaps
 pub mod ListedSlots

@@ -26,6 +26,7 @@ mod csv;
 mod fault;
 mod first_slots;
 mod format;
+mod frame_places;
 mod hearing;
 mod json;
 mod jsonl;

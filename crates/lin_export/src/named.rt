@@ -22,12 +22,13 @@ ghost use Rattle.lin_export.specs.WhereTold.{given_coding};
 
 use crate::fault::ExportFault;
 use crate::format::{EntryFormat, put_entries, write_as};
+use crate::frame_places::{place_count, value_at};
 use crate::named_values::{put_seen, put_written};
 use crate::slot::{OpenSlot, byte_at};
 use crate::slot_names::node_name;
 use crate::track::Track;
 use lin_core::{Event, Listed, Log, LogEntry, Refusal, Reply, Seen, Step, frame_under, node_with};
-use lin_frame::{Answer, unpack};
+use lin_frame::Answer;
 use lin_log::{Word, put_line, put_step_line, put_words, value_word};
 use lin_parts::{Cluster, Entry};
 use lin_text::{TextBuffer, TextWriter};
@@ -107,13 +108,9 @@ fn put_signals<W: Write>(
         (flat_map (signal_words cluster.now answer.now)
         (zip (frame_of cluster.now frame).signals (frame_of cluster.now frame).layout.places))) }
 {
-    cluster.sound();
-    let data = answer.data();
-    let layout = cluster.layout(frame);
-    let signals = cluster.frame_signals(frame);
-    for place in 0..signals.len() {
-        let value = unpack(layout, &data, place);
-        let name = cluster.signal_name(signals[place]);
+    for place in 0..place_count(cluster, frame) {
+        let (signal, value) = value_at(cluster, frame, answer, place);
+        let name = cluster.signal_name(signal);
         put_words(out, &[Word::Name(name), value_word(&value)]);
     }
 }

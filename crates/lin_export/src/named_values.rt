@@ -8,9 +8,10 @@ ghost use Rattle.lin_export.specs.Named.{written_values};
 ghost use Rattle.lin_export.specs.Open.{tracked_slot};
 ghost use Rattle.lin_export.specs.WhereTold.{given_coding, where_told};
 
+use crate::frame_places::{place_count, value_at};
 use crate::slot::OpenSlot;
 use lin_core::{Event, Seen, Step};
-use lin_frame::{Answer, Value, unpack};
+use lin_frame::{Answer, Value};
 use lin_parts::Cluster;
 use lin_text::TextWriter;
 use lin_values::{Coded, put_meaning};
@@ -49,13 +50,9 @@ fn put_frame_values<W: Write>(
     ensures { Grows W.contents out.old out.new
         (flat_map reply_line (frame_values cluster.now coded.now answer.now frame)) }
 {
-    cluster.sound();
-    let data = answer.data();
-    let layout = cluster.layout(frame);
-    let signals = cluster.frame_signals(frame);
-    for place in 0..signals.len() {
-        let value = unpack(layout, &data, place);
-        put_value(out, cluster, coded, signals[place], &value);
+    for place in 0..place_count(cluster, frame) {
+        let (signal, value) = value_at(cluster, frame, answer, place);
+        put_value(out, cluster, coded, signal, &value);
     }
 }
 

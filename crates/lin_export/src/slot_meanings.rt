@@ -14,11 +14,12 @@ ghost use Rattle.lin_values.specs.Meaning.{meant};
 ghost use Rattle.lin_values.specs.Shown.{quoted_text, shown, unit_shown};
 ghost use Rattle.lin_export.specs.WhereTold.{given_coding, where_told};
 
+use crate::frame_places::{place_count, value_at};
 use crate::json::{
     Member, put_escaped, put_key, put_members, put_quoted, put_separator, put_text_value,
 };
 use crate::slot::{OpenSlot, SeenSlot};
-use lin_frame::{Answer, Value, unpack};
+use lin_frame::{Answer, Value};
 use lin_parts::Cluster;
 use lin_text::TextWriter;
 use lin_values::{Coded, Meaning, put_decimal};
@@ -166,15 +167,11 @@ fn put_frame_meanings<W: Write>(
     ensures { Grows W.contents out.old out.new
         (with_commas (frame_meanings column cluster.now coded.now answer.now frame)) }
 {
-    cluster.sound();
-    let data = answer.data();
-    let layout = cluster.layout(frame);
-    let signals = cluster.frame_signals(frame);
     let mut members = 0;
-    for place in 0..signals.len() {
-        let value = unpack(layout, &data, place);
-        let meaning = coded.meaning(signals[place], &value);
-        members = put_meaning(out, cluster, column, members, signals[place], meaning);
+    for place in 0..place_count(cluster, frame) {
+        let (signal, value) = value_at(cluster, frame, answer, place);
+        let meaning = coded.meaning(signal, &value);
+        members = put_meaning(out, cluster, column, members, signal, meaning);
     }
 }
 

@@ -17,6 +17,7 @@ ghost use Rattle.lin_export.specs.Open.{tracked_slot};
 ghost use Rattle.lin_export.specs.PutsGroups.{AreCounts};
 ghost use Rattle.lin_export.specs.WhereTold.{given_coding};
 
+use crate::frame_places::{place_count, value_at};
 use crate::json::{
     Member, put_first, put_key, put_member, put_members, put_quoted, put_separator, put_type,
 };
@@ -26,7 +27,7 @@ use crate::slot_names::{node_name, slot_name, table_name};
 use crate::track::Track;
 use crate::vcd::HOSTS;
 use lin_core::Listed;
-use lin_frame::{Answer, Value, unpack};
+use lin_frame::{Answer, Value};
 use lin_log::{put_shown, value_word};
 use lin_parts::{Cluster, Entry};
 use lin_text::TextWriter;
@@ -212,14 +213,10 @@ fn put_frame_signals<W: Write>(
     ensures { Grows W.contents out.old out.new
         (with_commas (frame_signals cluster.now answer.now frame)) }
 {
-    cluster.sound();
-    let data = answer.data();
-    let layout = cluster.layout(frame);
-    let signals = cluster.frame_signals(frame);
-    for place in 0..signals.len() {
-        let value = unpack(layout, &data, place);
+    for place in 0..place_count(cluster, frame) {
+        let (signal, value) = value_at(cluster, frame, answer, place);
         put_separator(out, place);
-        put_signal(out, cluster.signal_name(signals[place]), &value);
+        put_signal(out, cluster.signal_name(signal), &value);
     }
 }
 

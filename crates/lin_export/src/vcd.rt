@@ -20,11 +20,12 @@ ghost use Rattle.lin_export.specs.WhereTold.{given_coding, where_told};
 use crate::changes::{put_heard, put_number, put_physical, put_unknown, put_waiting, put_written};
 use crate::fault::ExportFault;
 use crate::format::{EntryFormat, write_as};
+use crate::frame_places::{place_count, value_at};
 use crate::slot::{OpenSlot, SeenSlot};
 use crate::track::Track;
 use crate::variables::put_head;
 use lin_core::{Event, Listed, Log, LogEntry, Reply, Step};
-use lin_frame::{Answer, unpack};
+use lin_frame::Answer;
 use lin_parts::Cluster;
 use lin_text::TextWriter;
 use lin_values::Coded;
@@ -81,13 +82,9 @@ fn put_frame<W: Write>(out: &mut TextWriter<'_, W>, cluster: &Cluster, frame: u1
     requires { frame < length cluster.now.frames }
     ensures { Grows W.contents out.old out.new (frame_changes cluster.now frame answer.now) }
 {
-    cluster.sound();
-    let data = answer.data();
-    let layout = cluster.layout(frame);
-    let signals = cluster.frame_signals(frame);
-    for place in 0..signals.len() {
-        let value = unpack(layout, &data, place);
-        put_heard(out, cluster, signals[place], &value);
+    for place in 0..place_count(cluster, frame) {
+        let (signal, value) = value_at(cluster, frame, answer, place);
+        put_heard(out, cluster, signal, &value);
     }
 }
 
@@ -103,13 +100,9 @@ fn put_frame_decimals<W: Write>(
     ensures { Grows W.contents out.old out.new
         (frame_decimals cluster.now answer.now frame coded.now) }
 {
-    cluster.sound();
-    let data = answer.data();
-    let layout = cluster.layout(frame);
-    let signals = cluster.frame_signals(frame);
-    for place in 0..signals.len() {
-        let value = unpack(layout, &data, place);
-        put_physical(out, cluster, coded, signals[place], &value);
+    for place in 0..place_count(cluster, frame) {
+        let (signal, value) = value_at(cluster, frame, answer, place);
+        put_physical(out, cluster, coded, signal, &value);
     }
 }
 

@@ -8,6 +8,7 @@ ghost use Rattle.lin_text.specs.Written.{Grows, WritesText};
 ghost use Rattle.lin_export.specs.ListedFrames.{event_line, frame_line, frame_lines, frame_listing, model_word};
 ghost use Rattle.lin_export.specs.ListedFrames.{place_line, places, sporadic_line};
 
+use crate::frame_places::{place_at, place_count};
 use lin_frame::{Place, SumKind};
 use lin_log::{Word, put_head, put_line, put_spaced, value_word};
 use lin_parts::Cluster;
@@ -75,11 +76,9 @@ fn put_places<W: Write>(out: &mut TextWriter<'_, W>, cluster: &Cluster, frame: u
     ensures { Grows W.contents out.old out.new
         (flat_map (place_line cluster.now frame) (places (frame_of cluster.now frame))) }
 {
-    cluster.sound();
-    let signals = cluster.frame_signals(frame);
-    let places = cluster.layout(frame).places.as_slice();
-    for index in 0..signals.len() {
-        put_place(out, cluster, frame, signals[index], &places[index]);
+    for index in 0..place_count(cluster, frame) {
+        let (signal, place) = place_at(cluster, frame, index);
+        put_place(out, cluster, frame, signal, &place);
     }
 }
 

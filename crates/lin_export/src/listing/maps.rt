@@ -11,6 +11,7 @@ ghost use Rattle.lin_export.specs.ListedMaps.{bits_line, map_line, map_lines, ma
 ghost use Rattle.lin_export.specs.Listing.{numbered_lines};
 ghost use Rattle.lin_export.specs.Marks.{bit_mark, free_bits, signal_mark};
 
+use crate::frame_places::{place_at, place_count};
 use lin_frame::{Layout, Place};
 use lin_log::{Word, put_head, put_line, put_spaced, put_words};
 use lin_parts::Cluster;
@@ -167,11 +168,9 @@ fn put_marks<W: Write>(out: &mut TextWriter<'_, W>, cluster: &Cluster, frame: u1
     ensures { Grows W.contents out.old out.new
         (numbered_lines (mark_line cluster.now frame) 0 (places (frame_of cluster.now frame))) }
 {
-    cluster.sound();
-    let signals = cluster.frame_signals(frame);
-    let places = cluster.layout(frame).places.as_slice();
-    for index in 0..signals.len() {
-        put_mark(out, cluster, frame, index, signals[index], &places[index]);
+    for index in 0..place_count(cluster, frame) {
+        let (signal, place) = place_at(cluster, frame, index);
+        put_mark(out, cluster, frame, index, signal, &place);
     }
 }
 

@@ -1,51 +1,26 @@
-use Rattle.std.proofs.Common.{◌≡◌, ◌<◌, ℕ, List, length, take, ◌++◌, flat_map, get_or, sym, ap, ◌∙◌, arith}
+use Rattle.std.proofs.Common.{ℕ, take, ◌++◌, flat_map, sym, ap, ◌∙◌, arith}
 use Rattle.std.proofs.lemmas.List.{take_all}
 use Rattle.lin_frame.specs.declared.layout.Place.{Place}
-use Rattle.lin_parts.specs.Cluster.{frame_of}
-use Rattle.lin_core.proofs.slots.ClusterFrames.{FrameIs, frame-is}
-use Rattle.lin_text.proofs.Growing.{grows-more, grows-nothing, same-growth, texts-next}
-use Rattle.lin_export.specs.ListedFrames.{place_line, places}
-use Rattle.lin_export.proofs.Lines.{zip-at, zip-long}
+use Rattle.lin_text.proofs.Growing.{grows-more, grows-nothing, same-growth}
+use Rattle.lin_export.specs.ListedFrames.{place_line}
 use Rattle.lin_export.proofs.ListedLines.{no_place}
+use Rattle.lin_export.proofs.Places.{places_of}
+use Rattle.lin_export.proofs.Rows.{texts-more}
 use Rattle.lin_export.proofs.listing.frames.put_places.Goals as goal
-
-pub bounds-places-index : goal.bounds-places-index
-bounds-places-index g c =
-    let f : FrameIs c.args.cluster.now c.args.frame = frame-is c.args.cluster.now c.args.frame c.sound.ensures.rules c.requires in
-    let same : length c.frame_signals-signals.result.now ≡ length c.layout.result.now.places = rw (c.frame_signals-signals.ensures, c.layout.ensures) f.same in
-    rw c.as_slice-places.ensures (omega arith)
-
-pub put_place-requires : goal.put_place-requires
-put_place-requires g c =
-    let f : FrameIs c.args.cluster.now c.args.frame = frame-is c.args.cluster.now c.args.frame c.sound.ensures.rules c.requires in
-    let below : c.loop-index.index < length (frame_of c.args.cluster.now c.args.frame).signals = rw (sym c.frame_signals-signals.ensures) (omega arith) in
-    rw c.frame_signals-signals.ensures (f.known c.loop-index.index 0 below)
 
 pub loop-index-init : goal.loop-index-init
 loop-index-init g c = grows-nothing c.args.out.now
 
 pub loop-index-preserved : goal.loop-index-preserved
 loop-index-preserved g c =
-    let x = c.args.cluster.now in
-    let f : FrameIs x c.args.frame = frame-is x c.args.frame c.sound.ensures.rules c.requires in
+    let ps = places_of c.args.cluster.now c.args.frame in
     let i = c.loop-index.index in
-    let signals : List ℕ = (frame_of x c.args.frame).signals in
-    let spots : List Place = (frame_of x c.args.frame).layout.places in
-    let long : length signals ≡ length c.frame_signals-signals.result.now = ap length (sym c.frame_signals-signals.ensures) in
-    let below : i < length signals = let t = c.loop-index-test.true in omega arith in
-    let same = f.same in
-    let inside : i < length spots = omega arith in
-    let count = zip-long signals spots f.same in
-    let at : get_or (places (frame_of x c.args.frame)) i (0, no_place) ≡ (get_or signals i 0, get_or spots i no_place) = zip-at signals spots i 0 no_place below inside in
+    let says = place_line c.args.cluster.now c.args.frame in
     same-growth
-    (ap (λ (p : ℕ × Place). flat_map (place_line x c.args.frame) (take i (places (frame_of x c.args.frame))) ++ place_line x c.args.frame p) (sym at)
-    ∙ sym (texts-next (place_line x c.args.frame) (places (frame_of x c.args.frame)) i (0, no_place) (omega arith)))
-    (grows-more c.loop-index.invariant (rw (c.frame_signals-signals.ensures, c.as_slice-places.ensures, c.layout.ensures) at c.put_place.ensures))
+    (ap (λ (p : ℕ × Place). flat_map says (take i ps) ++ says p) (c.place_at-signal.ensures.placed no_place) ∙ sym (texts-more says ps i (0, no_place) (omega arith)))
+    (grows-more c.loop-index.invariant c.put_place.ensures)
 
 pub returns : goal.returns
 returns g c =
-    let x = c.args.cluster.now in
-    let f : FrameIs x c.args.frame = frame-is x c.args.frame c.sound.ensures.rules c.requires in
-    let long : length (frame_of x c.args.frame).signals ≡ length c.frame_signals-signals.result.now = ap length (sym c.frame_signals-signals.ensures) in
-    let count = zip-long (frame_of x c.args.frame).signals (frame_of x c.args.frame).layout.places f.same in
-    same-growth (ap (flat_map (place_line x c.args.frame)) (take_all c.loop-index.index (places (frame_of x c.args.frame)) (omega arith))) c.loop-index.invariant
+    let ps = places_of c.args.cluster.now c.args.frame in
+    same-growth (ap (flat_map (place_line c.args.cluster.now c.args.frame)) (take_all c.loop-index.index ps (omega arith))) c.loop-index.invariant
