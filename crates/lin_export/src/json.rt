@@ -100,7 +100,7 @@ fn put_printable_byte<W: Write>(out: &mut TextWriter<'_, W>, byte: u8)
 }
 
 /// A text between quotes, with `?` for each byte that isn't 20 to 7E.
-fn put_printable<W: Write>(out: &mut TextWriter<'_, W>, text: &[u8])
+pub fn put_printable<W: Write>(out: &mut TextWriter<'_, W>, text: &[u8])
     ensures { Grows W.contents out.old out.new (printable_text text.now) }
 {
     out.put_byte(b'"');
