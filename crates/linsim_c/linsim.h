@@ -108,7 +108,7 @@ enum {
 typedef struct linsim_bench_settings {
     size_t size;     /* the bytes of the struct that the caller has, 8 to 4,096 */
     size_t capacity; /* maximum number of waiting messages of a host, 1 to 1,024; 0: 16 */
-    uint32_t flags;  /* the sum of LINSIM_FIELD, LINSIM_PHYSICAL and LINSIM_CONFIGURATION, as far as wanted, or 0 */
+    uint32_t flags;  /* 0, or the sum of some of LINSIM_FIELD, LINSIM_PHYSICAL and LINSIM_CONFIGURATION */
     uint16_t format; /* LINSIM_FORMAT_LOG, LINSIM_FORMAT_NAMED or LINSIM_FORMAT_JSONL */
     uint16_t table;  /* the schedule table at the beginning, by its number from 0 */
 } linsim_bench_settings;
