@@ -1,13 +1,14 @@
 -- What is told of a line that was made.
 use Rattle.std.proofs.Common.{◌≡◌, ◌≤◌, ◌<◌, ◌-◌, ◌^◌, ◌∙◌, ◌++◌, ◌||◌, ℕ, Err, List, None, Ok, Option, Result, Some, ap, arith, drop, length, refl, reverse, subst, sym, take}
-use Rattle.std.specs.Prelude.{IfSome}
+use Rattle.std.specs.Prelude.{Box, IfSome}
+use Rattle.std.specs.Global.{Global}
 use Rattle.std.proofs.lemmas.List.{length-append, length-reverse, reverse-reverse, take-append-le}
 use Rattle.std.proofs.Math.Seq.{take-append_seam}
 use Rattle.lin_parts.specs.declared.parts.Parts.{Parts}
 use Rattle.lin_core.specs.Core.{CoreData, past_of}
 use Rattle.lin_core.specs.declared.log.LogEntry.{LogEntry}
 use Rattle.lin_log.specs.Words.{text}
-use Rattle.lin_export.specs.Jsonl.{IsObjectTrackOf, ObjectTrackData}
+use Rattle.lin_export.specs.Jsonl.{ObjectTrackData}
 use Rattle.lin_export.specs.LastSlot.{IsKeptOf, LastSlotData}
 use Rattle.lin_export.specs.Track.{TrackData, track_of}
 use Rattle.lin_text.proofs.Adding.{appends-nothing}
@@ -18,7 +19,7 @@ use Rattle.lin_bench.specs.Made.{BenchState}
 use Rattle.lin_bench.specs.declared.got.Verdict.{Verdict}
 use Rattle.lin_bench.specs.declared.line.ScriptLine.{ScriptLine}
 use Rattle.lin_values.specs.Coded.{CodedData}
-use Rattle.lin_live.specs.Hand.{IsFollowed, IsKept, earlier, entries_from, fault_of, hand_data, hash_line_ending, line_text}
+use Rattle.lin_live.specs.Hand.{IsBoxedTrackOf, IsFollowed, IsKept, earlier, entries_from, fault_of, hand_data, hash_line_ending, line_text}
 use Rattle.lin_text.specs.Written.{WritesText}
 use Rattle.lin_live.specs.Serving.{WritesAlone, WritesAnswer}
 use Rattle.lin_live.specs.Told.{HandData, Is, after_line, ending_text, entries_text, hash_ending, last_line, object_ending, verdict_with_meaning, is_limit, is_unmet_verdict, shown_coding, verdict_ending, written}
@@ -93,7 +94,7 @@ kept-there a before new line v from k is makes is_from same_track same_objects h
     ∙ earlier-was (past_of a.bench.core) (past_of new.core) (line-grown a before new line v is makes) in
     let old : IsKept a.bench.core.cluster (past_of a.bench.core) k = record {
       track = subst (λ (o : Option TrackData). IfSome o (λ t. t ≡ track_of a.bench.core.cluster (past_of a.bench.core))) (sym same_track) h.track;
-      objects = subst (λ (o : Option ObjectTrackData). IfSome o (IsObjectTrackOf a.bench.core.cluster (past_of a.bench.core))) (sym same_objects) h.objects;
+      objects = subst (λ (o : Option (Box ObjectTrackData Global)). IfSome o (IsBoxedTrackOf a.bench.core.cluster (past_of a.bench.core))) (sym same_objects) h.objects;
     } in
     subst (λ (x : Parts). IsKept x (earlier from (past_of new.core)) k) (sym c)
     (subst (λ (l : List LogEntry). IsKept a.bench.core.cluster l k) (sym p) old)

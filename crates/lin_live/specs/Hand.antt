@@ -1,5 +1,6 @@
 -- What contracts see of a bench in hand.
-use Rattle.std.specs.Prelude.{◌≡◌, ◌++◌, ℕ, Bool, false, List, IfSome, Option, drop, reverse, take}
+use Rattle.std.specs.Prelude.{◌≡◌, ◌++◌, ℕ, Box, Bool, false, List, IfSome, Option, drop, reverse, take}
+use Rattle.std.specs.Global.{Global}
 use Rattle.lin_values.specs.Coded.{CodedData}
 use Rattle.lin_core.specs.Core.{CoreData}
 use Rattle.lin_core.specs.declared.log.LogEntry.{LogEntry}
@@ -7,7 +8,7 @@ use Rattle.lin_bench.specs.Bench.{new_bench, with_all_slots, state_of}
 use Rattle.lin_bench.specs.declared.fault.MakeFault.{MakeFault}
 use Rattle.lin_bench.specs.declared.fault.MakeFault.TheVariants as makes
 use Rattle.lin_bench.specs.declared.got.Verdict.{Verdict}
-use Rattle.lin_export.specs.Jsonl.{IsObjectTrackOf}
+use Rattle.lin_export.specs.Jsonl.{IsObjectTrackOf, ObjectTrackData}
 use Rattle.lin_export.specs.LastSlot.{IsKeptOf}
 use Rattle.lin_export.specs.Track.{track_of}
 use Rattle.lin_live.specs.Told.{Ending, Failed, Fine, Limit, Refused}
@@ -62,16 +63,20 @@ line_text h from verdict =
     entries_from h.format h from
     ++ ending_text h (verdict_ending h.cluster verdict (drop from (reverse h.bench.past)))
 
+-- the track in a box is that of a history
+abbrev pub IsBoxedTrackOf : Parts → List LogEntry → Box ObjectTrackData Global → Type 0
+IsBoxedTrackOf c past b = IsObjectTrackOf c past b.value
+
 -- the tracks for writing further entries, if they are at hand, are those of a history
 pub record IsKept (c : Parts) (past : List LogEntry) (kept : KeptTracks) : Type 0 where
   pub track : IfSome kept.track (λ t. t ≡ track_of c past)
-  pub objects : IfSome kept.objects (IsObjectTrackOf c past)
+  pub objects : IfSome kept.objects (IsBoxedTrackOf c past)
 
 -- the tracks, if they are at hand, are those of the whole log, and the slot that ended last is kept of a
 -- beginning of the log
 pub record IsFollowed (a : Inside) : Type 0 where
   pub track : IfSome a.track (λ t. t ≡ track_of a.bench.core.cluster (reverse a.bench.core.log))
-  pub objects : IfSome a.objects (IsObjectTrackOf a.bench.core.cluster (reverse a.bench.core.log))
+  pub objects : IfSome a.objects (IsBoxedTrackOf a.bench.core.cluster (reverse a.bench.core.log))
   pub slot : IfSome a.last_slot (IsKeptOf a.bench.core.cluster a.bench.core.log)
 
 -- a bench in hand on which no line was made

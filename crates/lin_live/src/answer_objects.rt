@@ -4,7 +4,7 @@ ghost use Rattle.std.specs.Prelude.{◌≡◌, ◌++◌, ◌<◌, ◌≤◌, IfO
 ghost use Rattle.std.specs.Prelude.{flat_map, length, map, reverse, take};
 ghost use Rattle.lin_export.specs.Csv.{after_comma};
 ghost use Rattle.lin_export.specs.Json.{with_commas};
-ghost use Rattle.lin_export.specs.Jsonl.{IsObjectTrackOf, objects_of};
+ghost use Rattle.lin_export.specs.Jsonl.{objects_of};
 ghost use Rattle.lin_export.specs.Members.{member_shown};
 ghost use Rattle.lin_export.specs.WhereTold.{given_coding};
 ghost use Rattle.lin_frame.specs.Words.{numbers};
@@ -12,7 +12,7 @@ ghost use Rattle.lin_log.specs.Words.{spaced_word};
 ghost use Rattle.lin_parts.specs.Cluster.{nodes};
 ghost use Rattle.lin_parts.specs.declared.parts.Parts.{Parts};
 ghost use Rattle.lin_text.specs.Written.{Grows, WritesText};
-ghost use Rattle.lin_live.specs.Hand.{ending_of};
+ghost use Rattle.lin_live.specs.Hand.{IsBoxedTrackOf, ending_of};
 ghost use Rattle.lin_live.specs.Serving.{WritesAlone};
 ghost use Rattle.lin_live.specs.Told.{Bad, Is, answer_beginning, answer_object, object_ending, question_reason_text};
 ghost use Rattle.lin_live.specs.Told.{steps_ending, verdict_ending};
@@ -223,29 +223,38 @@ pub(crate) fn write_value_object<W: Write>(
     Ok(())
 }
 
+/// Returns the track of the entries of a log before one. An error means out of memory.
+fn boxed_track(alloc: Global, core: &Core, from: usize) -> Result<Box<ObjectTrack>, AllocError>
+    requires { from ≤ length core.now.log }
+    ensures { IfOk result (IsBoxedTrackOf core.now.cluster (reverse (take from core.now.log))) }
+{
+    let track = ObjectTrack::up_to(alloc, core.cluster(), core.log(), from)?;
+    Ok(Box::new(alloc, track)?)
+}
+
 /// Returns the objects of the entries of a log from one on, and the track of all entries. The entries
 /// before are read again if their track isn't at hand. An error means out of memory.
 pub(crate) fn with_objects(
     alloc: Global,
     core: &Core,
     coded: Option<&Coded>,
-    objects: Option<ObjectTrack>,
+    objects: Option<Box<ObjectTrack>>,
     from: usize,
-) -> Result<(Vec<u8>, ObjectTrack), AllocError>
+) -> Result<(Vec<u8>, Box<ObjectTrack>), AllocError>
     requires there { from ≤ length core.now.log }
-    requires track { IfSome objects (IsObjectTrackOf core.now.cluster (reverse (take from core.now.log))) }
+    requires track { IfSome objects (IsBoxedTrackOf core.now.cluster (reverse (take from core.now.log))) }
     ensures text { IfOk result (λ made. made.0.items
         ≡ objects_of core.now.cluster (given_coding coded.entry)
         (reverse (take from core.now.log)) (drop from core.now.log)) }
     ensures track { IfOk result (λ made.
-        IsObjectTrackOf core.now.cluster (reverse core.now.log) made.1) }
+        IsBoxedTrackOf core.now.cluster (reverse core.now.log) made.1) }
 {
-    let mut objects = match objects {
-        Some(objects) => objects,
-        None => ObjectTrack::up_to(alloc, core.cluster(), core.log(), from)?,
+    let mut track = match objects {
+        Some(track) => track,
+        None => boxed_track(alloc, core, from)?,
     };
-    let text = objects_text(alloc, &mut objects, core.cluster(), coded, core.log(), from)?;
-    Ok((text, objects))
+    let text = objects_text(alloc, &mut *track, core.cluster(), coded, core.log(), from)?;
+    Ok((text, track))
 }
 
 /// How a line ends.

@@ -4,8 +4,7 @@ ghost use Rattle.std.specs.Prelude.{◌≡◌, ◌<◌, ◌≤◌, ◌-◌, ◌^
 ghost use Rattle.std.specs.Prelude.{None, if◌then◌else◌, length, option_map, reverse, true};
 ghost use Rattle.lin_bench.specs.Scripts.{without_mark};
 ghost use Rattle.lin_live.specs.Asked.{Gives, IsAskable};
-ghost use Rattle.lin_live.specs.Hand.{IsKept, earlier, entries_from, line_text};
-ghost use Rattle.lin_export.specs.Jsonl.{IsObjectTrackOf};
+ghost use Rattle.lin_live.specs.Hand.{IsBoxedTrackOf, IsKept, earlier, entries_from, line_text};
 ghost use Rattle.lin_export.specs.LastSlot.{IsKeptOf};
 ghost use Rattle.lin_export.specs.Track.{track_of};
 ghost use Rattle.lin_live.specs.Serving.{WritesAlone, WritesAnswer};
@@ -54,8 +53,8 @@ pub struct Hand {
     is_physical: bool,
     /// What is kept of the log for telling further entries with names, where it is at hand.
     track: Option<Track>,
-    /// The same for objects.
-    objects: Option<ObjectTrack>,
+    /// The same for objects, in a box: it has 1 KiB, and each line moves it.
+    objects: Option<Box<ObjectTrack>>,
     /// The slot that had ended last when it was last asked for.
     last_slot: Option<LastSlot>,
     /// Whether there was a line.
@@ -80,7 +79,7 @@ impl Model for Hand {
 #[derive(Drop)]
 struct KeptTracks {
     track: Option<Track>,
-    objects: Option<ObjectTrack>,
+    objects: Option<Box<ObjectTrack>>,
 }
 
 /// Whether a line made more slots than a line may.
@@ -329,12 +328,12 @@ impl Hand {
     fn objects_from(
         &mut self,
         alloc: Global,
-        objects: Option<ObjectTrack>,
+        objects: Option<Box<ObjectTrack>>,
         from: usize,
     ) -> Result<Vec<u8>, AllocError>
         requires there { from ≤ length self.old.bench.past }
         requires track { IfSome objects
-            (IsObjectTrackOf self.old.cluster (earlier from self.old.bench.past)) }
+            (IsBoxedTrackOf self.old.cluster (earlier from self.old.bench.past)) }
         ensures same { self.new ≡ self.old }
         ensures text { IfOk result (λ text. text.items ≡ entries_from Jsonl self.old from) }
     {
