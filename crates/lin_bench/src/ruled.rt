@@ -261,6 +261,7 @@ impl RuledCore {
     }
 
     /// Makes a step by a port, whatever the faults are, and what the rules add after it.
+    #[inline(always)]
     fn make_unchanged(&mut self, alloc: Global, by: PortId, step: Step) -> Result<(), MakeFault>
         ensures { MakesUnchanged self.old ((by, step) ∷ []) result self.new }
     {
