@@ -23,6 +23,7 @@ pub mod Runs
 pub mod Stricts
 pub mod Steps
 pub mod RuleLaws
+pub mod RulesInForce
 pub mod AlikeBefore
 pub mod DueFew
 pub mod Few

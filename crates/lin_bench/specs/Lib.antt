@@ -30,4 +30,5 @@ pub mod Plays
 pub mod FaultLaws
 pub mod LineWords
 pub mod Texts
+pub mod RulesInForce
 pub mod Plain

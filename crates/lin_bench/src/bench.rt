@@ -5,6 +5,7 @@ ghost use Rattle.lin_bench.specs.Bench.{early_end};
 ghost use Rattle.lin_core.specs.Core.{past_of};
 ghost use Rattle.lin_bench.specs.Made.{expected_after, met_or};
 ghost use Rattle.lin_bench.specs.Making.{ending_of};
+ghost use Rattle.lin_bench.specs.RulesInForce.{lines_of_rules};
 ghost use Rattle.lin_bench.specs.Searches.{IsSearchState, taken_by};
 ghost use Rattle.lin_bench.specs.Slots.{pending};
 ghost use Rattle.lin_bench.specs.Verdicts.{kind_taken, taking, verdict};
@@ -16,11 +17,12 @@ use crate::faults::ArmedFault;
 use crate::got::{Pending, Verdict};
 use crate::line::{Disturbance, Extent, ScriptLine, Slots};
 use crate::ruled::{RuledCore, pending};
+use crate::rules_in_force::lines_of_rules;
 use crate::slot_runs::{Ending, SLOT_LIMIT, slots};
 use crate::taken::{Cleared, TakenEvents};
 use crate::verdicts::verdict;
 use lin_core::Core;
-use lin_text::Many;
+use lin_text::{Many, Text};
 use std::alloc::{AllocError, Global};
 use std::marker::Model;
 
@@ -159,6 +161,16 @@ impl Bench {
             ≡ pending self.now.core.cluster (past_of self.now.core) self.now.rules.noted) }
     {
         pending(alloc, &self.ruled)
+    }
+
+    /// Returns the lines that make the rules in force, each without its end: `when` in the order of the
+    /// first lines of a node and a pattern, then `timeouts`, `response_errors on`, `services on`, and
+    /// `every` in the order of the lines. An error means out of memory.
+    pub fn rules(&self, alloc: Global) -> Result<Vec<Text>, AllocError>
+        ensures { IfOk result (λ lines. lines.items
+            ≡ lines_of_rules self.now.core.cluster self.now.rules) }
+    {
+        lines_of_rules(alloc, self.core().cluster(), self.ruled.rules())
     }
 
     /// Lets the lines from now on make 1,000,000 slots, whatever those before made.

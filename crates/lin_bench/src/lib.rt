@@ -44,6 +44,7 @@ mod replies;
 mod rule_lines;
 mod ruled;
 mod rules;
+mod rules_in_force;
 mod said_values;
 mod script;
 mod slot_runs;

@@ -169,7 +169,7 @@ fn put_pattern_bytes<W: Write>(out: &mut TextWriter<'_, W>, bytes: &[Option<u8>]
 }
 
 /// A pattern as one field, with `*` if more bytes may follow.
-fn put_pattern<W: Write>(out: &mut TextWriter<'_, W>, pattern: &Pattern)
+pub(crate) fn put_pattern<W: Write>(out: &mut TextWriter<'_, W>, pattern: &Pattern)
     ensures { Grows W.contents out.old out.new (pattern_word pattern.now) }
 {
     put_pattern_bytes(out, pattern.bytes.as_slice());

@@ -188,6 +188,13 @@ impl RuledCore {
         core
     }
 
+    /// The rules in force.
+    pub(crate) fn rules(&self) -> &Rules
+        ensures { result.now ≡ self.now.rules }
+    {
+        &self.rules
+    }
+
     /// The answers that are noted.
     pub(crate) fn noted(&self) -> &[Noted]
         ensures { result.now ≡ self.now.rules.noted }

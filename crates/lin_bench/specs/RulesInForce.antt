@@ -1,0 +1,91 @@
+-- The rules in force as the lines that make them.
+use Rattle.std.specs.Prelude.{ℕ, ◌==◌, Bool, if◌then◌else◌, List, [], ◌∷◌, ◌++◌, codes, flat_map, map, Option, Some, None}
+use Rattle.std.specs.Fmt.{decimal}
+use Rattle.hex.specs.Hex.{encode_upper}
+use Rattle.lin_parts.specs.declared.parts.Parts.{Parts}
+use Rattle.lin_core.specs.declared.port.PortId.{PortId}
+use Rattle.lin_core.specs.declared.port.PortId.TheVariants.{Bus}
+use Rattle.lin_log.specs.Language.{named_language, word_of}
+use Rattle.lin_log.specs.Words.{port_word, spaced_word, step_words}
+use Rattle.lin_bench.specs.LineWords.{pattern_word}
+use Rattle.lin_bench.specs.declared.rules.Every.{Every}
+use Rattle.lin_bench.specs.declared.rules.Part.{Part}
+use Rattle.lin_bench.specs.declared.rules.Part.TheVariants.{Byte, Copied}
+use Rattle.lin_bench.specs.declared.rules.RuleAnswer.{RuleAnswer}
+use Rattle.lin_bench.specs.declared.rules.Rules.{Rules}
+use Rattle.lin_bench.specs.declared.rules.When.{When}
+use Rattle.lin_bench.specs.declared.rules_in_force.RuleLine.{RuleLine}
+use Rattle.lin_bench.specs.declared.rules_in_force.RuleLine.TheVariants as code
+
+-- ---- `when`: bytes in a row are one field, and each byte that is copied is a field, `$` and its number
+abbrev pub part_word : Part → List ℕ
+part_word (Byte b) = encode_upper (b ∷ [])
+part_word (Copied k) = 36 ∷ decimal k
+
+-- what stands between a part and the one before it
+abbrev pub part_gap : Option Part → Part → List ℕ
+part_gap (Some (Byte a)) (Byte b) = []
+part_gap before part = 32 ∷ []
+
+-- the parts after another one
+abbrev pub parts_text : Option Part → List Part → List ℕ
+parts_text before [] = []
+parts_text before (p ∷ ps) = (part_gap before p ++ part_word p) ++ parts_text (Some p) ps
+
+-- a time in milliseconds after a word
+abbrev pub time_text : List ℕ → ℕ → List ℕ
+time_text word ms = word ++ (decimal ms ++ codes " ms")
+
+abbrev pub wait_text : ℕ → List ℕ
+wait_text ms = if ms == 0 then [] else time_text (codes " after ") ms
+
+abbrev pub answer_text : RuleAnswer → List ℕ
+answer_text a = parts_text None a.parts ++ wait_text a.wait_ms
+
+abbrev pub further_answer_text : RuleAnswer → List ℕ
+further_answer_text a = codes " then" ++ answer_text a
+
+abbrev pub answers_text : List RuleAnswer → List ℕ
+answers_text [] = codes " silent"
+answers_text (a ∷ more) = codes " answer" ++ (answer_text a ++ flat_map further_answer_text more)
+
+abbrev pub when_line : Parts → When → List ℕ
+when_line c w =
+    codes "when"
+    ++ (spaced_word (word_of (named_language c).nodes w.node)
+    ++ (spaced_word (pattern_word w.pattern) ++ answers_text w.answers))
+
+-- ---- `every`: the bus makes the step if no port stands before it
+abbrev pub port_text : Parts → PortId → List ℕ
+port_text c Bus = []
+port_text c port = spaced_word (port_word (named_language c) port)
+
+abbrev pub every_line : Parts → Every → List ℕ
+every_line c e =
+    time_text (codes "every ") e.period_ms
+    ++ (port_text c e.by ++ flat_map spaced_word (step_words (named_language c) e.step))
+
+-- ---- all of them
+-- the line of a rule, as code has it
+abbrev pub rule_line : Parts → RuleLine → List ℕ
+rule_line c (code.When w) = when_line c w.now
+rule_line c (code.Timeouts ms) = time_text (codes "timeouts ") ms
+rule_line c (code.Switch line) = line.now
+rule_line c (code.Every e) = every_line c e.now
+
+abbrev pub timeouts_lines : Option ℕ → List (List ℕ)
+timeouts_lines None = []
+timeouts_lines (Some ms) = time_text (codes "timeouts ") ms ∷ []
+
+-- a line that stands where something is on
+abbrev pub line_if : Bool → List ℕ → List (List ℕ)
+line_if is_on line = if is_on then line ∷ [] else []
+
+abbrev pub switch_lines : Rules → List (List ℕ)
+switch_lines r =
+    line_if r.errors (codes "response_errors on") ++ line_if r.services (codes "services on")
+
+abbrev pub lines_of_rules : Parts → Rules → List (List ℕ)
+lines_of_rules c r =
+    ((map (when_line c) r.whens ++ timeouts_lines r.limit_ms) ++ switch_lines r)
+    ++ map (λ repeated. every_line c repeated.every) r.everies
