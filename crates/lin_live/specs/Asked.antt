@@ -14,7 +14,7 @@ use Rattle.lin_bench.specs.declared.fault.LineFault.{LineFault as ScriptFault}
 use Rattle.lin_bench.specs.declared.fault.LineFault.TheVariants as scripts
 use Rattle.lin_live.specs.declared.question.Question.{Question}
 use Rattle.lin_live.specs.declared.question.Question.TheVariants.{Signal, Waiting, Idle, Time}
-use Rattle.lin_live.specs.declared.question.Question.TheVariants.{Asleep, Next, Version, Nodes, LastSlot}
+use Rattle.lin_live.specs.declared.question.Question.TheVariants.{Asleep, Next, Version, Nodes, LastSlot, Rules}
 use Rattle.lin_live.specs.declared.reason.LineFault.{LineFault}
 use Rattle.lin_live.specs.declared.reason.LineFault.TheVariants.{Bad, OutOfMemory}
 use Rattle.lin_live.specs.declared.reason.Reason.{Reason}
@@ -70,6 +70,7 @@ word_question c all word fs =
     else if bytes_eq word (codes "version") then lone_question all Version fs
     else if bytes_eq word (codes "nodes") then lone_question all Nodes fs
     else if bytes_eq word (codes "slot") then lone_question all LastSlot fs
+    else if bytes_eq word (codes "rules") then lone_question all Rules fs
     else Err (UnknownQuestion all)
 
 -- what is asked, by the fields after `?`

@@ -149,7 +149,7 @@ shown_coding h = if h.is_physical then h.coded else None
 
 -- the answer to a question to a session
 abbrev pub asked_value : HandData → Question → Said
-asked_value h asked = said h.cluster h.opening h.bench.past h.bench.rules.noted asked
+asked_value h asked = said h.cluster h.opening h.bench.past h.bench.rules asked
 
 -- the last line of an answer of a session
 abbrev pub ending_text : HandData → Ending → List ℕ

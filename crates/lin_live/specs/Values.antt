@@ -20,8 +20,10 @@ use Rattle.lin_values.specs.Shown.{shown as meaning_text}
 use Rattle.lin_bench.specs.Slots.{pending}
 use Rattle.lin_bench.specs.Texts.{pending_text, table_word}
 use Rattle.lin_bench.specs.declared.got.Pending.{Pending}
-use Rattle.lin_bench.specs.declared.rules.Noted.{Noted}
-use Rattle.lin_export.specs.Json.{json_array, member, object, quoted_text}
+use Rattle.lin_bench.specs.LineWords.{seen_texts}
+use Rattle.lin_bench.specs.RulesInForce.{lines_of_rules}
+use Rattle.lin_bench.specs.declared.rules.Rules.{Rules as RulesInForce}
+use Rattle.lin_export.specs.Json.{json_array, member, object, printable_text, quoted_text}
 use Rattle.lin_export.specs.Jsonl.{meant_members, nad_value, node_text, signal_value}
 use Rattle.lin_export.specs.LastSlot.{EndedSlot, IsKeptOf, kept_slot, last_slot, last_slot_text, last_slot_value}
 use Rattle.lin_export.specs.Listing.{address_word}
@@ -31,9 +33,10 @@ use Rattle.lin_live.specs.declared.answer_value.AnswerValue.{AnswerValue}
 use Rattle.lin_live.specs.declared.answer_value.AnswerValue.TheVariants as code
 use Rattle.lin_live.specs.declared.question.Question.{Question}
 use Rattle.lin_live.specs.declared.question.Question.TheVariants.{Signal, Waiting, Idle, Time}
-use Rattle.lin_live.specs.declared.question.Question.TheVariants.{Asleep, Next, Version, Nodes, LastSlot}
+use Rattle.lin_live.specs.declared.question.Question.TheVariants.{Asleep, Next, Version, Nodes, LastSlot, Rules}
 
--- a value of a signal, a number, words, the versions, the nodes, or the slot that ended last
+-- a value of a signal, a number, words, the versions, the nodes, the slot that ended last, or the lines
+-- that make the rules in force
 pub data Said : Type 0 where
   SignalValue : (signal : ℕ) → (value : Value) → Said
   Number : (n : ℕ) → Said
@@ -41,8 +44,9 @@ pub data Said : Type 0 where
   Versions : Said
   AllNodes : Said
   Ended : (last : Option EndedSlot) → Said
+  RuleLines : (lines : List (List ℕ)) → Said
 
--- ---- the answer to a question after a history, with the answers that are scheduled
+-- ---- the answer to a question after a history, with the rules in force
 abbrev pub idle_text : Parts → List Pending → List ℕ
 idle_text c [] = codes "idle"
 idle_text c (p ∷ ps) = pending_text c (p ∷ ps)
@@ -61,16 +65,17 @@ next_text c opening past =
     (λ (s : ℕ × ℕ × Option ℕ). slot_text c (s.0, s.1) s.2)
     (next_slot c opening past) (codes "open")
 
-abbrev pub said : Parts → ℕ → List LogEntry → List Noted → Question → Said
-said c opening past noted (Signal node signal) = SignalValue signal (value_at c past node signal)
-said c opening past noted (Waiting host) = Number (length (waiting c past host))
-said c opening past noted Idle = Words (idle_text c (pending c past noted))
-said c opening past noted Time = Number (time c past)
-said c opening past noted Asleep = Words (if asleep past then codes "asleep" else codes "awake")
-said c opening past noted Next = Words (next_text c opening past)
-said c opening past noted Version = Versions
-said c opening past noted Nodes = AllNodes
-said c opening past noted LastSlot = Ended (last_slot c past)
+abbrev pub said : Parts → ℕ → List LogEntry → RulesInForce → Question → Said
+said c opening past rules (Signal node signal) = SignalValue signal (value_at c past node signal)
+said c opening past rules (Waiting host) = Number (length (waiting c past host))
+said c opening past rules Idle = Words (idle_text c (pending c past rules.noted))
+said c opening past rules Time = Number (time c past)
+said c opening past rules Asleep = Words (if asleep past then codes "asleep" else codes "awake")
+said c opening past rules Next = Words (next_text c opening past)
+said c opening past rules Version = Versions
+said c opening past rules Nodes = AllNodes
+said c opening past rules LastSlot = Ended (last_slot c past)
+said c opening past rules Rules = RuleLines (lines_of_rules c rules)
 
 -- the answer that a value of the code stands for
 abbrev pub as_said : Parts → AnswerValue → Said
@@ -83,6 +88,7 @@ as_said c (code.Slot table entry header) = Words (slot_text c (table, entry) hea
 as_said c code.Version = Versions
 as_said c code.Nodes = AllNodes
 as_said c (code.LastSlot last) = Ended (kept_slot last)
+as_said c (code.Rules lines) = RuleLines lines
 
 -- if the slot that ended last was asked for, it is that of a beginning of these entries
 abbrev pub KeepsLastSlot : Parts → List LogEntry → AnswerValue → Type 0
@@ -114,6 +120,10 @@ abbrev pub with_gaps : List (List ℕ) → List ℕ
 with_gaps [] = []
 with_gaps (text ∷ texts) = text ++ flat_map after_gap texts
 
+abbrev pub rules_text : List (List ℕ) → List ℕ
+rules_text [] = codes "none"
+rules_text (line ∷ lines) = seen_texts (codes "; ") (line ∷ lines)
+
 abbrev pub said_text : Parts → Option CodedData → Said → List ℕ
 said_text c k (SignalValue signal value) = shown_value k signal value
 said_text c k (Number n) = decimal n
@@ -121,6 +131,7 @@ said_text c k (Words words) = words
 said_text c k Versions = program_version ++ spaced_word (decimal objects_version)
 said_text c k AllNodes = with_gaps (map (addressed_node c) (numbers (nodes c)))
 said_text c k (Ended last) = last_slot_text c last
+said_text c k (RuleLines lines) = rules_text lines
 
 -- ---- as members
 abbrev pub node_value : Parts → ℕ → List ℕ
@@ -140,6 +151,7 @@ said_value c (Words words) = quoted_text words
 said_value c Versions = versions_value
 said_value c AllNodes = json_array (map (node_value c) (numbers (nodes c)))
 said_value c (Ended last) = last_slot_value c last
+said_value c (RuleLines lines) = json_array (map printable_text lines)
 
 -- the meaning of a signal's value, if the encodings are given
 abbrev pub meant_of : Option CodedData → Said → List (List ℕ)

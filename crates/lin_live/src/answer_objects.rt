@@ -3,7 +3,7 @@
 ghost use Rattle.std.specs.Prelude.{◌≡◌, ◌++◌, ◌<◌, ◌≤◌, IfOk, IfSome, None, Option, drop};
 ghost use Rattle.std.specs.Prelude.{flat_map, length, map, reverse, take};
 ghost use Rattle.lin_export.specs.Csv.{after_comma};
-ghost use Rattle.lin_export.specs.Json.{with_commas};
+ghost use Rattle.lin_export.specs.Json.{printable_text, with_commas};
 ghost use Rattle.lin_export.specs.Jsonl.{objects_of};
 ghost use Rattle.lin_export.specs.Members.{member_shown};
 ghost use Rattle.lin_export.specs.WhereTold.{given_coding};
@@ -29,10 +29,10 @@ use lin_bench::{Judged, Verdict, first_refusal};
 use lin_core::{Core, Listed, Refusal};
 use lin_export::{
     Member, ObjectTrack, nad_member, objects_text, put_first, put_key, put_last_slot_value,
-    put_meant, put_member, put_members, put_separator, put_type, put_value_member,
+    put_meant, put_member, put_members, put_printable, put_separator, put_type, put_value_member,
 };
 use lin_parts::Cluster;
-use lin_text::{TextBuffer, TextWriter, WriteFailed};
+use lin_text::{Text, TextBuffer, TextWriter, WriteFailed};
 use lin_values::Coded;
 use std::alloc::{AllocError, Global};
 use std::io::Write;
@@ -146,6 +146,16 @@ fn put_nodes<W: Write>(out: &mut TextWriter<'_, W>, cluster: &Cluster)
     }
 }
 
+/// The lines of rules as texts with a comma between two.
+fn put_rule_values<W: Write>(out: &mut TextWriter<'_, W>, lines: &[Text])
+    ensures { Grows W.contents out.old out.new (with_commas (map printable_text lines.now)) }
+{
+    for place in 0..lines.len() {
+        put_separator(out, place);
+        put_printable(out, lines[place].as_slice());
+    }
+}
+
 /// The answer to a question as a member and, if the encodings are given, the meaning of a signal's
 /// value. The answer is also given as words, after a space.
 fn put_said<W: Write>(
@@ -178,6 +188,12 @@ fn put_said<W: Write>(
         AnswerValue::LastSlot(last) => {
             put_key(out, "value");
             put_last_slot_value(out, cluster, last.as_ref());
+        }
+        AnswerValue::Rules(lines) => {
+            put_key(out, "value");
+            out.put_byte(b'[');
+            put_rule_values(out, lines.as_slice());
+            out.put_byte(b']');
         }
         AnswerValue::Pending(_)
         | AnswerValue::Asleep(_)

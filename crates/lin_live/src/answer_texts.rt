@@ -14,7 +14,7 @@ ghost use Rattle.lin_text.specs.Written.{Grows, WritesText};
 ghost use Rattle.lin_live.specs.Hand.{hash_line_ending};
 ghost use Rattle.lin_live.specs.Told.{hash_ending, hash_line, question_reason_text, steps_ending};
 ghost use Rattle.lin_live.specs.Values.{addressed_node, as_said, idle_text, objects_version};
-ghost use Rattle.lin_live.specs.Values.{program_version, said_text, shown_value, slot_text, with_gaps};
+ghost use Rattle.lin_live.specs.Values.{program_version, rules_text, said_text, shown_value, slot_text, with_gaps};
 ghost use Rattle.lin_values.specs.Coded.{CodedData};
 
 use crate::answer_value::AnswerValue;
@@ -26,7 +26,7 @@ use lin_export::{Track, named_text, put_last_slot, put_slot_names};
 use lin_frame::Value;
 use lin_log::{put_entries, put_number, put_table, put_value, put_word};
 use lin_parts::Cluster;
-use lin_text::{TextBuffer, TextWriter, WriteFailed};
+use lin_text::{Text, TextBuffer, TextWriter, WriteFailed};
 use lin_values::{Coded, put_meaning};
 use std::alloc::{AllocError, Global};
 use std::io::Write;
@@ -180,6 +180,17 @@ fn put_nodes<W: Write>(out: &mut TextWriter<'_, W>, cluster: &Cluster)
     }
 }
 
+/// The lines of rules.
+fn put_rules<W: Write>(out: &mut TextWriter<'_, W>, lines: &[Text])
+    ensures { Grows W.contents out.old out.new (rules_text lines.now) }
+{
+    if lines.is_empty() {
+        out.put_text("none");
+    } else {
+        put_texts(out, "; ", lines);
+    }
+}
+
 /// The value that answers a question, after a space.
 pub(crate) fn put_answer<W: Write>(
     out: &mut TextWriter<'_, W>,
@@ -209,6 +220,10 @@ pub(crate) fn put_answer<W: Write>(
         AnswerValue::Version => put_versions(out),
         AnswerValue::Nodes => put_nodes(out, cluster),
         AnswerValue::LastSlot(last) => put_last_slot(out, cluster, last.as_ref()),
+        AnswerValue::Rules(lines) => {
+            out.put_byte(b' ');
+            put_rules(out, lines.as_slice());
+        }
     }
 }
 

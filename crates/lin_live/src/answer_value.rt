@@ -11,7 +11,7 @@ use lin_bench::{Bench, Pending};
 use lin_core::Core;
 use lin_export::LastSlot;
 use lin_frame::Value;
-use lin_text::Many;
+use lin_text::{Many, Text};
 use std::alloc::{AllocError, Global};
 
 /// What is said to a question.
@@ -41,6 +41,8 @@ pub(crate) enum AnswerValue {
     Nodes,
     /// The slot that ended last.
     LastSlot(Option<LastSlot>),
+    /// The lines that make the rules in force.
+    Rules(Many<Text>),
 }
 
 /// Which slot comes next.
@@ -72,7 +74,7 @@ pub(crate) fn value_of(
     requires known { IfSome known (IsKeptOf bench.now.core.cluster bench.now.core.log) }
     ensures said { IfOk result (λ value. as_said bench.now.core.cluster value
         ≡ said bench.now.core.cluster bench.now.core.opening (past_of bench.now.core)
-        bench.now.rules.noted question) }
+        bench.now.rules question) }
     ensures last { IfOk result (KeepsLastSlot bench.now.core.cluster bench.now.core.log) }
 {
     let core = bench.core();
@@ -92,5 +94,6 @@ pub(crate) fn value_of(
             let last = LastSlot::find(alloc, core.cluster(), core.log(), known)?;
             Ok(AnswerValue::LastSlot(last))
         }
+        Question::Rules => Ok(AnswerValue::Rules(Many::new(bench.rules(alloc)?))),
     }
 }

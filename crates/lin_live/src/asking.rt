@@ -132,6 +132,8 @@ fn of_word(
         lone(alloc, cluster, Question::Nodes, all, line)
     } else if word == b"slot".as_slice() {
         lone(alloc, cluster, Question::LastSlot, all, line)
+    } else if word == b"rules".as_slice() {
+        lone(alloc, cluster, Question::Rules, all, line)
     } else {
         Err(no_form(alloc, cluster, all)?)
     }

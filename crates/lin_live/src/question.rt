@@ -21,4 +21,6 @@ pub enum Question {
     Nodes,
     /// Which slot ended last.
     LastSlot,
+    /// Which rules are in force.
+    Rules,
 }

@@ -34,15 +34,16 @@ use Rattle.lin_bench.specs.declared.got.Got.{Got}
 use Rattle.lin_bench.specs.declared.got.Pending.{Pending}
 use Rattle.lin_bench.specs.declared.got.Verdict.{Verdict}
 use Rattle.lin_bench.specs.declared.got.Verdict.TheVariants.{Nothing, Met, Unmet, SlotLimit}
-use Rattle.lin_bench.specs.declared.rules.Noted.{Noted}
+use Rattle.lin_bench.specs.RulesInForce.{lines_of_rules}
+use Rattle.lin_bench.specs.declared.rules.Rules.{Rules}
 use Rattle.lin_bench.specs.Strict.{first_refusal}
 use Rattle.lin_live.specs.Told.{Is, hash_ending, hash_line, steps_ending, verdict_ending}
-use Rattle.lin_live.specs.Values.{addressed_node, after_gap, idle_text, objects_version, program_version, said, said_text, slot_text, with_gaps}
+use Rattle.lin_live.specs.Values.{addressed_node, after_gap, idle_text, objects_version, program_version, rules_text, said, said_text, slot_text, with_gaps}
 use Rattle.lin_live.specs.declared.question.Question.{Question}
 use Rattle.lin_live.specs.declared.question.Question.TheVariants as question
 use Rattle.lin_tool.specs.laws.NamedScripts.{AreOneLine, HasFrameNames, IsOneLine}
 use Rattle.lin_tool.specs.laws.Transcripts.{IsRemark}
-use Rattle.lin_tool.proofs.laws.OneLine.{expected-clean, got-clean, pending-clean}
+use Rattle.lin_tool.proofs.laws.OneLine.{expected-clean, got-clean, pending-clean, texts-clean}
 use Rattle.lin_tool.proofs.laws.Remarks.{Clean, a-remark, clean-both, each-way, is_clean, quiet-clean}
 use Rattle.lin_tool.proofs.laws.Replies.{ended-quiet, node-name, refusal-quiet, slot-quiet, value-quiet}
 
@@ -99,23 +100,28 @@ module _ (c : Parts) (a : HasNames (named_language c)) (b : HasFrameNames c) whe
   ended-said None = refl
   ended-said (Some e) = both (decimal e.number) _ (quiet-decimal e.number) (quiet-spaced (ended_words c e) (ended-quiet c a b e))
 
-  value-said : (k : Option CodedData) → IfSome k AreOneLine → (opening : ℕ) (past : List LogEntry) (noted : List Noted) (q : Question) → Clean (said_text c k (said c opening past noted q))
-  value-said k one opening past noted (question.Signal n s) =
+  rules-clean : (lines : List (List ℕ)) → Clean (rules_text lines)
+  rules-clean [] = refl
+  rules-clean (line ∷ lines) = texts-clean (codes "; ") refl (line ∷ lines)
+
+  value-said : (k : Option CodedData) → IfSome k AreOneLine → (opening : ℕ) (past : List LogEntry) (rules : Rules) (q : Question) → Clean (said_text c k (said c opening past rules q))
+  value-said k one opening past rules (question.Signal n s) =
       let v = value_at c past n s in
       let meant = option_map_or (λ (m : Meant). spaced_word (shown m)) (meaning_if_coded k s v) [] in
       quiet-clean (value_word v ++ meant) (both (value_word v) meant (value-quiet v) (meant-quiet (meaning_if_coded k s v) (told-one k one s v)))
-  value-said k one opening past noted (question.Waiting host) = quiet-clean (decimal (length (waiting c past host))) (quiet-decimal (length (waiting c past host)))
-  value-said k one opening past noted question.Idle = idle-clean (pending c past noted)
-  value-said k one opening past noted question.Time = quiet-clean (decimal (time c past)) (quiet-decimal (time c past))
-  value-said k one opening past noted question.Asleep = each-way Clean (asleep past) (codes "asleep") (codes "awake") refl refl
-  value-said k one opening past noted question.Next =
+  value-said k one opening past rules (question.Waiting host) = quiet-clean (decimal (length (waiting c past host))) (quiet-decimal (length (waiting c past host)))
+  value-said k one opening past rules question.Idle = idle-clean (pending c past rules.noted)
+  value-said k one opening past rules question.Time = quiet-clean (decimal (time c past)) (quiet-decimal (time c past))
+  value-said k one opening past rules question.Asleep = each-way Clean (asleep past) (codes "asleep") (codes "awake") refl refl
+  value-said k one opening past rules question.Next =
       each-way Clean (asleep past) (codes "asleep") (option_map_or (λ (s : ℕ × ℕ × Option ℕ). slot_text c (s.0, s.1) s.2) (next_slot c opening past) (codes "open")) refl
       (next-said (next_slot c opening past))
-  value-said k one opening past noted question.Version =
+  value-said k one opening past rules question.Version =
       let objects = decimal objects_version in
       quiet-clean (program_version ++ spaced_word objects) (both program_version (spaced_word objects) refl (quiet-decimal objects_version))
-  value-said k one opening past noted question.Nodes = quiet-clean (with_gaps (map (addressed_node c) (numbers (nodes c)))) (nodes-said (numbers (nodes c)))
-  value-said k one opening past noted question.LastSlot = quiet-clean (last_slot_text c (last_slot c past)) (ended-said (last_slot c past))
+  value-said k one opening past rules question.Nodes = quiet-clean (with_gaps (map (addressed_node c) (numbers (nodes c)))) (nodes-said (numbers (nodes c)))
+  value-said k one opening past rules question.LastSlot = quiet-clean (last_slot_text c (last_slot c past)) (ended-said (last_slot c past))
+  value-said k one opening past rules question.Rules = rules-clean (lines_of_rules c rules)
 
   -- ---- last lines
   pub ending-remark : (words : List ℕ) → is_clean words ≡ true → IsRemark (hash_line words)
@@ -145,6 +151,6 @@ module _ (c : Parts) (a : HasNames (named_language c)) (b : HasFrameNames c) whe
   verdict-remark k Nothing es = steps-remark k (first_refusal es)
   verdict-remark k (Met what) es = steps-remark k (first_refusal es)
 
-  pub value-remark : (k : Option CodedData) → IfSome k AreOneLine → (opening : ℕ) (past : List LogEntry) (noted : List Noted) (q : Question)
-      → IsRemark (hash_ending c k (Is (said c opening past noted q)))
-  value-remark k one opening past noted q = ending-remark (codes "is " ++ said_text c k (said c opening past noted q)) (value-said k one opening past noted q)
+  pub value-remark : (k : Option CodedData) → IfSome k AreOneLine → (opening : ℕ) (past : List LogEntry) (rules : Rules) (q : Question)
+      → IsRemark (hash_ending c k (Is (said c opening past rules q)))
+  value-remark k one opening past rules q = ending-remark (codes "is " ++ said_text c k (said c opening past rules q)) (value-said k one opening past rules q)

@@ -56,7 +56,7 @@ told-remark : (h : HandData) → HasNames (named_language h.cluster) → HasFram
 told-remark h a b one (Err why) = ending-remark h.cluster a b (codes "bad line: " ++ question_reason_text why) (live-clean why)
 told-remark h a b one (Ok None) = ending-remark h.cluster a b (codes "ok") refl
 told-remark h a b one (Ok (Some (Ask asked))) =
-    value-remark h.cluster a b (shown_coding h) (shown-one h one) h.opening h.bench.past h.bench.rules.noted asked
+    value-remark h.cluster a b (shown_coding h) (shown-one h one) h.opening h.bench.past h.bench.rules asked
 told-remark h a b one (Ok (Some (Make line))) =
     let m = made h.cluster h.opening h.capacity h.bench line in
     verdict-remark h.cluster a b (shown_coding h) (verdict_with_meaning h.coded m.1) (entries_since h.bench.past m.0.past)

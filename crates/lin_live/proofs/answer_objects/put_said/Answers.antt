@@ -1,7 +1,7 @@
 use Rattle.std.proofs.Common.{codes, map}
 use Rattle.lin_frame.specs.Words.{numbers}
 use Rattle.lin_parts.specs.Cluster.{nodes}
-use Rattle.lin_export.specs.Json.{json_array, member}
+use Rattle.lin_export.specs.Json.{json_array, member, printable_text}
 use Rattle.lin_export.specs.Jsonl.{meant_members, signal_value}
 use Rattle.lin_export.specs.LastSlot.{kept_slot, last_slot_value}
 use Rattle.lin_export.specs.WhereTold.{given_coding, where_told}
@@ -34,3 +34,11 @@ returns-in-LastSlot g c =
     rw c.in-LastSlot.is
     (puts-one (member (codes "value") (last_slot_value c.args.cluster.now (kept_slot c.in-LastSlot.last)))
     (grows-member (codes "value") c.put_key-in-LastSlot.ensures (rw c.as_ref.ensures.value at c.put_last_slot_value.ensures))).text
+
+pub returns-in-Rules : goal.returns-in-Rules
+returns-in-Rules g c =
+    let values = map printable_text c.in-Rules.lines in
+    rw c.in-Rules.is
+    (puts-one (member (codes "value") (json_array values))
+    (grows-list (codes "value") values (grows-member (codes "value") c.put_key-in-Rules.ensures c.put_byte-in-Rules.ensures)
+    (rw c.as_slice.ensures at c.put_rule_values.ensures) c.put_byte-in-Rules-2.ensures)).text

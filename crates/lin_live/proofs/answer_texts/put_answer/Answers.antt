@@ -6,3 +6,6 @@ returns-in-Pending g c = rw c.in-Pending.is (grows-more c.put_byte.ensures (rw c
 
 pub returns-in-LastSlot : goal.returns-in-LastSlot
 returns-in-LastSlot g c = rw c.in-LastSlot.is (rw c.as_ref.ensures.value at c.put_last_slot.ensures)
+
+pub returns-in-Rules : goal.returns-in-Rules
+returns-in-Rules g c = rw c.in-Rules.is (grows-more c.put_byte-in-Rules.ensures (rw c.as_slice-in-Rules.ensures at c.put_rules.ensures))
