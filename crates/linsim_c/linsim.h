@@ -25,8 +25,7 @@
  * handle is closed; a bench also keeps its newest answer.
  *
  * Stack: in the tests, linsim_replay, linsim_open, linsim_open_bench and linsim_line of a bench script used less than 160 KiB, and
- * each other call less than 80 KiB, in the unproved library. The proved one used no more where it was measured, which is each call
- * but linsim_line of a bench script.
+ * each other call less than 80 KiB, in the unproved library. The proved one used less.
  *
  * Versions: names, arguments, values, layouts and the text of logs stay the same in all libraries with the soname
  * liblinsim.so.0. Later versions may add functions, statuses, flags, and members at the end of linsim_bench_settings.
