@@ -12,6 +12,9 @@ use Rattle.lin_values.specs.Coded.{CodedData}
 use Rattle.lin_values.specs.declared.codings.CodingType.{CodingType}
 use Rattle.lin_export.specs.ClusterObject.{count_member, encoding_object, event_object, frame_object}
 use Rattle.lin_export.specs.ClusterObject.{node_object, signal_object, sporadic_object, table_object}
+use Rattle.lin_export.specs.declared.object.declaration_lists.Declarations.{Declarations}
+use Rattle.lin_export.specs.declared.object.declaration_lists.Declarations.TheVariants.{Nodes, Signals, Frames}
+use Rattle.lin_export.specs.declared.object.declaration_lists.Declarations.TheVariants.{Sporadics, Events, Tables}
 use Rattle.lin_export.specs.Json.{json_array, escaped_text, member, null, object, quoted_text, text_value}
 
 -- ---- reported problems
@@ -83,26 +86,47 @@ header_value found =
 abbrev pub list_member : List ℕ → List (List ℕ) → List ℕ
 list_member key values = member key (json_array values)
 
+-- the kinds of declarations: the keys of their lists, how many a cluster has, and their values
+abbrev pub kinds : List Declarations
+kinds = Nodes ∷ Signals ∷ Frames ∷ Sporadics ∷ Events ∷ Tables ∷ []
+
+abbrev pub declarations_key : Declarations → List ℕ
+declarations_key Nodes = codes "nodes"
+declarations_key Signals = codes "signals"
+declarations_key Frames = codes "frames"
+declarations_key Sporadics = codes "sporadic"
+declarations_key Events = codes "event"
+declarations_key Tables = codes "tables"
+
+abbrev pub declaration_count : Parts → Declarations → ℕ
+declaration_count c Nodes = nodes c
+declaration_count c Signals = length c.signals
+declaration_count c Frames = length c.frames
+declaration_count c Sporadics = length c.sporadic
+declaration_count c Events = length c.events
+declaration_count c Tables = length c.tables
+
+abbrev pub declaration_object : FoundData → Declarations → ℕ → List ℕ
+declaration_object found Nodes = node_object found.cluster found.description
+declaration_object found Signals = signal_object found.cluster found.description found.coded
+declaration_object found Frames = frame_object found.cluster found.description
+declaration_object found Sporadics = sporadic_object found.cluster found.description
+declaration_object found Events = event_object found.cluster found.description
+declaration_object found Tables = table_object found.cluster found.description
+
+abbrev pub declarations_member : FoundData → Declarations → List ℕ
+declarations_member found kind =
+    list_member (declarations_key kind)
+    (map (declaration_object found kind) (numbers (declaration_count found.cluster kind)))
+
 abbrev pub cluster_members : FoundData → List (List ℕ)
 cluster_members found =
-    let c = found.cluster
-    in let d = found.description
-    in member (codes "header") (header_value found)
-    ∷ list_member (codes "nodes") (map (node_object c d) (numbers (nodes c)))
-    ∷ list_member (codes "signals") (map (signal_object c d found.coded) (numbers (length c.signals)))
-    ∷ list_member (codes "frames") (map (frame_object c d) (numbers (length c.frames)))
-    ∷ list_member (codes "sporadic") (map (sporadic_object c d) (numbers (length c.sporadic)))
-    ∷ list_member (codes "event") (map (event_object c d) (numbers (length c.events)))
-    ∷ list_member (codes "tables") (map (table_object c d) (numbers (length c.tables)))
-    ∷ []
+    member (codes "header") (header_value found) ∷ map (declarations_member found) kinds
 
 -- those of an LDF that describes no cluster
 abbrev pub empty_members : List (List ℕ)
 empty_members =
-    member (codes "header") null
-    ∷ map (λ key. list_member key [])
-    (codes "nodes" ∷ codes "signals" ∷ codes "frames" ∷ codes "sporadic" ∷ codes "event"
-    ∷ codes "tables" ∷ [])
+    member (codes "header") null ∷ map (λ kind. list_member (declarations_key kind) []) kinds
 
 -- the encodings, if they are read
 abbrev pub encodings_member : Option (List CodingType) → List ℕ

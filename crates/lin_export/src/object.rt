@@ -8,18 +8,16 @@ ghost use Rattle.lin_export.specs.Csv.{after_comma};
 ghost use Rattle.lin_export.specs.Found.{found_data, problem_data};
 
 use crate::json::{Member, put_key, put_members, put_text_value};
+use crate::object::declaration_lists::{Declarations, put_declarations};
 use crate::object::encodings::put_encodings;
-use crate::object::frames::{put_events, put_frames, put_sporadics};
-use crate::object::nodes::put_nodes;
 use crate::object::problems::{Problem, put_problems};
-use crate::object::signals::put_signals;
-use crate::object::tables::put_tables;
 use lin_parts::Cluster;
 use lin_parts::description::Description;
 use lin_text::{TextBuffer, TextWriter, WriteFailed};
 use lin_values::{Coded, CodingType};
 use std::io::Write;
 
+mod declaration_lists;
 mod encodings;
 mod frames;
 pub mod nodes;
@@ -65,16 +63,14 @@ fn put_found<W: Write>(out: &mut TextWriter<'_, W>, found: &Found<'_>)
     ensures { Grows W.contents out.old out.new
         (flat_map after_comma (cluster_members (found_data found.now))) }
 {
-    let cluster = found.cluster;
-    let description = found.description;
     put_key(out, "header");
     put_header(out, found);
-    put_nodes(out, cluster, description);
-    put_signals(out, cluster, description, found.coded);
-    put_frames(out, cluster, description);
-    put_sporadics(out, cluster, description);
-    put_events(out, cluster, description);
-    put_tables(out, cluster, description);
+    put_declarations(out, found, Declarations::Nodes);
+    put_declarations(out, found, Declarations::Signals);
+    put_declarations(out, found, Declarations::Frames);
+    put_declarations(out, found, Declarations::Sporadics);
+    put_declarations(out, found, Declarations::Events);
+    put_declarations(out, found, Declarations::Tables);
 }
 
 /// The members of an LDF that describes no cluster.

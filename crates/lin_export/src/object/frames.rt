@@ -1,17 +1,16 @@
 //! The frames of a cluster in an object.
 
-ghost use Rattle.std.specs.Prelude.{◌≡◌, ◌<◌, codes, length, map, option_map, slice_get};
-ghost use Rattle.lin_frame.specs.Words.{numbers};
+ghost use Rattle.std.specs.Prelude.{◌≡◌, ◌<◌, codes, length, option_map, slice_get};
 ghost use Rattle.lin_parts.specs.Cluster.{frame_name, frame_of};
 ghost use Rattle.lin_text.specs.Written.{Grows};
 ghost use Rattle.lin_export.specs.CheckObject.{list_member};
 ghost use Rattle.lin_export.specs.ClusterObject.{event_object, frame_object, frames_member, numbered_values};
 ghost use Rattle.lin_export.specs.ClusterObject.{placed_declared, placed_object, sporadic_object};
 ghost use Rattle.lin_export.specs.Csv.{after_comma};
-ghost use Rattle.lin_export.specs.Json.{with_commas, quoted_text};
 ghost use Rattle.lin_export.specs.ListedFrames.{places};
 
 use super::positions::put_place;
+use crate::frame_places::{place_at, place_count};
 use crate::json::{
     Member, put_first, put_list, put_member, put_members, put_numbered_first, put_quoted,
     put_separator,
@@ -61,34 +60,6 @@ fn put_placed<W: Write>(
     out.put_byte(b'}');
 }
 
-fn put_all_placed<W: Write>(
-    out: &mut TextWriter<'_, W>,
-    cluster: &Cluster,
-    description: &Description,
-    frame: u16,
-)
-    requires { frame < length cluster.now.frames }
-    ensures { Grows W.contents out.old out.new
-        (with_commas (numbered_values (placed_object cluster.now description.now frame) 0
-        (places (frame_of cluster.now frame)))) }
-{
-    cluster.sound();
-    let signals = cluster.frame_signals(frame);
-    let places = cluster.layout(frame).places.as_slice();
-    for index in 0..signals.len() {
-        put_separator(out, index);
-        put_placed(
-            out,
-            cluster,
-            description,
-            frame,
-            index,
-            signals[index],
-            &places[index],
-        );
-    }
-}
-
 /// The signals of a frame, in the order of their places.
 fn put_places<W: Write>(
     out: &mut TextWriter<'_, W>,
@@ -102,7 +73,11 @@ fn put_places<W: Write>(
         (places (frame_of cluster.now frame))))) }
 {
     put_list(out, "places");
-    put_all_placed(out, cluster, description, frame);
+    for index in 0..place_count(cluster, frame) {
+        let (signal, place) = place_at(cluster, frame, index);
+        put_separator(out, index);
+        put_placed(out, cluster, description, frame, index, signal, &place);
+    }
     out.put_byte(b']');
 }
 
@@ -117,7 +92,7 @@ fn frame_declared(description: &Description, frame: u16) -> Option<&Name>
     }
 }
 
-fn put_frame<'a, W: Write>(
+pub(super) fn put_frame<'a, W: Write>(
     out: &mut TextWriter<'_, W>,
     cluster: &'a Cluster,
     description: &'a Description,
@@ -149,52 +124,15 @@ fn put_frame<'a, W: Write>(
     out.put_byte(b'}');
 }
 
-fn put_all_frames<W: Write>(
-    out: &mut TextWriter<'_, W>,
-    cluster: &Cluster,
-    description: &Description,
-)
-    ensures { Grows W.contents out.old out.new
-        (with_commas (map (frame_object cluster.now description.now)
-        (numbers (length cluster.now.frames)))) }
-{
-    cluster.sound();
-    for frame in 0..cluster.frames() {
-        put_separator(out, frame);
-        put_frame(out, cluster, description, frame as u16);
-    }
-}
-
-/// The unconditional frames of a cluster.
-pub(super) fn put_frames<W: Write>(
-    out: &mut TextWriter<'_, W>,
-    cluster: &Cluster,
-    description: &Description,
-)
-    ensures { Grows W.contents out.old out.new (after_comma (list_member (codes "frames")
-        (map (frame_object cluster.now description.now) (numbers (length cluster.now.frames))))) }
-{
-    put_list(out, "frames");
-    put_all_frames(out, cluster, description);
-    out.put_byte(b']');
-}
-
-fn put_frame_names<W: Write>(out: &mut TextWriter<'_, W>, cluster: &Cluster, frames: &[u16])
-    ensures { Grows W.contents out.old out.new
-        (with_commas (map (λ f. quoted_text (frame_name cluster.now f)) frames.now)) }
-{
-    for place in 0..frames.len() {
-        put_separator(out, place);
-        put_quoted(out, cluster.frame_name(frames[place]));
-    }
-}
-
 /// The names of the frames that a sporadic or an event-triggered frame lists.
 fn put_members_of<W: Write>(out: &mut TextWriter<'_, W>, cluster: &Cluster, frames: &[u16])
     ensures { Grows W.contents out.old out.new (after_comma (frames_member cluster.now frames.now)) }
 {
     put_list(out, "frames");
-    put_frame_names(out, cluster, frames);
+    for place in 0..frames.len() {
+        put_separator(out, place);
+        put_quoted(out, cluster.frame_name(frames[place]));
+    }
     out.put_byte(b']');
 }
 
@@ -209,7 +147,7 @@ fn sporadic_declared(description: &Description, sporadic: u16) -> Option<&Name>
     }
 }
 
-fn put_sporadic<'a, W: Write>(
+pub(super) fn put_sporadic<'a, W: Write>(
     out: &mut TextWriter<'_, W>,
     cluster: &'a Cluster,
     description: &'a Description,
@@ -226,36 +164,6 @@ fn put_sporadic<'a, W: Write>(
     out.put_byte(b'}');
 }
 
-fn put_all_sporadics<W: Write>(
-    out: &mut TextWriter<'_, W>,
-    cluster: &Cluster,
-    description: &Description,
-)
-    ensures { Grows W.contents out.old out.new
-        (with_commas (map (sporadic_object cluster.now description.now)
-        (numbers (length cluster.now.sporadic)))) }
-{
-    for sporadic in 0..cluster.sporadics() {
-        put_separator(out, sporadic);
-        put_sporadic(out, cluster, description, sporadic as u16);
-    }
-}
-
-/// The sporadic frames of a cluster.
-pub(super) fn put_sporadics<W: Write>(
-    out: &mut TextWriter<'_, W>,
-    cluster: &Cluster,
-    description: &Description,
-)
-    ensures { Grows W.contents out.old out.new (after_comma (list_member (codes "sporadic")
-        (map (sporadic_object cluster.now description.now)
-        (numbers (length cluster.now.sporadic))))) }
-{
-    put_list(out, "sporadic");
-    put_all_sporadics(out, cluster, description);
-    out.put_byte(b']');
-}
-
 /// The name of an event-triggered frame in the LDF.
 fn event_declared(description: &Description, event: u16) -> Option<&Name>
     ensures { option_map (λ n. n.now) result
@@ -267,7 +175,7 @@ fn event_declared(description: &Description, event: u16) -> Option<&Name>
     }
 }
 
-fn put_event<'a, W: Write>(
+pub(super) fn put_event<'a, W: Write>(
     out: &mut TextWriter<'_, W>,
     cluster: &'a Cluster,
     description: &'a Description,
@@ -292,34 +200,4 @@ fn put_event<'a, W: Write>(
     put_members_of(out, cluster, cluster.event_frames(event));
     put_place(out, event_declared(description, event));
     out.put_byte(b'}');
-}
-
-fn put_all_events<W: Write>(
-    out: &mut TextWriter<'_, W>,
-    cluster: &Cluster,
-    description: &Description,
-)
-    ensures { Grows W.contents out.old out.new
-        (with_commas (map (event_object cluster.now description.now)
-        (numbers (length cluster.now.events)))) }
-{
-    cluster.sound();
-    for event in 0..cluster.events() {
-        put_separator(out, event);
-        put_event(out, cluster, description, event as u16);
-    }
-}
-
-/// The event-triggered frames of a cluster.
-pub(super) fn put_events<W: Write>(
-    out: &mut TextWriter<'_, W>,
-    cluster: &Cluster,
-    description: &Description,
-)
-    ensures { Grows W.contents out.old out.new (after_comma (list_member (codes "event")
-        (map (event_object cluster.now description.now) (numbers (length cluster.now.events))))) }
-{
-    put_list(out, "event");
-    put_all_events(out, cluster, description);
-    out.put_byte(b']');
 }

@@ -1,18 +1,15 @@
 //! The nodes of a cluster in an object.
 
-ghost use Rattle.std.specs.Prelude.{◌≡◌, ◌<◌, codes, map, option_map};
-ghost use Rattle.lin_frame.specs.Words.{numbers};
+ghost use Rattle.std.specs.Prelude.{◌≡◌, ◌<◌, codes, option_map};
 ghost use Rattle.lin_parts.specs.Cluster.{nodes};
 ghost use Rattle.lin_text.specs.Written.{Grows};
-ghost use Rattle.lin_export.specs.CheckObject.{list_member};
 ghost use Rattle.lin_export.specs.ClusterObject.{node_declared, node_object};
-ghost use Rattle.lin_export.specs.Csv.{after_comma};
-ghost use Rattle.lin_export.specs.Json.{with_commas, member};
+ghost use Rattle.lin_export.specs.Json.{member};
 ghost use Rattle.lin_export.specs.Jsonl.{nad_value};
 ghost use Rattle.lin_export.specs.Members.{member_shown};
 
 use super::positions::put_place;
-use crate::json::{Member, put_list, put_members, put_numbered_first, put_separator};
+use crate::json::{Member, put_members, put_numbered_first};
 use lin_parts::Cluster;
 use lin_parts::description::{Description, Name};
 use lin_text::TextWriter;
@@ -39,7 +36,7 @@ pub fn nad_member(cluster: &Cluster, node: u8) -> Member<'static>
     }
 }
 
-fn put_node<'a, W: Write>(
+pub(super) fn put_node<'a, W: Write>(
     out: &mut TextWriter<'_, W>,
     cluster: &'a Cluster,
     description: &'a Description,
@@ -58,32 +55,4 @@ fn put_node<'a, W: Write>(
     );
     put_place(out, node_declared(description, node));
     out.put_byte(b'}');
-}
-
-fn put_all_nodes<W: Write>(
-    out: &mut TextWriter<'_, W>,
-    cluster: &Cluster,
-    description: &Description,
-)
-    ensures { Grows W.contents out.old out.new
-        (with_commas (map (node_object cluster.now description.now) (numbers (nodes cluster.now)))) }
-{
-    for node in 0..cluster.nodes() {
-        put_separator(out, node);
-        put_node(out, cluster, description, node as u8);
-    }
-}
-
-/// The nodes of a cluster.
-pub(super) fn put_nodes<W: Write>(
-    out: &mut TextWriter<'_, W>,
-    cluster: &Cluster,
-    description: &Description,
-)
-    ensures { Grows W.contents out.old out.new (after_comma (list_member (codes "nodes")
-        (map (node_object cluster.now description.now) (numbers (nodes cluster.now))))) }
-{
-    put_list(out, "nodes");
-    put_all_nodes(out, cluster, description);
-    out.put_byte(b']');
 }

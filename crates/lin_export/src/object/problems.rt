@@ -9,7 +9,7 @@ ghost use Rattle.lin_export.specs.CheckObject.{count_or_null, list_member, place
 ghost use Rattle.lin_export.specs.CheckObject.{problem_words};
 ghost use Rattle.lin_export.specs.Csv.{after_comma};
 ghost use Rattle.lin_export.specs.Found.{place_data, problem_data};
-ghost use Rattle.lin_export.specs.Json.{escaped_text, with_commas, member, null};
+ghost use Rattle.lin_export.specs.Json.{escaped_text, member, null};
 ghost use Rattle.lin_export.specs.Members.{member_shown};
 
 use crate::json::{Member, put_first, put_list, put_member, put_members, put_separator};
@@ -94,23 +94,16 @@ fn put_problem<W: Write>(out: &mut TextWriter<'_, W>, problem: &Problem)
     out.put_byte(b'}');
 }
 
-fn put_each_problem<W: Write>(out: &mut TextWriter<'_, W>, problems: &[Problem])
-    ensures { Grows W.contents out.old out.new
-        (with_commas (map (λ p. problem_object (problem_data p)) problems.now)) }
-{
-    for place in 0..problems.len() {
-        put_separator(out, place);
-        put_problem(out, &problems[place]);
-    }
-}
-
 /// The problems that are reported.
 pub(super) fn put_problems<W: Write>(out: &mut TextWriter<'_, W>, problems: &[Problem])
     ensures { Grows W.contents out.old out.new
         (after_comma (list_member (codes "told") (map (λ p. problem_object (problem_data p)) problems.now))) }
 {
     put_list(out, "told");
-    put_each_problem(out, problems);
+    for place in 0..problems.len() {
+        put_separator(out, place);
+        put_problem(out, &problems[place]);
+    }
     out.put_byte(b']');
 }
 

@@ -1,14 +1,13 @@
 //! The signals of a cluster in an object.
 
 ghost use Rattle.std.specs.Prelude.{◌≡◌, ◌<◌, codes, length, map, option_map, slice_get};
-ghost use Rattle.lin_frame.specs.Words.{numbers};
 ghost use Rattle.lin_parts.specs.Cluster.{signal_of};
 ghost use Rattle.lin_parts.specs.Rules.{is_array};
 ghost use Rattle.lin_text.specs.Written.{Grows};
 ghost use Rattle.lin_export.specs.CheckObject.{list_member};
 ghost use Rattle.lin_export.specs.ClusterObject.{encoding_value, signal_object, subscribers};
 ghost use Rattle.lin_export.specs.Csv.{after_comma};
-ghost use Rattle.lin_export.specs.Json.{json_array, with_commas, member, quoted_text};
+ghost use Rattle.lin_export.specs.Json.{json_array, member, quoted_text};
 ghost use Rattle.lin_export.specs.Jsonl.{signal_value};
 ghost use Rattle.lin_export.specs.Members.{member_shown};
 ghost use Rattle.lin_export.specs.WhereTold.{given_coding};
@@ -64,15 +63,6 @@ fn subscribers(description: &Description, signal: u16) -> &[Name]
     }
 }
 
-fn put_names<W: Write>(out: &mut TextWriter<'_, W>, names: &[Name])
-    ensures { Grows W.contents out.old out.new (with_commas (map (λ n. quoted_text n.text) names.now)) }
-{
-    for place in 0..names.len() {
-        put_separator(out, place);
-        put_quoted(out, names[place].text.as_slice());
-    }
-}
-
 fn encoding_member<'a>(coded: Option<&'a Coded>, signal: u16) -> Member<'a>
     ensures { member_shown result
         ≡ member (codes "encoding") (encoding_value (given_coding coded.entry) signal) }
@@ -100,11 +90,14 @@ fn put_subscribers<W: Write>(out: &mut TextWriter<'_, W>, names: &[Name])
         (after_comma (list_member (codes "subscribers") (map (λ n. quoted_text n.text) names.now))) }
 {
     put_list(out, "subscribers");
-    put_names(out, names);
+    for place in 0..names.len() {
+        put_separator(out, place);
+        put_quoted(out, names[place].text.as_slice());
+    }
     out.put_byte(b']');
 }
 
-fn put_signal<'a, W: Write>(
+pub(super) fn put_signal<'a, W: Write>(
     out: &mut TextWriter<'_, W>,
     cluster: &'a Cluster,
     description: &'a Description,
@@ -135,36 +128,4 @@ fn put_signal<'a, W: Write>(
     put_member(out, encoding_member(coded, signal));
     put_place(out, name_declared(description, signal));
     out.put_byte(b'}');
-}
-
-fn put_all_signals<W: Write>(
-    out: &mut TextWriter<'_, W>,
-    cluster: &Cluster,
-    description: &Description,
-    coded: Option<&Coded>,
-)
-    ensures { Grows W.contents out.old out.new
-        (with_commas (map (signal_object cluster.now description.now (given_coding coded.entry))
-        (numbers (length cluster.now.signals)))) }
-{
-    for signal in 0..cluster.signals() {
-        put_separator(out, signal);
-        put_signal(out, cluster, description, coded, signal as u16);
-    }
-}
-
-/// The signals of a cluster.
-pub(super) fn put_signals<W: Write>(
-    out: &mut TextWriter<'_, W>,
-    cluster: &Cluster,
-    description: &Description,
-    coded: Option<&Coded>,
-)
-    ensures { Grows W.contents out.old out.new (after_comma (list_member (codes "signals")
-        (map (signal_object cluster.now description.now (given_coding coded.entry))
-        (numbers (length cluster.now.signals))))) }
-{
-    put_list(out, "signals");
-    put_all_signals(out, cluster, description, coded);
-    out.put_byte(b']');
 }

@@ -8,7 +8,6 @@ ghost use Rattle.lin_text.specs.Written.{Grows};
 ghost use Rattle.lin_export.specs.CheckObject.{list_member};
 ghost use Rattle.lin_export.specs.ClusterObject.{entry_declared, entry_object, table_object};
 ghost use Rattle.lin_export.specs.Csv.{after_comma};
-ghost use Rattle.lin_export.specs.Json.{with_commas};
 
 use super::positions::put_place;
 use crate::json::{
@@ -66,23 +65,6 @@ fn put_entry<'a, W: Write>(
     out.put_byte(b'}');
 }
 
-fn put_all_entries<W: Write>(
-    out: &mut TextWriter<'_, W>,
-    cluster: &Cluster,
-    description: &Description,
-    table: u16,
-)
-    requires { table < length cluster.now.tables }
-    ensures { Grows W.contents out.old out.new
-        (with_commas (map (entry_object cluster.now description.now table)
-        (numbers (length (table_of cluster.now table))))) }
-{
-    for entry in 0..cluster.entries(table) {
-        put_separator(out, entry);
-        put_entry(out, cluster, description, table, entry as u16);
-    }
-}
-
 /// The entries of a table.
 fn put_entries<W: Write>(
     out: &mut TextWriter<'_, W>,
@@ -96,7 +78,10 @@ fn put_entries<W: Write>(
         (numbers (length (table_of cluster.now table)))))) }
 {
     put_list(out, "entries");
-    put_all_entries(out, cluster, description, table);
+    for entry in 0..cluster.entries(table) {
+        put_separator(out, entry);
+        put_entry(out, cluster, description, table, entry as u16);
+    }
     out.put_byte(b']');
 }
 
@@ -111,7 +96,7 @@ fn table_declared(description: &Description, table: u16) -> Option<&Name>
     }
 }
 
-fn put_table<'a, W: Write>(
+pub(super) fn put_table<'a, W: Write>(
     out: &mut TextWriter<'_, W>,
     cluster: &'a Cluster,
     description: &'a Description,
@@ -135,33 +120,4 @@ fn put_table<'a, W: Write>(
     put_place(out, table_declared(description, table));
     put_entries(out, cluster, description, table);
     out.put_byte(b'}');
-}
-
-fn put_all_tables<W: Write>(
-    out: &mut TextWriter<'_, W>,
-    cluster: &Cluster,
-    description: &Description,
-)
-    ensures { Grows W.contents out.old out.new
-        (with_commas (map (table_object cluster.now description.now)
-        (numbers (length cluster.now.tables)))) }
-{
-    for table in 0..cluster.tables() {
-        put_separator(out, table);
-        put_table(out, cluster, description, table as u16);
-    }
-}
-
-/// The schedule tables of a cluster.
-pub(super) fn put_tables<W: Write>(
-    out: &mut TextWriter<'_, W>,
-    cluster: &Cluster,
-    description: &Description,
-)
-    ensures { Grows W.contents out.old out.new (after_comma (list_member (codes "tables")
-        (map (table_object cluster.now description.now) (numbers (length cluster.now.tables))))) }
-{
-    put_list(out, "tables");
-    put_all_tables(out, cluster, description);
-    out.put_byte(b']');
 }

@@ -4,7 +4,7 @@ use Rattle.lin_text.specs.Written.{Grows}
 use Rattle.lin_export.specs.ClusterObject.{numbered_values, placed_object}
 use Rattle.lin_export.specs.Json.{with_commas}
 use Rattle.lin_export.specs.ListedFrames.{places}
-use Rattle.lin_export.proofs.object.frames.put_all_placed.Given as goal
+use Rattle.lin_export.proofs.object.frames.put_places.Given as goal
 
 abbrev pub invariant-loop-index : goal.invariant-loop-index
 invariant-loop-index g l =

@@ -1,6 +1,0 @@
-use Rattle.std.proofs.Common.{codes}
-use Rattle.lin_export.proofs.Objects.{grows-list}
-use Rattle.lin_export.proofs.object.frames.put_events.Goals as goal
-
-pub returns : goal.returns
-returns g c = grows-list (codes "event") _ c.put_list.ensures c.put_all_events.ensures c.put_byte.ensures

@@ -1,6 +1,0 @@
-use Rattle.std.proofs.Common.{codes}
-use Rattle.lin_export.proofs.Objects.{grows-list}
-use Rattle.lin_export.proofs.object.signals.put_signals.Goals as goal
-
-pub returns : goal.returns
-returns g c = grows-list (codes "signals") _ c.put_list.ensures c.put_all_signals.ensures c.put_byte.ensures
