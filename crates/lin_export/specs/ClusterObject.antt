@@ -90,15 +90,19 @@ placed_declared d f i =
     option_map_or (λ x. option_map (λ p. p.signal) (slice_get x.placed i)) (slice_get d.frames f)
     None
 
--- a signal of a frame by its number among the places
-abbrev pub placed_object : Parts → Description → ℕ → ℕ → ℕ × Place → List ℕ
-placed_object c d f i p =
+-- a signal at its place in a frame, and the name that it has there in the LDF
+abbrev pub place_object : Parts → ℕ × Place → Option Name → List ℕ
+place_object c p declared =
     object
     (member (codes "signal") (quoted_text (signal_of c p.0).name)
     ∷ count_member (codes "offset") p.1.offset
     ∷ count_member (codes "bits") p.1.size
-    ∷ place_member (placed_declared d f i)
+    ∷ place_member declared
     ∷ [])
+
+-- a signal of a frame by its number among the places
+abbrev pub placed_object : Parts → Description → ℕ → ℕ → ℕ × Place → List ℕ
+placed_object c d f i p = place_object c p (placed_declared d f i)
 
 -- values of things that are numbered from n on
 abbrev pub numbered_values : {X : Type 0} → (ℕ → X → List ℕ) → ℕ → List X → List (List ℕ)

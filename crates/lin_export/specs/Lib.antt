@@ -34,3 +34,4 @@ pub mod ListedSignals
 pub mod ClusterObject
 pub mod CheckObject
 pub mod Found
+pub mod TrackedEntries

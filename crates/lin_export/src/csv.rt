@@ -23,8 +23,8 @@ use crate::kept_cells::{KeptCells, kept_cells};
 use crate::meaning_cells::put_meaning_names;
 use crate::slot::{OpenSlot, SeenSlot, byte_at};
 use crate::slot_names::{node_name, slot_name, table_name};
-use crate::track::Track;
-use lin_core::{Listed, Log, LogEntry, initial_values};
+use crate::track::{Track, TrackedEntry};
+use lin_core::{Listed, Log, initial_values};
 use lin_frame::{Answer, Value};
 use lin_parts::Cluster;
 use lin_text::TextWriter;
@@ -344,19 +344,13 @@ impl EntryFormat for Sheet<'_> {
         put_head(out, cluster, self.coded);
     }
 
-    fn put_entry<W: Write>(
-        &mut self,
-        out: &mut TextWriter<'_, W>,
-        cluster: &Cluster,
-        track: &Track,
-        entry: &LogEntry,
-    ) {
-        if let Some(slot) = track.finished(entry) {
-            hear_slot(&mut self.values, cluster, slot);
-            put_first_cells(out, cluster, track, slot);
+    fn put_entry<W: Write>(&mut self, out: &mut TextWriter<'_, W>, next: &TrackedEntry<'_>) {
+        if let Some(slot) = next.track.finished(next.entry) {
+            hear_slot(&mut self.values, next.cluster, slot);
+            put_first_cells(out, next.cluster, next.track, slot);
             put_values(
                 out,
-                cluster,
+                next.cluster,
                 self.coded,
                 self.values.as_slice(),
                 &mut self.kept,

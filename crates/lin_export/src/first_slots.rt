@@ -9,8 +9,8 @@ use crate::csv::{Cell, put_next, put_slot};
 use crate::fault::ExportFault;
 use crate::format::{EntryFormat, write_as};
 use crate::slot::OpenSlot;
-use crate::track::Track;
-use lin_core::{Log, LogEntry};
+use crate::track::{Track, TrackedEntry};
+use lin_core::Log;
 use lin_parts::Cluster;
 use lin_text::TextWriter;
 use std::alloc::Global;
@@ -72,15 +72,9 @@ impl EntryFormat for FirstSlots {
         out.put(b"<th>frame<th>header<th>nodes<th>seen<th>data<th>checksum\n");
     }
 
-    fn put_entry<W: Write>(
-        &mut self,
-        out: &mut TextWriter<'_, W>,
-        cluster: &Cluster,
-        track: &Track,
-        entry: &LogEntry,
-    ) {
-        if let Some(slot) = track.finished(entry) {
-            put_first(out, cluster, track, slot);
+    fn put_entry<W: Write>(&mut self, out: &mut TextWriter<'_, W>, next: &TrackedEntry<'_>) {
+        if let Some(slot) = next.track.finished(next.entry) {
+            put_first(out, next.cluster, next.track, slot);
         }
     }
 

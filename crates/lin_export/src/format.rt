@@ -8,9 +8,10 @@ ghost use Rattle.lin_text.specs.Written.{Grows, WritesText};
 ghost use Rattle.lin_export.specs.Putting.{PutsAll};
 ghost use Rattle.lin_export.specs.Telling.{each_entry};
 ghost use Rattle.lin_export.specs.Track.{track_of};
+ghost use Rattle.lin_export.specs.TrackedEntries.{IsAfter};
 
 use crate::fault::ExportFault;
-use crate::track::Track;
+use crate::track::{Track, TrackedEntry};
 use lin_core::{Log, LogEntry};
 use lin_parts::Cluster;
 use lin_text::{TextBuffer, TextWriter};
@@ -34,23 +35,19 @@ pub(crate) trait EntryFormat {
         ensures { Grows W.contents out.old out.new (begins self.now cluster.now) };
 
     /// Puts what an entry says on those before it.
-    fn put_entry<W: Write>(
-        &mut self,
-        out: &mut TextWriter<'_, W>,
-        cluster: &Cluster,
-        track: &Track,
-        entry: &LogEntry,
-    )
-        requires time { track.now.time < 2 ^ 63 }
-        requires fits { fits self.old cluster.now }
-        ensures fits { fits self.new cluster.now }
+    fn put_entry<W: Write>(&mut self, out: &mut TextWriter<'_, W>, next: &TrackedEntry<'_>)
+        requires time { next.now.track.now.time < 2 ^ 63 }
+        requires fits { fits self.old next.now.cluster.now }
+        ensures fits { fits self.new next.now.cluster.now }
         ensures says { says self.new ≡ says self.old }
         ensures ends { ends self.new ≡ ends self.old }
-        ensures keeps { (past : List LogEntry) → track.now ≡ track_of cluster.now past
-            → keeps self.old cluster.now past → keeps self.new cluster.now (entry.now ∷ past) }
-        ensures text { (past : List LogEntry) → track.now ≡ track_of cluster.now past
-            → keeps self.old cluster.now past
-            → Grows W.contents out.old out.new (says self.old cluster.now entry.now past) };
+        ensures keeps { (past : List LogEntry) → IsAfter next.now past
+            → keeps self.old next.now.cluster.now past
+            → keeps self.new next.now.cluster.now (next.now.entry.now ∷ past) }
+        ensures text { (past : List LogEntry) → IsAfter next.now past
+            → keeps self.old next.now.cluster.now past
+            → Grows W.contents out.old out.new
+            (says self.old next.now.cluster.now next.now.entry.now past) };
 
     /// Puts what stands after the entries.
     fn put_end<W: Write>(&self, out: &mut TextWriter<'_, W>, cluster: &Cluster, track: &Track)
@@ -82,7 +79,12 @@ pub(crate) fn put_entries<F: EntryFormat, W: Write>(
     cluster.sound();
     for index in from..log.len() {
         let entry = log.entry(index);
-        format.put_entry(out, cluster, track, entry);
+        let next = TrackedEntry {
+            cluster,
+            track,
+            entry,
+        };
+        format.put_entry(out, &next);
         track.follow(cluster, entry)?;
     }
     Ok(())

@@ -26,8 +26,8 @@ use crate::frame_places::{place_count, value_at};
 use crate::named_values::{put_seen, put_written};
 use crate::slot::{OpenSlot, byte_at};
 use crate::slot_names::node_name;
-use crate::track::Track;
-use lin_core::{Event, Listed, Log, LogEntry, Refusal, Reply, Seen, Step, frame_under, node_with};
+use crate::track::{Track, TrackedEntry};
+use lin_core::{Event, Listed, Log, Refusal, Reply, Seen, Step, frame_under, node_with};
 use lin_frame::Answer;
 use lin_log::{Word, put_line, put_step_line, put_words, value_word};
 use lin_parts::{Cluster, Entry};
@@ -311,19 +311,15 @@ impl EntryFormat for NamedLog<'_> {
 
     fn put_head<W: Write>(&self, _out: &mut TextWriter<'_, W>, _cluster: &Cluster) {}
 
-    fn put_entry<W: Write>(
-        &mut self,
-        out: &mut TextWriter<'_, W>,
-        cluster: &Cluster,
-        track: &Track,
-        entry: &LogEntry,
-    ) {
+    fn put_entry<W: Write>(&mut self, out: &mut TextWriter<'_, W>, next: &TrackedEntry<'_>) {
+        let cluster = next.cluster;
+        let entry = next.entry;
         put_step_line(out, cluster, entry.port, &entry.step);
         match &entry.reply {
             Reply::Done(events) => {
                 put_written(out, cluster, self.coded, &entry.step);
-                put_events(out, cluster, self.coded, track.slot(), events.as_slice());
-                put_time(out, &entry.step, track.time_behind(cluster, entry));
+                put_events(out, cluster, self.coded, next.track.slot(), events.as_slice());
+                put_time(out, &entry.step, next.track.time_behind(cluster, entry));
             }
             Reply::Refused(refusal) => put_refusal(out, *refusal),
         }

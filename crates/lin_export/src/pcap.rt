@@ -11,9 +11,9 @@ ghost use Rattle.lin_export.specs.Pcap.{slot_packet, word_bytes};
 use crate::fault::ExportFault;
 use crate::format::{EntryFormat, write_as};
 use crate::slot::{OpenSlot, SeenSlot, byte_at};
-use crate::track::Track;
+use crate::track::{Track, TrackedEntry};
 use arrayvec::ArrayVec;
-use lin_core::{Log, LogEntry, Reply, Step, model_under};
+use lin_core::{Log, Reply, Step, model_under};
 use lin_frame::SumKind;
 use lin_parts::Cluster;
 use lin_text::TextWriter;
@@ -177,20 +177,14 @@ impl EntryFormat for Capture {
         out.put(file_header().as_slice());
     }
 
-    fn put_entry<W: Write>(
-        &mut self,
-        out: &mut TextWriter<'_, W>,
-        cluster: &Cluster,
-        track: &Track,
-        entry: &LogEntry,
-    ) {
-        let Reply::Done(_) = &entry.reply else {
+    fn put_entry<W: Write>(&mut self, out: &mut TextWriter<'_, W>, next: &TrackedEntry<'_>) {
+        let Reply::Done(_) = &next.entry.reply else {
             return;
         };
-        match &entry.step {
-            Step::Wake => put_bus_event(out, track.time(), WAKES),
-            Step::Finish => match track.slot() {
-                Some(slot) => put_finish(out, track.time(), cluster, slot),
+        match &next.entry.step {
+            Step::Wake => put_bus_event(out, next.track.time(), WAKES),
+            Step::Finish => match next.track.slot() {
+                Some(slot) => put_finish(out, next.track.time(), next.cluster, slot),
                 None => {}
             },
             _ => {}

@@ -40,6 +40,14 @@ impl Model for Track {
     } };
 }
 
+/// The next entry of a log, with what is kept of the entries before it.
+#[derive(Clone, Copy)]
+pub(crate) struct TrackedEntry<'a> {
+    pub(crate) cluster: &'a Cluster,
+    pub(crate) track: &'a Track,
+    pub(crate) entry: &'a LogEntry,
+}
+
 impl Track {
     /// No entry was read.
     pub(crate) fn new(alloc: Global) -> Track

@@ -1,20 +1,18 @@
 //! Logs as changes of values over time (IEEE 1364-2005, section 18, value change dump).
 
-ghost use Rattle.std.specs.Prelude.{◌≡◌, ◌∷◌, ◌<◌, ◌-◌, ◌==◌, ◌^◌, if◌then◌else◌, ⊤, ℕ, List, length};
+ghost use Rattle.std.specs.Prelude.{◌≡◌, ◌<◌, ◌-◌, ◌==◌, ◌^◌, if◌then◌else◌, ⊤, ℕ, List, length};
 ghost use Rattle.std.specs.Prelude.{flat_map, slice_index};
-ghost use Rattle.lin_core.specs.History.{time};
 ghost use Rattle.lin_core.specs.declared.log.LogEntry.{LogEntry};
-ghost use Rattle.lin_core.specs.declared.step.Step.TheVariants.{Finish};
 ghost use Rattle.lin_text.specs.Written.{Grows, WritesText};
 ghost use Rattle.lin_export.specs.Look.{seen_as};
 ghost use Rattle.lin_export.specs.Open.{tracked_slot};
 ghost use Rattle.lin_export.specs.PutsGroups.{AreCounts, KeepsChanges, PutsGroups};
-ghost use Rattle.lin_export.specs.Track.{track_of};
+ghost use Rattle.lin_export.specs.TrackedEntries.{IsAfter, next_groups};
 ghost use Rattle.lin_export.specs.Vcd.{count_after, counted_all, count_group, entry_changes};
 ghost use Rattle.lin_export.specs.Vcd.{event_group, frame_changes, vcd_head, header_change};
 ghost use Rattle.lin_export.specs.Vcd.{heard_group, end_stamp, later, one_more};
 ghost use Rattle.lin_export.specs.Vcd.{frame_decimals, heard_changes};
-ghost use Rattle.lin_export.specs.Vcd.{slot_changes, stamp, step_groups, vcd};
+ghost use Rattle.lin_export.specs.Vcd.{slot_changes, stamp, vcd};
 ghost use Rattle.lin_export.specs.WhereTold.{given_coding, where_told};
 
 use crate::changes::{put_heard, put_number, put_physical, put_unknown, put_waiting, put_written};
@@ -22,9 +20,9 @@ use crate::fault::ExportFault;
 use crate::format::{EntryFormat, write_as};
 use crate::frame_places::{place_count, value_at};
 use crate::slot::{OpenSlot, SeenSlot};
-use crate::track::Track;
+use crate::track::{Track, TrackedEntry};
 use crate::variables::put_head;
-use lin_core::{Event, Listed, Log, LogEntry, Reply, Step};
+use lin_core::{Event, Listed, Log, Reply, Step};
 use lin_frame::Answer;
 use lin_parts::Cluster;
 use lin_text::TextWriter;
@@ -161,42 +159,21 @@ fn put_heard_frame<W: Write>(
     put_heard_changes(out, cluster, coded, frame, answer);
 }
 
-/// The open slot ends.
-fn put_finish<W: Write>(
-    out: &mut TextWriter<'_, W>,
-    last: &mut u64,
-    cluster: &Cluster,
-    coded: Option<&Coded>,
-    track: &Track,
-    end: u64,
-)
-    ensures { (past : List LogEntry) → track.now ≡ track_of cluster.now past
-        → PutsGroups W.contents out.old out.new last.old last.new
-        (step_groups cluster.now (given_coding coded.entry) past end Finish) }
-{
-    if let Some(slot) = track.slot() {
-        put_stamp(out, last, track.time());
-        put_slot(out, track.slots(), slot);
-        put_heard_frame(out, last, cluster, coded, end, slot);
-    }
-}
-
 /// What the step of an entry changes by itself, where it was done.
 fn put_step<W: Write>(
     out: &mut TextWriter<'_, W>,
     last: &mut u64,
-    cluster: &Cluster,
     coded: Option<&Coded>,
-    track: &Track,
-    entry: &LogEntry,
+    next: &TrackedEntry<'_>,
 )
-    requires { track.now.time < 2 ^ 63 }
-    ensures { (past : List LogEntry) → track.now ≡ track_of cluster.now past
+    requires { next.now.track.now.time < 2 ^ 63 }
+    ensures { (past : List LogEntry) → IsAfter next.now past
         → PutsGroups W.contents out.old out.new last.old last.new
-        (step_groups cluster.now (given_coding coded.entry) past
-        (time cluster.now (entry.now ∷ past)) entry.now.step) }
+        (next_groups next.now (given_coding coded.entry) past) }
 {
-    match &entry.step {
+    let cluster = next.cluster;
+    let track = next.track;
+    match &next.entry.step {
         Step::Write {
             by: _,
             signal,
@@ -208,8 +185,12 @@ fn put_step<W: Write>(
             }
         }
         Step::Finish => {
-            let end = track.time_behind(cluster, entry);
-            put_finish(out, last, cluster, coded, track, end);
+            if let Some(slot) = track.slot() {
+                put_stamp(out, last, track.time());
+                put_slot(out, track.slots(), slot);
+                let end = track.time_behind(cluster, next.entry);
+                put_heard_frame(out, last, cluster, coded, end, slot);
+            }
         }
         Step::Wake => {
             put_stamp(out, last, track.time());
@@ -361,21 +342,15 @@ impl EntryFormat for Dump<'_> {
         put_head(out, cluster, self.coded);
     }
 
-    fn put_entry<W: Write>(
-        &mut self,
-        out: &mut TextWriter<'_, W>,
-        cluster: &Cluster,
-        track: &Track,
-        entry: &LogEntry,
-    ) {
-        let Reply::Done(events) = &entry.reply else {
+    fn put_entry<W: Write>(&mut self, out: &mut TextWriter<'_, W>, next: &TrackedEntry<'_>) {
+        let Reply::Done(events) = &next.entry.reply else {
             return;
         };
         let events = events.as_slice();
-        put_step(out, &mut self.last, cluster, self.coded, track, entry);
+        put_step(out, &mut self.last, self.coded, next);
         count_all(&mut self.counts, events);
-        let end = track.time_behind(cluster, entry);
-        put_events(out, &mut self.last, cluster, end, &self.counts, events);
+        let end = next.track.time_behind(next.cluster, next.entry);
+        put_events(out, &mut self.last, next.cluster, end, &self.counts, events);
     }
 
     fn put_end<W: Write>(&self, out: &mut TextWriter<'_, W>, _cluster: &Cluster, track: &Track) {

@@ -5,7 +5,7 @@ ghost use Rattle.lin_parts.specs.Cluster.{frame_name, frame_of};
 ghost use Rattle.lin_text.specs.Written.{Grows};
 ghost use Rattle.lin_export.specs.CheckObject.{list_member};
 ghost use Rattle.lin_export.specs.ClusterObject.{event_object, frame_object, frames_member, numbered_values};
-ghost use Rattle.lin_export.specs.ClusterObject.{placed_declared, placed_object, sporadic_object};
+ghost use Rattle.lin_export.specs.ClusterObject.{place_object, placed_declared, placed_object, sporadic_object};
 ghost use Rattle.lin_export.specs.Csv.{after_comma};
 ghost use Rattle.lin_export.specs.ListedFrames.{places};
 
@@ -34,19 +34,17 @@ fn placed_declared(description: &Description, frame: u16, number: usize) -> Opti
     }
 }
 
-/// A signal of a frame.
+/// A signal at its place in a frame, and where the LDF names it.
 fn put_placed<W: Write>(
     out: &mut TextWriter<'_, W>,
     cluster: &Cluster,
-    description: &Description,
-    frame: u16,
-    number: usize,
     signal: u16,
     place: &Place,
+    declared: Option<&Name>,
 )
     requires { signal < length cluster.now.signals }
     ensures { Grows W.contents out.old out.new
-        (placed_object cluster.now description.now frame number (signal, place.now)) }
+        (place_object cluster.now (signal, place.now) (option_map (λ n. n.now) declared.entry)) }
 {
     put_first(out, "signal", cluster.signal_name(signal));
     put_members(
@@ -56,7 +54,7 @@ fn put_placed<W: Write>(
             Member::Number("bits", u64::from(place.size)),
         ],
     );
-    put_place(out, placed_declared(description, frame, number));
+    put_place(out, declared);
     out.put_byte(b'}');
 }
 
@@ -75,8 +73,9 @@ fn put_places<W: Write>(
     put_list(out, "places");
     for index in 0..place_count(cluster, frame) {
         let (signal, place) = place_at(cluster, frame, index);
+        let declared = placed_declared(description, frame, index);
         put_separator(out, index);
-        put_placed(out, cluster, description, frame, index, signal, &place);
+        put_placed(out, cluster, signal, &place, declared);
     }
     out.put_byte(b']');
 }

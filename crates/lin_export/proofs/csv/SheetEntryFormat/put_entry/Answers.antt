@@ -17,24 +17,24 @@ use Rattle.lin_export.proofs.csv.SheetEntryFormat.put_entry.Goals as goal
 
 pub returns-in-Some-clause-keeps : goal.returns-in-Some-clause-keeps
 returns-in-Some-clause-keeps g c = λ past is kept.
-    let x = c.args.cluster.now in
+    let x = c.args.next.now.cluster.now in
     let t = tracked_slot c.in-Some.slot.now in
-    let o : Shows (finished_slot c.args.entry.now past) t
-    = shows (finished_slot c.args.entry.now past) t
+    let o : Shows (finished_slot c.args.next.now.entry.now past) t
+    = shows (finished_slot c.args.next.now.entry.now past) t
     (ap (option_map (λ (s : Bor OpenSlot). tracked_slot s.now)) (sym c.in-Some.is) ∙ c.finished.ensures past (ap (λ (d : TrackData). d.slot) is)) in
-    λ s v at. c.hear_slot.ensures.heard (heard_value x past) kept s v at ∙ heard-finish x c.args.entry.now past o.slot t s o.is_open o.same
+    λ s v at. c.hear_slot.ensures.heard (heard_value x past) kept s v at ∙ heard-finish x c.args.next.now.entry.now past o.slot t s o.is_open o.same
 
 pub returns-in-Some-clause-text : goal.returns-in-Some-clause-text
 returns-in-Some-clause-text g c = λ past is kept.
-    let x = c.args.cluster.now in
-    let e = c.args.entry.now in
+    let x = c.args.next.now.cluster.now in
+    let e = c.args.next.now.entry.now in
     let t = tracked_slot c.in-Some.slot.now in
     let o : Shows (finished_slot e past) t
     = shows (finished_slot e past) t
     (ap (option_map (λ (s : Bor OpenSlot). tracked_slot s.now)) (sym c.in-Some.is) ∙ c.finished.ensures past (ap (λ (d : TrackData). d.slot) is)) in
     let values = heard_value x (e ∷ past) in
     let k = given_coding c.args.self.now.coded in
-    let d : TrackData = c.args.track.now in
+    let d : TrackData = c.args.next.now.track.now in
     let cells : List (List ℕ) = slot_cells x d.time t in
     let signals : List (List ℕ) = flat_map (signal_cells k values) (numbers (length x.signals)) in
     let line : Slot → List ℕ = λ s. slot_line x k (finished_slot_count past) (time x past) s values in

@@ -13,8 +13,8 @@ use Rattle.lin_export.proofs.first_slots.FirstSlotsEntryFormat.put_entry.Goals a
 
 pub returns-in-Some-clause-text : goal.returns-in-Some-clause-text
 returns-in-Some-clause-text g c = λ past is kept.
-    let x = c.args.cluster.now in
-    let e = c.args.entry.now in
+    let x = c.args.next.now.cluster.now in
+    let e = c.args.next.now.entry.now in
     let t = tracked_slot c.in-Some.slot.now in
     let o : Shows (finished_slot e past) t
     = shows (finished_slot e past) t

@@ -19,9 +19,9 @@ use Rattle.lin_export.proofs.named.NamedLogEntryFormat.put_entry.Goals as goal
 
 pub returns-in-Done-clause-text : goal.returns-in-Done-clause-text
 returns-in-Done-clause-text g c = λ past is kept.
-    let x = c.args.cluster.now in
+    let x = c.args.next.now.cluster.now in
     let k = given_coding c.args.self.now.coded in
-    let e = c.args.entry.now in
+    let e = c.args.next.now.entry.now in
     let es = c.in-Done.events in
     let first = step_line (named_language x) e.port e.step in
     let written : List (List (List ℕ)) = where_told k (λ d. written_values x d e.step) in
@@ -38,9 +38,9 @@ returns-in-Done-clause-text g c = λ past is kept.
 
 pub returns-in-Refused-clause-text : goal.returns-in-Refused-clause-text
 returns-in-Refused-clause-text g c = λ past is kept.
-    let x = c.args.cluster.now in
+    let x = c.args.next.now.cluster.now in
     let k = given_coding c.args.self.now.coded in
-    let e = c.args.entry.now in
+    let e = c.args.next.now.entry.now in
     let first = step_line (named_language x) e.port e.step in
     same-growth (ap (λ (r : Reply). first ++ flat_map reply_line (lines_of_reply x k e past r)) (sym c.in-Refused.is))
     (grows-more c.put_step_line.ensures (grows-last c.put_refusal.ensures))

@@ -18,7 +18,7 @@ loop-index-preserved g c =
     same-growth
     (ap (λ (p : ℕ × Place). with_commas (numbered_values says 0 (take i all)) ++ ((if i == 0 then [] else after_comma []) ++ says i p)) (c.place_at-signal.ensures.placed no_place)
     ∙ sym (joined-numbered says all i (0, no_place) (omega arith)))
-    (grows-more c.loop-index.invariant (grows-more c.put_separator.ensures c.put_placed.ensures))
+    (grows-more c.loop-index.invariant (grows-more c.put_separator.ensures (rw c.placed_declared-declared.ensures at c.put_placed.ensures)))
 
 pub returns : goal.returns
 returns g c =

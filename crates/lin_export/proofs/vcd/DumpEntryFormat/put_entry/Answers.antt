@@ -10,9 +10,9 @@ use Rattle.lin_export.proofs.vcd.DumpEntryFormat.put_entry.Goals as goal
 
 pub returns-clause-keeps : goal.returns-clause-keeps
 returns-clause-keeps g c = λ past is kept.
-    let x = c.args.cluster.now in
+    let x = c.args.next.now.cluster.now in
     let k = given_coding c.args.self.now.coded in
-    let e = c.args.entry.now in
+    let e = c.args.next.now.entry.now in
     let es = c.in-Done.events in
     let end = c.time_behind-end.result in
     let step = same-groups (ap (λ n. step_groups x k past n e.step) (sym (c.time_behind-end.ensures past is))) (c.put_step.ensures past is) in
@@ -26,9 +26,9 @@ returns-clause-keeps g c = λ past is kept.
 
 pub returns-clause-text : goal.returns-clause-text
 returns-clause-text g c = λ past is kept.
-    let x = c.args.cluster.now in
+    let x = c.args.next.now.cluster.now in
     let k = given_coding c.args.self.now.coded in
-    let e = c.args.entry.now in
+    let e = c.args.next.now.entry.now in
     let es = c.in-Done.events in
     let end = c.time_behind-end.result in
     let step = same-groups (ap (λ n. step_groups x k past n e.step) (sym (c.time_behind-end.ensures past is))) (c.put_step.ensures past is) in
