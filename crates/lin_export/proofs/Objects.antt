@@ -21,11 +21,11 @@ use Rattle.lin_core.specs.declared.step.Step.{Step}
 use Rattle.lin_core.specs.declared.step.Step.TheVariants.{Finish, Wake, Write}
 use Rattle.lin_export.specs.ClusterObject.{numbered_values}
 use Rattle.lin_export.specs.Csv.{after_comma}
-use Rattle.lin_export.specs.Jsonl.{answers_member, due_member, frame_meanings, frame_member, frame_signals, frame_value, header_member, host_member, hurt_member, is_message_frame, meaning_members, message_member, message_value, number_member, column_member, physical_members, response_members, settled_count, settled_all, signals_member, slot_line, step_object, time_member, write_line}
+use Rattle.lin_export.specs.Jsonl.{answers_member, due_member, frame_meanings, frame_member, frame_signals, frame_value, header_member, host_member, hurt_member, is_message_frame, meaning_members, message_member, message_value, number_member, column_member, physical_members, response_members, settled_count, settled_all, signals_member, slot_line, step_object, time_member, told_meanings, write_line}
 use Rattle.lin_export.specs.Quantities.{column_key, column_value, has_meaning}
 use Rattle.lin_export.specs.declared.slot_meanings.Column.{Column}
 use Rattle.lin_export.specs.declared.slot_meanings.Column.TheVariants.{Texts, Quantities}
-use Rattle.lin_export.specs.Track.{hurt_in, shown_slot, finished_slot_count}
+use Rattle.lin_export.specs.Track.{TrackData, shown_slot, track_of}
 use Rattle.lin_export.specs.WhereTold.{where_told}
 use Rattle.lin_values.specs.Coded.{CodedData}
 use Rattle.lin_values.specs.Meaning.{meaning}
@@ -208,27 +208,28 @@ line_with c n at bytes last s frame signals physical =
     ∷ member (codes "kind") (quoted_text (entry_kind (line_of c s.table s.entry).entry)) ∷ frame ∷ header_member s.header
     ∷ due_member c s.due ∷ answers_member c s.puts ∷ hurt_member s.hurt bytes ∷ (response_members (seen_of s) ++ signals ∷ message_member c last s ∷ physical))
 
-pub object-shown : (c : Parts) (k : Option CodedData) (n at : ℕ) (bytes : List ℕ) (last : ℕ → ℕ) (s : Slot) → slot_line c k n at bytes last (shown_slot s) ≡ slot_line c k n at bytes last s
-object-shown c k n at bytes last s =
-    let physical : Slot → List (List ℕ) = λ t. where_told k (λ d. physical_members c d t) in
-    ap (λ (f : List ℕ). line_with c n at bytes last s f (signals_member c (shown_slot s)) (physical (shown_slot s))) (frame-member-shown c s)
-    ∙ ap (λ (f : List ℕ). line_with c n at bytes last s (frame_member c s) f (physical (shown_slot s))) (signals-member-shown c s)
-    ∙ ap (λ (ms : List (List ℕ)). line_with c n at bytes last s (frame_member c s) (signals_member c s) ms) (physical-shown c k s)
+pub object-shown : (c : Parts) (k : Option CodedData) (t : TrackData) (last : ℕ → ℕ) (s : Slot) → slot_line c k t last (shown_slot s) ≡ slot_line c k t last s
+object-shown c k t last s =
+    let line = line_with c t.slots t.time t.hurt last s in
+    ap (λ (f : List ℕ). line f (signals_member c (shown_slot s)) (told_meanings c k (shown_slot s))) (frame-member-shown c s)
+    ∙ ap (λ (f : List ℕ). line (frame_member c s) f (told_meanings c k (shown_slot s))) (signals-member-shown c s)
+    ∙ ap (λ (ms : List (List ℕ)). line (frame_member c s) (signals_member c s) ms) (physical-shown c k s)
 
 -- what a finish says
-pub finish-object : (c : Parts) (k : Option CodedData) (last : ℕ → ℕ) (past : List LogEntry) (step : Step) (t : Slot) → Shows (open_slot past) t → step ≡ Finish
-    → slot_line c k (finished_slot_count past) (time c past) (hurt_in past) last t ≡ step_object c k last past step
-finish-object c k last past step t o e =
-    rw (e, o.is_open)
-    (ap (λ (s : Slot). slot_line c k (finished_slot_count past) (time c past) (hurt_in past) last s) o.same ∙ object-shown c k (finished_slot_count past) (time c past) (hurt_in past) last o.slot)
+pub finish-object : (c : Parts) (k : Option CodedData) (past : List LogEntry) (step : Step) (t : Slot) → Shows (open_slot past) t → step ≡ Finish
+    → slot_line c k (track_of c past) (settled_count past) t ≡ step_object c k past step
+finish-object c k past step t o e =
+    let line : Slot → List ℕ = slot_line c k (track_of c past) (settled_count past) in
+    ap line o.same ∙ object-shown c k (track_of c past) (settled_count past) o.slot
+    ∙ ap (λ (s : Option Slot). option_map_or line s []) (sym o.is_open) ∙ ap (step_object c k past) (sym e)
 
 none-open : (o : Option Slot) → None ≡ option_map shown_slot o → o ≡ None
 none-open None e = refl
 none-open (Some s) e = absurd (cc)
 
-pub finish-none : (c : Parts) (k : Option CodedData) (last : ℕ → ℕ) (past : List LogEntry) (step : Step) → None ≡ option_map shown_slot (open_slot past) → step ≡ Finish
-    → [] ≡ step_object c k last past step
-finish-none c k last past step o e = rw (e, none-open (open_slot past) o) refl
+pub finish-none : (c : Parts) (k : Option CodedData) (past : List LogEntry) (step : Step) → None ≡ option_map shown_slot (open_slot past) → step ≡ Finish
+    → [] ≡ step_object c k past step
+finish-none c k past step o e = rw (e, none-open (open_slot past) o) refl
 
 -- the numbers of the last messages after an entry
 pub settled-done : (e : LogEntry) (past : List LogEntry) (es : List Event) (h : ℕ) → e.reply ≡ Done es → settled_all h es (settled_count past h) ≡ settled_count (e ∷ past) h
@@ -237,13 +238,13 @@ settled-done e past es h r = ap (λ (reply : Reply). settled_all h (reply_events
 pub settled-refused : (e : LogEntry) (past : List LogEntry) (why : Refusal) (h : ℕ) → e.reply ≡ Refused why → settled_count past h ≡ settled_count (e ∷ past) h
 settled-refused e past why h r = ap (λ (reply : Reply). settled_all h (reply_events reply) (settled_count past h)) (sym r)
 
-pub wake-object : (c : Parts) (k : Option CodedData) (last : ℕ → ℕ) (past : List LogEntry) (step : Step) (t : ℕ) → t ≡ time c past → step ≡ Wake
-    → object_line (codes "awake") (time_member t ∷ []) ≡ step_object c k last past step
-wake-object c k last past step t is e = rw (e, is) refl
+pub wake-object : (c : Parts) (k : Option CodedData) (past : List LogEntry) (step : Step) (t : ℕ) → t ≡ time c past → step ≡ Wake
+    → object_line (codes "awake") (time_member t ∷ []) ≡ step_object c k past step
+wake-object c k past step t is e = rw (e, is) refl
 
-pub write-object : (c : Parts) (k : Option CodedData) (last : ℕ → ℕ) (past : List LogEntry) (step : Step) (t node signal : ℕ) (v : Value) → t ≡ time c past
-    → step ≡ Write node signal v → write_line c k t node signal v ≡ step_object c k last past step
-write-object c k last past step t node signal v is e = rw (e, is) refl
+pub write-object : (c : Parts) (k : Option CodedData) (past : List LogEntry) (step : Step) (t node signal : ℕ) (v : Value) → t ≡ time c past
+    → step ≡ Write node signal v → write_line c k t node signal v ≡ step_object c k past step
+write-object c k past step t node signal v is e = rw (e, is) refl
 
 -- a list of two values
 pub two-values : (a b : List ℕ) → 91 ∷ (a ++ 44 ∷ (b ++ 93 ∷ [])) ≡ json_array (a ∷ b ∷ [])

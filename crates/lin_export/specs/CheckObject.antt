@@ -128,6 +128,9 @@ abbrev pub empty_members : List (List ℕ)
 empty_members =
     member (codes "header") null ∷ map (λ kind. list_member (declarations_key kind) []) kinds
 
+abbrev pub found_members : Option FoundData → List (List ℕ)
+found_members found = option_map_or cluster_members found empty_members
+
 -- the encodings, if they are read
 abbrev pub encodings_member : Option (List CodingType) → List ℕ
 encodings_member types =
@@ -144,6 +147,6 @@ check_object file status found types problems =
     (count_member (codes "version") 1
     ∷ member (codes "file") (escaped_text file)
     ∷ count_member (codes "status") status
-    ∷ (option_map_or cluster_members found empty_members
+    ∷ (found_members found
     ++ encodings_member types ∷ list_member (codes "told") (map problem_object problems) ∷ []))
     ++ 10 ∷ []

@@ -109,6 +109,10 @@ abbrev pub numbered_values : {X : Type 0} → (ℕ → X → List ℕ) → ℕ �
 numbered_values f n [] = []
 numbered_values f n (x ∷ xs) = f n x ∷ numbered_values f (n + 1) xs
 
+abbrev pub places_member : Parts → Description → ℕ → List ℕ
+places_member c d f =
+    member (codes "places") (json_array (numbered_values (placed_object c d f) 0 (places (frame_of c f))))
+
 abbrev pub frame_object : Parts → Description → ℕ → List ℕ
 frame_object c d f =
     object
@@ -119,7 +123,7 @@ frame_object c d f =
     ∷ count_member (codes "bytes") (frame_of c f).layout.len
     ∷ member (codes "publisher") (node_text c (frame_of c f).publisher)
     ∷ member (codes "model") (quoted_text (model_word (frame_of c f).model))
-    ∷ member (codes "places") (json_array (numbered_values (placed_object c d f) 0 (places (frame_of c f))))
+    ∷ places_member c d f
     ∷ place_member (option_map (λ x. x.name) (slice_get d.frames f))
     ∷ [])
 
@@ -166,6 +170,10 @@ entry_object c d t i =
     ∷ place_member (entry_declared d t i)
     ∷ [])
 
+abbrev pub entries_member : Parts → Description → ℕ → List ℕ
+entries_member c d t =
+    member (codes "entries") (json_array (map (entry_object c d t) (numbers (length (table_of c t)))))
+
 -- the time of a round, and the bus load in thousandths
 abbrev pub table_object : Parts → Description → ℕ → List ℕ
 table_object c d t =
@@ -175,8 +183,7 @@ table_object c d t =
     ∷ count_member (codes "cycle_us") (delay_of c t)
     ∷ count_member (codes "load") (permille (bits_of c t) c.speed (delay_of c t))
     ∷ place_member (option_map (λ x. x.name) (slice_get d.tables t))
-    ∷ member (codes "entries")
-    (json_array (map (entry_object c d t) (numbers (length (table_of c t)))))
+    ∷ entries_member c d t
     ∷ [])
 
 -- ---- encodings

@@ -68,11 +68,12 @@ text_cell text = if needs_quotes text then 34 ∷ (flat_map doubled_quote text +
 
 -- a signal that has an encoding has one column more, whose name has the unit, where all its ranges
 -- have one
+abbrev pub unit_name : List ℕ → Option (List ℕ) → List ℕ
+unit_name name unit =
+    option_map_or (λ u. name ++ (codes " [" ++ (u ++ codes "]"))) unit (name ++ codes " value")
+
 abbrev pub meaning_name : Parts → CodedData → ℕ → List ℕ
-meaning_name c k s =
-    option_map_or
-    (λ unit. (signal_of c s).name ++ (codes " [" ++ (unit ++ codes "]")))
-    (common_unit k s) ((signal_of c s).name ++ codes " value")
+meaning_name c k s = unit_name (signal_of c s).name (common_unit k s)
 
 abbrev pub meaning_names : Parts → CodedData → ℕ → List (List ℕ)
 meaning_names c k s =
@@ -93,11 +94,18 @@ abbrev pub signal_cells : Option CodedData → (ℕ → Value) → ℕ → List 
 signal_cells k values s =
     value_cell (values s) ∷ where_told k (λ d. meaning_cells d s (values s))
 
+-- the columns of all signals
+abbrev pub column_names : Parts → Option CodedData → List (List ℕ)
+column_names c k = flat_map (signal_names c k) (numbers (length c.signals))
+
+abbrev pub column_cells : Parts → Option CodedData → (ℕ → Value) → List (List ℕ)
+column_cells c k values = flat_map (signal_cells k values) (numbers (length c.signals))
+
 -- the names of the columns: those of each run, then those of the signals
 abbrev pub head_line : Parts → Option CodedData → List ℕ
 head_line c k =
     codes "slot,time_us,delay_us,table,entry,kind,frame,header,nodes,seen,data,checksum"
-    ++ (flat_map after_comma (flat_map (signal_names c k) (numbers (length c.signals))) ++ 10 ∷ [])
+    ++ (flat_map after_comma (column_names c k) ++ 10 ∷ [])
 
 -- a slot at a time: its delay, its entry, what that is for, and its header
 abbrev pub schedule_cells : Parts → ℕ → Slot → List (List ℕ)
@@ -128,9 +136,7 @@ slot_cells c at s =
 -- heard after it
 abbrev pub slot_line : Parts → Option CodedData → ℕ → ℕ → Slot → (ℕ → Value) → List ℕ
 slot_line c k number at s values =
-    csv_line
-    (decimal number
-    ∷ (slot_cells c at s ++ flat_map (signal_cells k values) (numbers (length c.signals))))
+    csv_line (decimal number ∷ (slot_cells c at s ++ column_cells c k values))
 
 -- what an entry says on those before it: the line of the slot that it finishes
 abbrev pub csv_row : Parts → Option CodedData → LogEntry → List LogEntry → List ℕ

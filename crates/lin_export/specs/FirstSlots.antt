@@ -22,12 +22,14 @@ slot_row c number at s =
     codes "<tr>"
     ++ (flat_map (marked_cell (codes "<td>")) (decimal number ∷ slot_cells c at s) ++ 10 ∷ [])
 
--- what an entry says on those before it: the row of the slot that it finishes, one of the first
+-- if it is one of the first
+abbrev pub first_slot_row : Parts → ℕ → ℕ → Slot → List ℕ
+first_slot_row c number at s = if nat_lt number 200 then slot_row c number at s else []
+
+-- what an entry says on those before it: the row of the slot that it finishes
 abbrev pub first_row : Parts → LogEntry → List LogEntry → List ℕ
 first_row c e past =
-    option_map_or
-    (λ s. if nat_lt (finished_slot_count past) 200 then slot_row c (finished_slot_count past) (time c past) s else [])
-    (finished_slot e past) []
+    option_map_or (first_slot_row c (finished_slot_count past) (time c past)) (finished_slot e past) []
 
 -- the table of a log, the oldest entry first
 abbrev pub first_slots : Parts → List LogEntry → List ℕ

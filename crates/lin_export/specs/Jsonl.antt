@@ -41,7 +41,7 @@ use Rattle.lin_export.specs.PutsGroups.{AreCounts}
 use Rattle.lin_export.specs.Quantities.{column_key, column_value, has_meaning, meaning_text, quantity}
 use Rattle.lin_export.specs.Shown.{checksum_in, data_of, slot_name}
 use Rattle.lin_export.specs.Telling.{each_entry}
-use Rattle.lin_export.specs.Track.{TrackData, hurt_in, finished_slot_count, track_of}
+use Rattle.lin_export.specs.Track.{TrackData, finished_slot_count, track_of}
 use Rattle.lin_export.specs.WhereTold.{where_told}
 use Rattle.lin_export.specs.declared.jsonl.Counts.{Counts}
 use Rattle.lin_export.specs.declared.jsonl.Unmet.{Unmet}
@@ -203,19 +203,22 @@ column_member column c k s = member (column_key column) (object (carried_meaning
 abbrev pub physical_members : Parts → CodedData → Slot → List (List ℕ)
 physical_members c k s = column_member Texts c k s ∷ column_member Quantities c k s ∷ []
 
--- a slot by its number, the time at its start, the bytes of its disturbance, and the number of the
--- last message of each host that was sent or lost before
-abbrev pub slot_line : Parts → Option CodedData → ℕ → ℕ → List ℕ → (ℕ → ℕ) → Slot → List ℕ
-slot_line c k number at bytes last s =
+abbrev pub told_meanings : Parts → Option CodedData → Slot → List (List ℕ)
+told_meanings c k s = where_told k (λ d. physical_members c d s)
+
+-- a slot by what is kept of the entries before its end, and the number of the last message of each
+-- host that was sent or lost before
+abbrev pub slot_line : Parts → Option CodedData → TrackData → (ℕ → ℕ) → Slot → List ℕ
+slot_line c k t last s =
     object_line (codes "slot")
-    (schedule_members c number at s
+    (schedule_members c t.slots t.time s
     ++ (due_member c s.due
     ∷ answers_member c s.puts
-    ∷ hurt_member s.hurt bytes
+    ∷ hurt_member s.hurt t.hurt
     ∷ (response_members (seen_of s)
     ++ signals_member c s
     ∷ message_member c last s
-    ∷ where_told k (λ d. physical_members c d s))))
+    ∷ told_meanings c k s)))
 
 -- the number of the last message of a host that was sent or lost, and 0 where none was
 abbrev pub settled_after : ℕ → Event → ℕ → ℕ
@@ -303,13 +306,12 @@ written_line c k at written = write_line c k at written.node written.signal writ
 -- ---- entries
 -- what a step that was done says by itself on the entries before it: the slot that it finishes, a
 -- write or a wake-up
-abbrev pub step_object : Parts → Option CodedData → (ℕ → ℕ) → List LogEntry → Step → List ℕ
-step_object c k last past Finish =
-    option_map_or
-    (slot_line c k (finished_slot_count past) (time c past) (hurt_in past) last) (open_slot past) []
-step_object c k last past (Write node signal v) = write_line c k (time c past) node signal v
-step_object c k last past Wake = object_line (codes "awake") (time_member (time c past) ∷ [])
-step_object c k last past step = []
+abbrev pub step_object : Parts → Option CodedData → List LogEntry → Step → List ℕ
+step_object c k past Finish =
+    option_map_or (slot_line c k (track_of c past) (settled_count past)) (open_slot past) []
+step_object c k past (Write node signal v) = write_line c k (time c past) node signal v
+step_object c k past Wake = object_line (codes "awake") (time_member (time c past) ∷ [])
+step_object c k past step = []
 
 -- a step that was refused: its line with names, and the refusal's number and name
 abbrev pub step_text : Parts → PortId → Step → List ℕ
@@ -328,7 +330,7 @@ refused_line c at port step why =
 -- what an entry with this reply says on those before it; its events come at the time after it
 abbrev pub reply_objects : Parts → Option CodedData → LogEntry → List LogEntry → Reply → List ℕ
 reply_objects c k e past (Done es) =
-    step_object c k (settled_count past) past e.step
+    step_object c k past e.step
     ++ flat_map (event_line c e.step (finished_slot_count past) (time c (e ∷ past))) es
 reply_objects c k e past (Refused why) = refused_line c (time c past) e.port e.step why
 

@@ -2,7 +2,7 @@
 -- that say what frames and slots mean, and where that is told what values mean.
 -- A number that names nothing, in a step that is refused, stays a number.
 use Rattle.std.specs.Prelude.{ℕ, ◌+◌, ◌*◌, ◌/◌, ◌%◌, ◌==◌, if◌then◌else◌, List, [], ◌∷◌}
-use Rattle.std.specs.Prelude.{◌++◌, map, flat_map, codes, find, take, zip, slice_index}
+use Rattle.std.specs.Prelude.{◌++◌, map, flat_map, codes, drop, find, reverse, take, zip, slice_index}
 use Rattle.std.specs.Prelude.{Option, Some, None, length, nat_lt}
 use Rattle.std.specs.Option.{option_to_list, option_map_or}
 use Rattle.std.specs.Fmt.{decimal}
@@ -57,10 +57,12 @@ abbrev pub signal_words : Parts → List ℕ → ℕ × Place → List (List ℕ
 signal_words c answer p =
     (signal_of c p.0).name ∷ value_word (unpacked_value p.1 (take 8 answer)) ∷ []
 
+abbrev pub frame_signal_words : Parts → ℕ → List ℕ → List (List ℕ)
+frame_signal_words c f answer =
+    flat_map (signal_words c answer) (zip (frame_of c f).signals (frame_of c f).layout.places)
+
 abbrev pub frame_words : Parts → ℕ → List ℕ → List (List ℕ)
-frame_words c f answer =
-    codes "frame" ∷ frame_name c f
-    ∷ flat_map (signal_words c answer) (zip (frame_of c f).signals (frame_of c f).layout.places)
+frame_words c f answer = codes "frame" ∷ frame_name c f ∷ frame_signal_words c f answer
 
 -- a good frame of a message (ISO 17987-2, protocol control information): the node with its address,
 -- or the number of an address that no node has, as 126 of all responders: no name begins with a digit
@@ -128,6 +130,9 @@ abbrev pub seen_values : Parts → CodedData → Option Slot → Event → List 
 seen_values c k o (event.Seen (Good answer)) = option_map_or (slot_values c k answer) o []
 seen_values c k o e = []
 
+abbrev pub told_values : Parts → Option CodedData → Option Slot → Event → List (List (List ℕ))
+told_values c k o e = where_told k (λ d. seen_values c d o e)
+
 -- the value of a write that was done
 abbrev pub written_values : Parts → CodedData → Step → List (List (List ℕ))
 written_values c k (Write by signal v) =
@@ -137,8 +142,7 @@ written_values c k step = []
 -- ---- entries
 abbrev pub event_lines : Parts → Option CodedData → Option Slot → Event → List (List (List ℕ))
 event_lines c k o e =
-    named_event c e
-    ∷ (option_to_list (words_after_event c o e) ++ where_told k (λ d. seen_values c d o e))
+    named_event c e ∷ (option_to_list (words_after_event c o e) ++ told_values c k o e)
 
 -- after the lines of a finish, the time in microseconds
 abbrev pub time_words : Step → ℕ → Option (List (List ℕ))
@@ -161,6 +165,10 @@ reply_lines c k e past = lines_of_reply c k e past e.reply
 -- entries with names, the oldest first, each on those before it, which stand the newest first
 abbrev pub named_entries : Parts → Option CodedData → List LogEntry → List LogEntry → List ℕ
 named_entries c k past entries = log_text (named_language c) (reply_lines c k) past entries
+
+-- the entries of a log from one on
+abbrev pub named_from : Parts → Option CodedData → List LogEntry → ℕ → List ℕ
+named_from c k log from = named_entries c k (reverse (take from log)) (drop from log)
 
 -- the log with names, the oldest entry first
 abbrev pub named_log : Parts → Option CodedData → List LogEntry → List ℕ

@@ -8,8 +8,7 @@ use Rattle.lin_core.specs.declared.log.LogEntry.{LogEntry}
 use Rattle.lin_log.specs.Language.{named_language}
 use Rattle.lin_log.specs.Words.{reply_line, step_line}
 use Rattle.lin_values.specs.Coded.{CodedData}
-use Rattle.lin_export.specs.Named.{words_after_event, named_event, reply_lines, seen_values}
-use Rattle.lin_export.specs.WhereTold.{where_told}
+use Rattle.lin_export.specs.Named.{words_after_event, named_event, reply_lines, told_values}
 
 -- a line, where there is one
 abbrev pub line_or_none : Option (List (List ℕ)) → List ℕ
@@ -20,7 +19,7 @@ abbrev pub event_text : Parts → Option CodedData → Option Slot → Event →
 event_text c k o e =
     reply_line (named_event c e)
     ++ (line_or_none (words_after_event c o e)
-    ++ flat_map reply_line (where_told k (λ d. seen_values c d o e)))
+    ++ flat_map reply_line (told_values c k o e))
 
 abbrev pub named_entry : Parts → Option CodedData → LogEntry → List LogEntry → List ℕ
 named_entry c k e past =

@@ -11,6 +11,12 @@ use Rattle.lin_core.specs.declared.step.Step.TheVariants.{Hurt}
 abbrev pub shown_slot : Slot → Slot
 shown_slot s = record s { left = [] }
 
+abbrev pub shown_open : List LogEntry → Option Slot
+shown_open past = option_map shown_slot (open_slot past)
+
+abbrev pub shown_finished : LogEntry → List LogEntry → Option Slot
+shown_finished e past = option_map shown_slot (finished_slot e past)
+
 -- how many slots are finished
 abbrev pub finished_slot_count : List LogEntry → ℕ
 finished_slot_count [] = 0
@@ -35,7 +41,7 @@ pub record TrackData : Type 0 where
 
 abbrev pub track_of : Parts → List LogEntry → TrackData
 track_of c past = record {
-  slot = option_map shown_slot (open_slot past);
+  slot = shown_open past;
   time = time c past;
   slots = finished_slot_count past;
   hurt = hurt_in past;

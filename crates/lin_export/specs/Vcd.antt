@@ -285,10 +285,13 @@ event_group c at count (Lost host number why) = count_group c at count host
 event_group c at count Asleep = record { at = at; changes = number_change 1 5 1 } ∷ []
 event_group c at count event = []
 
+abbrev pub event_groups : Parts → ℕ → (ℕ → ℕ) → List Event → List Group
+event_groups c at count es = flat_map (event_group c at count) es
+
 abbrev pub groups : Parts → Option CodedData → LogEntry → List LogEntry → List Group
 groups c k e past =
     option_map_or (step_groups c k past (time c (e ∷ past))) (done e) []
-    ++ flat_map (event_group c (time c (e ∷ past)) (waiting_count (e ∷ past))) (events e)
+    ++ event_groups c (time c (e ∷ past)) (waiting_count (e ∷ past)) (events e)
 
 -- the last time that stands in the text
 abbrev pub shown_at : Parts → Option CodedData → List LogEntry → ℕ

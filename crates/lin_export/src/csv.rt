@@ -2,12 +2,11 @@
 
 ghost use Rattle.std.specs.Prelude.{◌≡◌, ◌++◌, ◌<◌, ℕ, [], Some, None, length, flat_map, map};
 ghost use Rattle.std.specs.Fmt.{decimal};
-ghost use Rattle.lin_frame.specs.Words.{numbers};
 ghost use Rattle.lin_core.specs.Signals.{heard_value, ArePointwise};
 ghost use Rattle.lin_frame.specs.declared.value.Value.{Value};
 ghost use Rattle.lin_text.specs.Written.{Grows, WritesText};
 ghost use Rattle.lin_export.specs.Cells.{cell_text};
-ghost use Rattle.lin_export.specs.Csv.{after_comma, csv, head_line, hex_cell, marked_cell};
+ghost use Rattle.lin_export.specs.Csv.{after_comma, column_cells, column_names, csv, head_line, hex_cell, marked_cell};
 ghost use Rattle.lin_export.specs.Csv.{node_name, nodes_cell, response_cells, csv_row, schedule_cells};
 ghost use Rattle.lin_export.specs.Csv.{signal_cells, signal_names};
 ghost use Rattle.lin_export.specs.Csv.{slot_cells, spaced_name, value_cell};
@@ -20,7 +19,7 @@ use crate::fault::ExportFault;
 use crate::format::{EntryFormat, write_as};
 use crate::hearing::hear_slot;
 use crate::kept_cells::{KeptCells, kept_cells};
-use crate::meaning_cells::put_meaning_names;
+use crate::meaning_cells::put_coded_names;
 use crate::slot::{OpenSlot, SeenSlot, byte_at};
 use crate::slot_names::{node_name, slot_name, table_name};
 use crate::track::{Track, TrackedEntry};
@@ -101,8 +100,7 @@ fn put_plain_signal<W: Write>(out: &mut TextWriter<'_, W>, signal: u16, value: &
 fn put_plain_values<W: Write>(out: &mut TextWriter<'_, W>, cluster: &Cluster, values: &[Value])
     requires { length values.now ≡ length cluster.now.signals }
     ensures { (g : ℕ → Value) → ArePointwise g values.now
-        → Grows W.contents out.old out.new (flat_map after_comma
-        (flat_map (signal_cells None g) (numbers (length cluster.now.signals)))) }
+        → Grows W.contents out.old out.new (flat_map after_comma (column_cells cluster.now None g)) }
 {
     for signal in 0..cluster.signals() as u16 {
         put_plain_signal(out, signal, &values[usize::from(signal)]);
@@ -138,8 +136,8 @@ fn put_coded_values<W: Write>(
     requires kept { AreKept coded.now (length cluster.now.signals) kept.old.items }
     ensures kept { AreKept coded.now (length cluster.now.signals) kept.new.items }
     ensures text { (g : ℕ → Value) → ArePointwise g values.now
-        → Grows W.contents out.old out.new (flat_map after_comma
-        (flat_map (signal_cells (Some coded.now) g) (numbers (length cluster.now.signals)))) }
+        → Grows W.contents out.old out.new
+        (flat_map after_comma (column_cells cluster.now (Some coded.now) g)) }
 {
     for signal in 0..cluster.signals() as u16 {
         let index = usize::from(signal);
@@ -159,8 +157,8 @@ fn put_values<W: Write>(
     requires kept { FitKept (given_coding coded) (length cluster.now.signals) kept.old.items }
     ensures kept { FitKept (given_coding coded.entry) (length cluster.now.signals) kept.new.items }
     ensures text { (g : ℕ → Value) → ArePointwise g values.now
-        → Grows W.contents out.old out.new (flat_map after_comma
-        (flat_map (signal_cells (given_coding coded.entry) g) (numbers (length cluster.now.signals)))) }
+        → Grows W.contents out.old out.new
+        (flat_map after_comma (column_cells cluster.now (given_coding coded.entry) g)) }
 {
     match coded {
         Some(coded) => put_coded_values(out, cluster, coded, values, kept),
@@ -180,13 +178,14 @@ fn put_signal_name<W: Write>(
         (signal_names cluster.now (given_coding coded.entry) signal)) }
 {
     put_next(out, b",", Cell::Text(cluster.signal_name(signal)));
-    put_meaning_names(out, cluster, coded, signal);
+    if let Some(coded) = coded {
+        put_coded_names(out, cluster, coded, signal);
+    }
 }
 
 fn put_signal_names<W: Write>(out: &mut TextWriter<'_, W>, cluster: &Cluster, coded: Option<&Coded>)
-    ensures { Grows W.contents out.old out.new (flat_map after_comma
-        (flat_map (signal_names cluster.now (given_coding coded.entry))
-        (numbers (length cluster.now.signals)))) }
+    ensures { Grows W.contents out.old out.new
+        (flat_map after_comma (column_names cluster.now (given_coding coded.entry))) }
 {
     for signal in 0..cluster.signals() as u16 {
         put_signal_name(out, cluster, coded, signal);
@@ -329,11 +328,11 @@ struct Sheet<'a> {
 }
 
 impl EntryFormat for Sheet<'_> {
-    ghost begins = { λ f c. head_line c (given_coding f.coded) };
-
-    ghost says = { λ f c. csv_row c (given_coding f.coded) };
-
-    ghost ends = { λ f c past. [] };
+    ghost text = { λ f c. record {
+      begins = head_line c (given_coding f.coded);
+      says = csv_row c (given_coding f.coded);
+      ends = λ past. [];
+    } };
 
     ghost fits = { λ f c. (length f.values.items ≡ length c.signals)
         × FitKept (given_coding f.coded) (length c.signals) f.kept.items };

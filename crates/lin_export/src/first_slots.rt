@@ -1,8 +1,8 @@
 //! The first slots of a log, as a table of HTML.
 
-ghost use Rattle.std.specs.Prelude.{◌∷◌, ◌++◌, ⊤, if◌then◌else◌, nat_lt, [], codes};
+ghost use Rattle.std.specs.Prelude.{◌∷◌, ◌++◌, ⊤, [], codes};
 ghost use Rattle.lin_text.specs.Written.{Grows, WritesText};
-ghost use Rattle.lin_export.specs.FirstSlots.{first_row, first_slots, slot_row, table_head};
+ghost use Rattle.lin_export.specs.FirstSlots.{first_row, first_slot_row, first_slots, slot_row, table_head};
 ghost use Rattle.lin_export.specs.Open.{tracked_slot};
 
 use crate::csv::{Cell, put_next, put_slot};
@@ -43,9 +43,7 @@ fn put_first<W: Write>(
     slot: &OpenSlot,
 )
     ensures { Grows W.contents out.old out.new
-        (if nat_lt track.now.slots 200
-        then slot_row cluster.now track.now.slots track.now.time (tracked_slot slot.now)
-        else []) }
+        (first_slot_row cluster.now track.now.slots track.now.time (tracked_slot slot.now)) }
 {
     if track.slots() < MOST {
         put_row(out, cluster, track, slot);
@@ -57,11 +55,11 @@ fn put_first<W: Write>(
 struct FirstSlots;
 
 impl EntryFormat for FirstSlots {
-    ghost begins = { λ f c. table_head };
-
-    ghost says = { λ f c. first_row c };
-
-    ghost ends = { λ f c past. codes "</table>" ++ 10 ∷ [] };
+    ghost text = { λ f c. record {
+      begins = table_head;
+      says = first_row c;
+      ends = λ past. codes "</table>" ++ 10 ∷ [];
+    } };
 
     ghost fits = { λ f c. ⊤ };
 

@@ -1,12 +1,12 @@
 //! What all formats have in common: something before the entries of a log, something for each, and
 //! something after them.
 
-ghost use Rattle.std.specs.Prelude.{◌≡◌, ◌∷◌, ◌++◌, ◌<◌, ◌^◌, ℕ, [], List, OnOk, drop, reverse, take};
+ghost use Rattle.std.specs.Prelude.{◌≡◌, ◌∷◌, ◌<◌, ◌^◌, [], List, OnOk, drop, reverse, take};
 ghost use Rattle.lin_core.specs.declared.log.LogEntry.{LogEntry};
 ghost use Rattle.lin_parts.specs.declared.parts.Parts.{Parts};
 ghost use Rattle.lin_text.specs.Written.{Grows, WritesText};
 ghost use Rattle.lin_export.specs.Putting.{PutsAll};
-ghost use Rattle.lin_export.specs.Telling.{each_entry};
+ghost use Rattle.lin_export.specs.Telling.{LogFormat, each_entry, entries_as, log_as};
 ghost use Rattle.lin_export.specs.Track.{track_of};
 ghost use Rattle.lin_export.specs.TrackedEntries.{IsAfter};
 
@@ -20,11 +20,7 @@ use std::io::Write;
 
 /// A format: what it keeps of the entries that were read, and what it puts.
 pub(crate) trait EntryFormat {
-    ghost begins: { Self → Parts → List ℕ };
-
-    ghost says: { Self → Parts → LogEntry → List LogEntry → List ℕ };
-
-    ghost ends: { Self → Parts → List LogEntry → List ℕ };
+    ghost text: { Self → Parts → LogFormat };
 
     ghost fits: { Self → Parts → Type 0 };
 
@@ -32,28 +28,27 @@ pub(crate) trait EntryFormat {
 
     /// Puts what stands before the entries.
     fn put_head<W: Write>(&self, out: &mut TextWriter<'_, W>, cluster: &Cluster)
-        ensures { Grows W.contents out.old out.new (begins self.now cluster.now) };
+        ensures { Grows W.contents out.old out.new (text self.now cluster.now).begins };
 
     /// Puts what an entry says on those before it.
     fn put_entry<W: Write>(&mut self, out: &mut TextWriter<'_, W>, next: &TrackedEntry<'_>)
         requires time { next.now.track.now.time < 2 ^ 63 }
         requires fits { fits self.old next.now.cluster.now }
         ensures fits { fits self.new next.now.cluster.now }
-        ensures says { says self.new ≡ says self.old }
-        ensures ends { ends self.new ≡ ends self.old }
+        ensures same { text self.new ≡ text self.old }
         ensures keeps { (past : List LogEntry) → IsAfter next.now past
             → keeps self.old next.now.cluster.now past
             → keeps self.new next.now.cluster.now (next.now.entry.now ∷ past) }
         ensures text { (past : List LogEntry) → IsAfter next.now past
             → keeps self.old next.now.cluster.now past
             → Grows W.contents out.old out.new
-            (says self.old next.now.cluster.now next.now.entry.now past) };
+            ((text self.old next.now.cluster.now).says next.now.entry.now past) };
 
     /// Puts what stands after the entries.
     fn put_end<W: Write>(&self, out: &mut TextWriter<'_, W>, cluster: &Cluster, track: &Track)
         ensures { (past : List LogEntry) → track.now ≡ track_of cluster.now past
             → keeps self.now cluster.now past
-            → Grows W.contents out.old out.new (ends self.now cluster.now past) };
+            → Grows W.contents out.old out.new ((text self.now cluster.now).ends past) };
 }
 
 /// Puts the entries of a log from one on, with the track of those before it, which then is that of
@@ -70,11 +65,11 @@ pub(crate) fn put_entries<F: EntryFormat, W: Write>(
     requires fits { F.fits format.old cluster.now }
     requires keeps { F.keeps format.old cluster.now (reverse (take from log.now.entries)) }
     ensures text { PutsAll W.contents out.old out.new result
-        (each_entry (F.says format.old cluster.now) (reverse (take from log.now.entries))
+        (each_entry (F.text format.old cluster.now).says (reverse (take from log.now.entries))
         (drop from log.now.entries)) }
     ensures track { OnOk result (track.new ≡ track_of cluster.now (reverse log.now.entries)) }
     ensures keeps { OnOk result (F.keeps format.new cluster.now (reverse log.now.entries)) }
-    ensures ends { F.ends format.new ≡ F.ends format.old }
+    ensures same { F.text format.new ≡ F.text format.old }
 {
     cluster.sound();
     for index in from..log.len() {
@@ -101,8 +96,7 @@ fn put_all<F: EntryFormat, W: Write>(
     requires fits { F.fits format.old cluster.now }
     requires keeps { F.keeps format.old cluster.now [] }
     ensures { PutsAll W.contents out.old out.new result
-        (each_entry (F.says format.old cluster.now) [] log.now.entries
-        ++ F.ends format.old cluster.now (reverse log.now.entries)) }
+        (entries_as (F.text format.old cluster.now) log.now.entries) }
 {
     let mut track = Track::new(alloc);
     put_entries(format, out, &mut track, cluster, log, 0)?;
@@ -130,9 +124,7 @@ pub(crate) fn write_as<F: EntryFormat, W: Write>(
     requires fits { F.fits format.old cluster.now }
     requires keeps { F.keeps format.old cluster.now [] }
     ensures { WritesText (W.contents writer.old) (W.contents writer.new) result
-        (F.begins format.old cluster.now
-        ++ (each_entry (F.says format.old cluster.now) [] log.now.entries
-        ++ F.ends format.old cluster.now (reverse log.now.entries))) }
+        (log_as (F.text format.old cluster.now) log.now.entries) }
 {
     let mut buffer = TextBuffer::empty();
     let mut out = TextWriter::new(writer, &mut buffer);

@@ -18,7 +18,6 @@ ghost use Rattle.lin_export.specs.Jsonl.{step_text, unmet_object, written_line};
 ghost use Rattle.lin_export.specs.Members.{member_shown};
 ghost use Rattle.lin_export.specs.PutsGroups.{AreCounts};
 ghost use Rattle.lin_export.specs.Putting.{PutsAll};
-ghost use Rattle.lin_export.specs.Track.{track_of};
 ghost use Rattle.lin_export.specs.WhereTold.{given_coding};
 
 use crate::json::{
@@ -162,39 +161,6 @@ pub fn write_run<W: Write>(
     let mut out = TextWriter::new(writer, &mut buffer);
     put_run(&mut out, cluster, opening);
     out.finish()
-}
-
-/// What a step that was done says by itself.
-fn put_step<W: Write>(
-    out: &mut TextWriter<'_, W>,
-    cluster: &Cluster,
-    coded: Option<&Coded>,
-    track: &Track,
-    last: &[u32; HOSTS],
-    step: &Step,
-)
-    ensures { (past : List LogEntry) → track.now ≡ track_of cluster.now past
-        → (count : ℕ → ℕ) → AreCounts count last.now
-        → Grows W.contents out.old out.new
-        (step_object cluster.now (given_coding coded.entry) count past step.now) }
-{
-    match step {
-        Step::Finish => {
-            if let Some(slot) = track.slot() {
-                put_slot(out, cluster, coded, track, last, slot);
-            }
-        }
-        Step::Write { by, signal, value } => {
-            let written = WrittenValue {
-                node: *by,
-                signal: *signal,
-                value,
-            };
-            put_write(out, cluster, coded, track.time(), written);
-        }
-        Step::Wake => put_object_line(out, "awake", &[Member::Number("time_us", track.time())]),
-        _ => {}
-    }
 }
 
 /// The receiver of a message; 126 is all responders.
@@ -494,6 +460,38 @@ impl ObjectTrack {
         Ok(objects)
     }
 
+    /// What a step that was done says by itself.
+    fn put_step<W: Write>(
+        &self,
+        out: &mut TextWriter<'_, W>,
+        cluster: &Cluster,
+        coded: Option<&Coded>,
+        step: &Step,
+    )
+        ensures { (past : List LogEntry) → IsObjectTrackOf cluster.now past self.now
+            → Grows W.contents out.old out.new
+            (step_object cluster.now (given_coding coded.entry) past step.now) }
+    {
+        let track = &self.track;
+        match step {
+            Step::Finish => {
+                if let Some(slot) = track.slot() {
+                    put_slot(out, cluster, coded, track, &self.last, slot);
+                }
+            }
+            Step::Write { by, signal, value } => {
+                let written = WrittenValue {
+                    node: *by,
+                    signal: *signal,
+                    value,
+                };
+                put_write(out, cluster, coded, track.time(), written);
+            }
+            Step::Wake => put_object_line(out, "awake", &[Member::Number("time_us", track.time())]),
+            _ => {}
+        }
+    }
+
     /// The objects of the next entry.
     fn put_entry<W: Write>(
         &self,
@@ -514,7 +512,7 @@ impl ObjectTrack {
                     at: track.time_behind(cluster, entry),
                     slot: track.slots(),
                 };
-                put_step(out, cluster, coded, track, &self.last, &entry.step);
+                self.put_step(out, cluster, coded, &entry.step);
                 put_events(out, cluster, &entry.step, moment, events.as_slice());
             }
             Reply::Refused(refusal) => put_refused(

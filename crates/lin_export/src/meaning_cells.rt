@@ -1,11 +1,10 @@
 //! What values mean, as cells of a table (RFC 4180).
 
-ghost use Rattle.std.specs.Prelude.{◌≡◌, ◌<◌, ◌++◌, ◌||◌, codes, flat_map, length};
+ghost use Rattle.std.specs.Prelude.{◌≡◌, ◌<◌, ◌++◌, ◌||◌, codes, flat_map, length, option_map};
 ghost use Rattle.std.specs.Fmt.{decimal};
 ghost use Rattle.lin_text.specs.Written.{Grows};
-ghost use Rattle.lin_export.specs.Csv.{after_comma, doubled_quote, meaning_cell, meaning_cells, meaning_name};
-ghost use Rattle.lin_export.specs.Csv.{meaning_names, needs_quotes, text_cell};
-ghost use Rattle.lin_export.specs.WhereTold.{given_coding, where_told};
+ghost use Rattle.lin_export.specs.Csv.{after_comma, doubled_quote, meaning_cell, meaning_cells};
+ghost use Rattle.lin_export.specs.Csv.{meaning_names, needs_quotes, text_cell, unit_name};
 ghost use Rattle.lin_values.specs.Meaning.{meant};
 ghost use Rattle.lin_values.specs.Shown.{plain_shown};
 
@@ -142,25 +141,19 @@ fn put_value_name<W: Write>(out: &mut TextWriter<'_, W>, name: &[u8])
     }
 }
 
-fn put_meaning_name<W: Write>(
-    out: &mut TextWriter<'_, W>,
-    cluster: &Cluster,
-    coded: &Coded,
-    signal: u16,
-)
-    requires { signal < length cluster.now.signals }
+/// The name of the column of what a signal means, with the unit if it has one.
+fn put_meaning_name<W: Write>(out: &mut TextWriter<'_, W>, name: &[u8], unit: Option<&[u8]>)
     ensures { Grows W.contents out.old out.new
-        (text_cell (meaning_name cluster.now coded.now signal)) }
+        (text_cell (unit_name name.now (option_map (λ u. u.now) unit.entry))) }
 {
-    let name = cluster.signal_name(signal);
-    match coded.unit(signal) {
+    match unit {
         Some(unit) => put_unit_name(out, name, unit),
         None => put_value_name(out, name),
     }
 }
 
 /// A comma, and the name of the column of what a signal means, where it has an encoding.
-fn put_coded_names<W: Write>(
+pub(crate) fn put_coded_names<W: Write>(
     out: &mut TextWriter<'_, W>,
     cluster: &Cluster,
     coded: &Coded,
@@ -172,22 +165,6 @@ fn put_coded_names<W: Write>(
 {
     if let Some(_encoding) = coded.encoding_of(signal) {
         out.put_byte(b',');
-        put_meaning_name(out, cluster, coded, signal);
-    }
-}
-
-/// The same, where what values mean is told.
-pub(crate) fn put_meaning_names<W: Write>(
-    out: &mut TextWriter<'_, W>,
-    cluster: &Cluster,
-    coded: Option<&Coded>,
-    signal: u16,
-)
-    requires { signal < length cluster.now.signals }
-    ensures { Grows W.contents out.old out.new (flat_map after_comma
-        (where_told (given_coding coded.entry) (λ d. meaning_names cluster.now d signal))) }
-{
-    if let Some(coded) = coded {
-        put_coded_names(out, cluster, coded, signal);
+        put_meaning_name(out, cluster.signal_name(signal), coded.unit(signal));
     }
 }

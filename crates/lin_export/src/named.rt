@@ -1,17 +1,17 @@
 //! Logs with names.
 
 ghost use Rattle.std.specs.Prelude.{◌≡◌, ◌∷◌, ◌<◌, ⊤, [], IfOk, OnOk, codes, drop, flat_map, length};
-ghost use Rattle.std.specs.Prelude.{map, option_map, reverse, take, zip};
+ghost use Rattle.std.specs.Prelude.{map, option_map, reverse, take};
 ghost use Rattle.std.specs.Fmt.{decimal};
 ghost use Rattle.std.specs.Option.{option_to_list};
-ghost use Rattle.lin_parts.specs.Cluster.{frame_name, frame_of};
+ghost use Rattle.lin_parts.specs.Cluster.{frame_name};
 ghost use Rattle.lin_parts.specs.Rules.{IsEntry};
 ghost use Rattle.lin_core.specs.Tables.{refusal_number, refusal_word};
 ghost use Rattle.lin_log.specs.Shown.{word_shown};
 ghost use Rattle.lin_log.specs.Words.{reply_line, spaced_word};
 ghost use Rattle.lin_text.specs.Written.{Grows, WritesText};
-ghost use Rattle.lin_export.specs.Named.{words_after_event, control_words, frame_words, good_words};
-ghost use Rattle.lin_export.specs.Named.{named_entries, named_event, named_log, signal_words, slot_names};
+ghost use Rattle.lin_export.specs.Named.{words_after_event, control_words, frame_signal_words, frame_words, good_words};
+ghost use Rattle.lin_export.specs.Named.{named_entries, named_event, named_from, named_log, slot_names};
 ghost use Rattle.lin_export.specs.Named.{request_words, sporadic_frame_under, time_words, transport};
 ghost use Rattle.lin_export.specs.Named.{transport_words};
 ghost use Rattle.lin_export.specs.Named.{who_word};
@@ -104,9 +104,7 @@ fn put_signals<W: Write>(
 )
     requires { frame < length cluster.now.frames }
     ensures { Grows W.contents out.old out.new
-        (flat_map spaced_word
-        (flat_map (signal_words cluster.now answer.now)
-        (zip (frame_of cluster.now frame).signals (frame_of cluster.now frame).layout.places))) }
+        (flat_map spaced_word (frame_signal_words cluster.now frame answer.now)) }
 {
     for place in 0..place_count(cluster, frame) {
         let (signal, value) = value_at(cluster, frame, answer, place);
@@ -299,11 +297,11 @@ struct NamedLog<'a> {
 }
 
 impl EntryFormat for NamedLog<'_> {
-    ghost begins = { λ f c. [] };
-
-    ghost says = { λ f c. named_entry c (given_coding f.coded) };
-
-    ghost ends = { λ f c past. [] };
+    ghost text = { λ f c. record {
+      begins = [];
+      says = named_entry c (given_coding f.coded);
+      ends = λ past. [];
+    } };
 
     ghost fits = { λ f c. ⊤ };
 
@@ -318,7 +316,13 @@ impl EntryFormat for NamedLog<'_> {
         match &entry.reply {
             Reply::Done(events) => {
                 put_written(out, cluster, self.coded, &entry.step);
-                put_events(out, cluster, self.coded, next.track.slot(), events.as_slice());
+                put_events(
+                    out,
+                    cluster,
+                    self.coded,
+                    next.track.slot(),
+                    events.as_slice(),
+                );
                 put_time(out, &entry.step, next.track.time_behind(cluster, entry));
             }
             Reply::Refused(refusal) => put_refusal(out, *refusal),
@@ -365,8 +369,7 @@ fn write_entries<W: Write>(
 ) -> Result<(), ExportFault>
     requires { track.old ≡ track_of cluster.now (reverse (take from log.now.entries)) }
     ensures text { WritesText (W.contents writer.old) (W.contents writer.new) result
-        (named_entries cluster.now (given_coding coded.entry)
-        (reverse (take from log.now.entries)) (drop from log.now.entries)) }
+        (named_from cluster.now (given_coding coded.entry) log.now.entries from) }
     ensures track { OnOk result (track.new ≡ track_of cluster.now (reverse log.now.entries)) }
 {
     let mut buffer = TextBuffer::empty();

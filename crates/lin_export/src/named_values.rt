@@ -3,7 +3,7 @@
 ghost use Rattle.std.specs.Prelude.{◌<◌, flat_map, length, option_map};
 ghost use Rattle.lin_log.specs.Words.{reply_line};
 ghost use Rattle.lin_text.specs.Written.{Grows};
-ghost use Rattle.lin_export.specs.Named.{frame_values, seen_values, slot_values, value_lines};
+ghost use Rattle.lin_export.specs.Named.{frame_values, seen_values, slot_values, told_values, value_lines};
 ghost use Rattle.lin_export.specs.Named.{written_values};
 ghost use Rattle.lin_export.specs.Open.{tracked_slot};
 ghost use Rattle.lin_export.specs.WhereTold.{given_coding, where_told};
@@ -99,8 +99,8 @@ pub(crate) fn put_seen<W: Write>(
     event: &Event,
 )
     ensures { Grows W.contents out.old out.new (flat_map reply_line
-        (where_told (given_coding coded.entry)
-        (λ d. seen_values cluster.now d (option_map tracked_slot slot.now) event.now))) }
+        (told_values cluster.now (given_coding coded.entry) (option_map tracked_slot slot.now)
+        event.now)) }
 {
     if let Some(coded) = coded {
         put_event_values(out, cluster, coded, slot, event);

@@ -1,9 +1,8 @@
 //! What `check` finds in an LDF, as one object of JSON (RFC 8259).
 
 ghost use Rattle.std.specs.Prelude.{flat_map, map, option_map};
-ghost use Rattle.std.specs.Option.{option_map_or};
 ghost use Rattle.lin_text.specs.Written.{Grows, WritesText};
-ghost use Rattle.lin_export.specs.CheckObject.{check_object, cluster_members, empty_members, header_value};
+ghost use Rattle.lin_export.specs.CheckObject.{check_object, cluster_members, empty_members, found_members, header_value};
 ghost use Rattle.lin_export.specs.Csv.{after_comma};
 ghost use Rattle.lin_export.specs.Found.{found_data, problem_data};
 
@@ -85,8 +84,7 @@ fn put_nothing<W: Write>(out: &mut TextWriter<'_, W>)
 /// What an LDF describes, if it describes a cluster.
 fn put_if_found<W: Write>(out: &mut TextWriter<'_, W>, found: Option<&Found<'_>>)
     ensures { Grows W.contents out.old out.new (flat_map after_comma
-        (option_map_or cluster_members (option_map (λ f. found_data f.now) found.entry)
-        empty_members)) }
+        (found_members (option_map (λ f. found_data f.now) found.entry))) }
 {
     match found {
         Some(found) => put_found(out, found),

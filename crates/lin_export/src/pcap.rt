@@ -163,11 +163,11 @@ fn put_finish<W: Write>(out: &mut TextWriter<'_, W>, at: u64, cluster: &Cluster,
 struct Capture;
 
 impl EntryFormat for Capture {
-    ghost begins = { λ f c. file_header };
-
-    ghost says = { λ f c. packets c };
-
-    ghost ends = { λ f c past. [] };
+    ghost text = { λ f c. record {
+      begins = file_header;
+      says = packets c;
+      ends = λ past. [];
+    } };
 
     ghost fits = { λ f c. ⊤ };
 

@@ -7,7 +7,7 @@ ghost use Rattle.lin_text.specs.Written.{Grows};
 ghost use Rattle.lin_export.specs.Csv.{after_comma};
 ghost use Rattle.lin_export.specs.Json.{after_members, escaped_bytes, with_commas, member};
 ghost use Rattle.lin_export.specs.Jsonl.{carried_meanings, column_member, column_members, frame_meanings};
-ghost use Rattle.lin_export.specs.Jsonl.{meant_members, physical_members};
+ghost use Rattle.lin_export.specs.Jsonl.{meant_members, told_meanings};
 ghost use Rattle.lin_export.specs.Quantities.{column_key, column_value, has_meaning, meaning_text, quantity};
 ghost use Rattle.lin_export.specs.Open.{tracked_slot};
 ghost use Rattle.lin_values.specs.Meaning.{meant};
@@ -233,8 +233,7 @@ pub(crate) fn put_physical<W: Write>(
     slot: &OpenSlot,
 )
     ensures { Grows W.contents out.old out.new (flat_map after_comma
-        (where_told (given_coding coded.entry)
-        (λ d. physical_members cluster.now d (tracked_slot slot.now)))) }
+        (told_meanings cluster.now (given_coding coded.entry) (tracked_slot slot.now))) }
 {
     if let Some(coded) = coded {
         put_column(out, cluster, coded, Column::Texts, slot);

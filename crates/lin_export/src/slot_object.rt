@@ -325,8 +325,7 @@ pub(crate) fn put_slot<'a, W: Write>(
 )
     ensures { (count : ℕ → ℕ) → AreCounts count last.now
         → Grows W.contents out.old out.new
-        (slot_line cluster.now (given_coding coded.entry) track.now.slots
-        track.now.time track.now.hurt count (tracked_slot slot.now)) }
+        (slot_line cluster.now (given_coding coded.entry) track.now count (tracked_slot slot.now)) }
 {
     put_type(out, "slot");
     put_schedule(out, cluster, track.slots(), track.time(), slot);

@@ -2,10 +2,10 @@
 
 ghost use Rattle.std.specs.Prelude.{◌≡◌, ◌+◌, ◌≤◌, ◌^◌, ◌<◌, ◌∷◌, [], IfOk, List, OnOk, length, option_map, reverse, take};
 ghost use Rattle.lin_parts.specs.declared.parts.Parts.{Parts};
-ghost use Rattle.lin_core.specs.History.{finished_slot, open_slot, time};
+ghost use Rattle.lin_core.specs.History.{time};
 ghost use Rattle.lin_core.specs.declared.log.LogEntry.{LogEntry};
 ghost use Rattle.lin_export.specs.Open.{tracked_slot};
-ghost use Rattle.lin_export.specs.Track.{shown_slot, track_of};
+ghost use Rattle.lin_export.specs.Track.{shown_finished, shown_open, track_of};
 
 use crate::slot::OpenSlot;
 use lin_core::{Log, LogEntry, Reply, Step};
@@ -132,9 +132,8 @@ impl Track {
 
     /// The slot that the next entry finishes.
     pub(crate) fn finished(&self, entry: &LogEntry) -> Option<&OpenSlot>
-        ensures { (past : List LogEntry) → self.now.slot ≡ option_map shown_slot (open_slot past)
-            → option_map (λ s. tracked_slot s.now) result
-            ≡ option_map shown_slot (finished_slot entry.now past) }
+        ensures { (past : List LogEntry) → self.now.slot ≡ shown_open past
+            → option_map (λ s. tracked_slot s.now) result ≡ shown_finished entry.now past }
     {
         let Reply::Done(_) = &entry.reply else {
             return None;

@@ -1,7 +1,7 @@
 //! Logs as changes of values over time (IEEE 1364-2005, section 18, value change dump).
 
 ghost use Rattle.std.specs.Prelude.{◌≡◌, ◌<◌, ◌-◌, ◌==◌, ◌^◌, if◌then◌else◌, ⊤, ℕ, List, length};
-ghost use Rattle.std.specs.Prelude.{flat_map, slice_index};
+ghost use Rattle.std.specs.Prelude.{slice_index};
 ghost use Rattle.lin_core.specs.declared.log.LogEntry.{LogEntry};
 ghost use Rattle.lin_text.specs.Written.{Grows, WritesText};
 ghost use Rattle.lin_export.specs.Look.{seen_as};
@@ -9,11 +9,11 @@ ghost use Rattle.lin_export.specs.Open.{tracked_slot};
 ghost use Rattle.lin_export.specs.PutsGroups.{AreCounts, KeepsChanges, PutsGroups};
 ghost use Rattle.lin_export.specs.TrackedEntries.{IsAfter, next_groups};
 ghost use Rattle.lin_export.specs.Vcd.{count_after, counted_all, count_group, entry_changes};
-ghost use Rattle.lin_export.specs.Vcd.{event_group, frame_changes, vcd_head, header_change};
+ghost use Rattle.lin_export.specs.Vcd.{event_group, event_groups, frame_changes, vcd_head, header_change};
 ghost use Rattle.lin_export.specs.Vcd.{heard_group, end_stamp, later, one_more};
 ghost use Rattle.lin_export.specs.Vcd.{frame_decimals, heard_changes};
 ghost use Rattle.lin_export.specs.Vcd.{slot_changes, stamp, vcd};
-ghost use Rattle.lin_export.specs.WhereTold.{given_coding, where_told};
+ghost use Rattle.lin_export.specs.WhereTold.{given_coding};
 
 use crate::changes::{put_heard, put_number, put_physical, put_unknown, put_waiting, put_written};
 use crate::fault::ExportFault;
@@ -104,23 +104,6 @@ fn put_frame_decimals<W: Write>(
     }
 }
 
-/// The same, where what values mean is told.
-fn put_told_decimals<W: Write>(
-    out: &mut TextWriter<'_, W>,
-    cluster: &Cluster,
-    coded: Option<&Coded>,
-    frame: u16,
-    answer: &Answer,
-)
-    requires { frame < length cluster.now.frames }
-    ensures { Grows W.contents out.old out.new
-        (where_told (given_coding coded.entry) (frame_decimals cluster.now answer.now frame)) }
-{
-    if let Some(coded) = coded {
-        put_frame_decimals(out, cluster, coded, frame, answer);
-    }
-}
-
 /// The signals of a frame, and where that is told what they mean.
 fn put_heard_changes<W: Write>(
     out: &mut TextWriter<'_, W>,
@@ -134,7 +117,9 @@ fn put_heard_changes<W: Write>(
         (heard_changes cluster.now (given_coding coded.entry) answer.now frame) }
 {
     put_frame(out, cluster, frame, answer);
-    put_told_decimals(out, cluster, coded, frame, answer);
+    if let Some(coded) = coded {
+        put_frame_decimals(out, cluster, coded, frame, answer);
+    }
 }
 
 /// What the nodes hear at the end of a slot.
@@ -310,7 +295,7 @@ fn put_events<W: Write>(
 )
     ensures { (count : ℕ → ℕ) → AreCounts count counts.now
         → PutsGroups W.contents out.old out.new last.old last.new
-        (flat_map (event_group cluster.now at count) events.now) }
+        (event_groups cluster.now at count events.now) }
 {
     for event in events {
         put_event(out, last, cluster, at, counts, event);
@@ -327,11 +312,11 @@ struct Dump<'a> {
 }
 
 impl EntryFormat for Dump<'_> {
-    ghost begins = { λ f c. vcd_head c (given_coding f.coded) };
-
-    ghost says = { λ f c. entry_changes c (given_coding f.coded) };
-
-    ghost ends = { λ f c. end_stamp c (given_coding f.coded) };
+    ghost text = { λ f c. record {
+      begins = vcd_head c (given_coding f.coded);
+      says = entry_changes c (given_coding f.coded);
+      ends = end_stamp c (given_coding f.coded);
+    } };
 
     ghost fits = { λ f c. ⊤ };
 

@@ -1,13 +1,10 @@
 //! The frames of a cluster in an object.
 
-ghost use Rattle.std.specs.Prelude.{◌≡◌, ◌<◌, codes, length, option_map, slice_get};
-ghost use Rattle.lin_parts.specs.Cluster.{frame_name, frame_of};
+ghost use Rattle.std.specs.Prelude.{◌≡◌, ◌<◌, length, option_map, slice_get};
 ghost use Rattle.lin_text.specs.Written.{Grows};
-ghost use Rattle.lin_export.specs.CheckObject.{list_member};
-ghost use Rattle.lin_export.specs.ClusterObject.{event_object, frame_object, frames_member, numbered_values};
-ghost use Rattle.lin_export.specs.ClusterObject.{place_object, placed_declared, placed_object, sporadic_object};
+ghost use Rattle.lin_export.specs.ClusterObject.{event_object, frame_object, frames_member, place_object};
+ghost use Rattle.lin_export.specs.ClusterObject.{placed_declared, places_member, sporadic_object};
 ghost use Rattle.lin_export.specs.Csv.{after_comma};
-ghost use Rattle.lin_export.specs.ListedFrames.{places};
 
 use super::positions::put_place;
 use crate::frame_places::{place_at, place_count};
@@ -66,9 +63,8 @@ fn put_places<W: Write>(
     frame: u16,
 )
     requires { frame < length cluster.now.frames }
-    ensures { Grows W.contents out.old out.new (after_comma (list_member (codes "places")
-        (numbered_values (placed_object cluster.now description.now frame) 0
-        (places (frame_of cluster.now frame))))) }
+    ensures { Grows W.contents out.old out.new
+        (after_comma (places_member cluster.now description.now frame)) }
 {
     put_list(out, "places");
     for index in 0..place_count(cluster, frame) {

@@ -1,12 +1,10 @@
 //! The schedule tables of a cluster in an object.
 
-ghost use Rattle.std.specs.Prelude.{◌≡◌, ◌<◌, codes, length, map, option_map, slice_get};
+ghost use Rattle.std.specs.Prelude.{◌≡◌, ◌<◌, length, option_map, slice_get};
 ghost use Rattle.lin_cluster.specs.SlotTimes.{slot_bytes, slot_need};
-ghost use Rattle.lin_frame.specs.Words.{numbers};
 ghost use Rattle.lin_parts.specs.Cluster.{table_of};
 ghost use Rattle.lin_text.specs.Written.{Grows};
-ghost use Rattle.lin_export.specs.CheckObject.{list_member};
-ghost use Rattle.lin_export.specs.ClusterObject.{entry_declared, entry_object, table_object};
+ghost use Rattle.lin_export.specs.ClusterObject.{entries_member, entry_declared, entry_object, table_object};
 ghost use Rattle.lin_export.specs.Csv.{after_comma};
 
 use super::positions::put_place;
@@ -73,9 +71,8 @@ fn put_entries<W: Write>(
     table: u16,
 )
     requires { table < length cluster.now.tables }
-    ensures { Grows W.contents out.old out.new (after_comma (list_member (codes "entries")
-        (map (entry_object cluster.now description.now table)
-        (numbers (length (table_of cluster.now table)))))) }
+    ensures { Grows W.contents out.old out.new
+        (after_comma (entries_member cluster.now description.now table)) }
 {
     put_list(out, "entries");
     for entry in 0..cluster.entries(table) {

@@ -9,11 +9,10 @@ use Rattle.lin_export.proofs.format.put_entries.Given as goal
 abbrev pub invariant-loop-index : goal.invariant-loop-index
 invariant-loop-index g l = record {
   told : (put : List ℕ) × Grows g.W.Write.contents l.initial.out l.out put
-      × (put ++ each_entry (g.F.EntryFormat.says l.fn.format l.fn.cluster) (before l.fn.log.entries l.index) (drop l.index l.fn.log.entries)
-      ≡ each_entry (g.F.EntryFormat.says l.fn.format l.fn.cluster) (before l.fn.log.entries l.fn.from) (drop l.fn.from l.fn.log.entries));
+      × (put ++ each_entry (g.F.EntryFormat.text l.fn.format l.fn.cluster).says (before l.fn.log.entries l.index) (drop l.index l.fn.log.entries)
+      ≡ each_entry (g.F.EntryFormat.text l.fn.format l.fn.cluster).says (before l.fn.log.entries l.fn.from) (drop l.fn.from l.fn.log.entries));
   kept : l.track ≡ track_of l.fn.cluster (before l.fn.log.entries l.index);
-  says : g.F.EntryFormat.says l.format ≡ g.F.EntryFormat.says l.fn.format;
-  ends : g.F.EntryFormat.ends l.format ≡ g.F.EntryFormat.ends l.fn.format;
+  same : g.F.EntryFormat.text l.format ≡ g.F.EntryFormat.text l.fn.format;
   fits : g.F.EntryFormat.fits l.format l.fn.cluster;
   keeps : g.F.EntryFormat.keeps l.format l.fn.cluster (before l.fn.log.entries l.index);
 }

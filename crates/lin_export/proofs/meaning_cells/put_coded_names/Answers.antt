@@ -11,4 +11,4 @@ pub returns-in-Some : goal.returns-in-Some
 returns-in-Some g c =
     same-growth
     (ap (λ (o : Option CodingType). flat_map after_comma (option_map_or (λ (t : CodingType). text_cell (meaning_name c.args.cluster.now c.args.coded.now c.args.signal) ∷ []) o [])) c.in-Some.ensures)
-    (grows-last (grows-more c.put_byte.ensures c.put_meaning_name.ensures))
+    (grows-last (grows-more c.put_byte.ensures (rw (c.signal_name.ensures, c.unit.ensures) at c.put_meaning_name.ensures)))

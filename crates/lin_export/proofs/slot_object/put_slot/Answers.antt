@@ -1,8 +1,8 @@
 use Rattle.std.proofs.Common.{codes}
 use Rattle.lin_core.specs.History.{seen_of}
-use Rattle.lin_export.specs.Jsonl.{answers_member, due_member, hurt_member, message_member, physical_members, response_members, schedule_members, signals_member}
+use Rattle.lin_export.specs.Jsonl.{answers_member, due_member, hurt_member, message_member, response_members, schedule_members, signals_member, told_meanings}
 use Rattle.lin_export.specs.Open.{tracked_slot}
-use Rattle.lin_export.specs.WhereTold.{given_coding, where_told}
+use Rattle.lin_export.specs.WhereTold.{given_coding}
 use Rattle.lin_export.proofs.Objects.{grows-object, puts-all, puts-more, puts-one}
 use Rattle.lin_export.proofs.slot_object.put_slot.Goals as goal
 
@@ -18,5 +18,5 @@ returns g c = λ count are.
     (puts-more (puts-one (hurt_member s.hurt t.hurt) (rw (c.hurt_member.ensures, c.is_hurt.ensures, c.hurt.ensures) at c.put_member.ensures))
     (puts-more (puts-all (response_members (seen_of s)) (rw c.look.ensures at c.put_response.ensures))
     (puts-more (puts-one (signals_member x s) c.put_signals.ensures)
-    (puts-more (puts-one (message_member x count s) (c.put_message.ensures count are)) (puts-all (where_told (given_coding c.args.coded) (λ d. physical_members x d s)) c.put_physical.ensures))))))))
+    (puts-more (puts-one (message_member x count s) (c.put_message.ensures count are)) (puts-all (told_meanings x (given_coding c.args.coded) s) c.put_physical.ensures))))))))
     c.put.ensures

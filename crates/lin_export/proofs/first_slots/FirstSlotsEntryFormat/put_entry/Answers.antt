@@ -4,7 +4,7 @@ use Rattle.std.specs.Prelude.{Option, option_map}
 use Rattle.std.specs.Option.{option_map_or}
 use Rattle.lin_core.specs.History.{Slot, finished_slot, time}
 use Rattle.lin_text.proofs.Growing.{same-growth}
-use Rattle.lin_export.specs.FirstSlots.{slot_row}
+use Rattle.lin_export.specs.FirstSlots.{first_slot_row}
 use Rattle.lin_export.specs.Open.{tracked_slot}
 use Rattle.lin_export.specs.Track.{TrackData, finished_slot_count}
 use Rattle.lin_export.specs.declared.slot.OpenSlot.{OpenSlot}
@@ -20,9 +20,9 @@ returns-in-Some-clause-text g c = λ past is kept.
     = shows (finished_slot e past) t
     (ap (option_map (λ (s : Bor OpenSlot). tracked_slot s.now)) (sym c.in-Some.is) ∙ c.finished.ensures past (ap (λ (d : TrackData). d.slot) is)) in
     let first : List ℕ → List ℕ = λ l. if nat_lt (finished_slot_count past) 200 then l else [] in
-    let row : Slot → List ℕ = λ s. first (slot_row x (finished_slot_count past) (time x past) s) in
+    let row : Slot → List ℕ = first_slot_row x (finished_slot_count past) (time x past) in
     same-growth
-    (ap (λ (d : TrackData). if nat_lt d.slots 200 then slot_row x d.slots d.time t else []) is
+    (ap (λ (d : TrackData). first_slot_row x d.slots d.time t) is
     ∙ ap row o.same ∙ ap first (row-shown x (finished_slot_count past) (time x past) o.slot)
     ∙ ap (λ (f : Option Slot). option_map_or row f []) (sym o.is_open))
     c.put_first.ensures
