@@ -1,13 +1,14 @@
 -- What of a slot is shown by name.
 use Rattle.std.specs.Prelude.{ℕ, ◌-◌, List, length, take, slice_index, if◌then◌else◌, is_some}
 use Rattle.std.specs.Prelude.{Option, None}
-use Rattle.std.specs.Option.{option_map_or}
+use Rattle.std.specs.Option.{option_map_or, unwrap_or}
+use Rattle.lin_frame.specs.declared.value.Value.{Value}
 use Rattle.lin_parts.specs.Cluster.{entry_name, frame_name, line_of}
 use Rattle.lin_parts.specs.declared.parts.Parts.{Parts}
 use Rattle.lin_parts.specs.declared.parts.Entry.{Entry}
 use Rattle.lin_parts.specs.declared.parts.Entry.TheVariants.{Event}
 use Rattle.lin_core.specs.History.{Slot, good}
-use Rattle.lin_core.specs.Signals.{carried_by}
+use Rattle.lin_core.specs.Signals.{carried_by, value_in}
 
 -- the data bytes of a response, and its checksum
 abbrev pub data_of : List ℕ → List ℕ
@@ -15,6 +16,10 @@ data_of answer = take (length answer - 1) answer
 
 abbrev pub checksum_in : List ℕ → ℕ
 checksum_in answer = slice_index answer (length answer - 1)
+
+-- the values of signals that are heard after a slot, by those that are heard before it
+abbrev pub heard_after : Parts → Slot → (ℕ → Value) → ℕ → Value
+heard_after c slot before s = unwrap_or (value_in c slot s) (before s)
 
 -- the frame of a slot: the entry's own; of a sporadic frame the member with the slot's header; of
 -- an event-triggered one that was seen good the member whose publisher put the response

@@ -1,10 +1,10 @@
 //! The values of signals that the nodes hear, entry by entry (ISO 17987-3, signals).
 
 ghost use Rattle.std.specs.Prelude.{◌≡◌, ℕ, length};
-ghost use Rattle.std.specs.Option.{unwrap_or};
 ghost use Rattle.lin_frame.specs.declared.value.Value.{Value};
-ghost use Rattle.lin_core.specs.Signals.{ArePointwise, value_in};
+ghost use Rattle.lin_core.specs.Signals.{ArePointwise};
 ghost use Rattle.lin_export.specs.Open.{tracked_slot};
+ghost use Rattle.lin_export.specs.Shown.{heard_after};
 
 use crate::slot::{OpenSlot, SeenSlot};
 use lin_core::hear_frame;
@@ -16,8 +16,7 @@ pub(crate) fn hear_slot(heard: &mut Vec<Value>, cluster: &Cluster, slot: &OpenSl
     requires { length heard.old.items ≡ length cluster.now.signals }
     ensures count { length heard.new.items ≡ length heard.old.items }
     ensures heard { (g : ℕ → Value) → ArePointwise g heard.old.items
-        → ArePointwise
-        (λ s. unwrap_or (value_in cluster.now (tracked_slot slot.now) s) (g s)) heard.new.items }
+        → ArePointwise (heard_after cluster.now (tracked_slot slot.now) g) heard.new.items }
 {
     let SeenSlot::Good(answer) = slot.look() else {
         return;

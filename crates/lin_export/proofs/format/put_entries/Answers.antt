@@ -1,4 +1,4 @@
-use Rattle.std.proofs.Common.{refl, ◌≡◌, ◌+◌, ◌∷◌, ◌++◌, [], drop, sym, ap, subst, ◌∙◌, append-nil, arith, List, ℕ, reverse}
+use Rattle.std.proofs.Common.{refl, ◌≡◌, ◌+◌, ◌∷◌, ◌++◌, [], drop, sym, ap, subst, ◌∙◌, append-nil, arith, List, reverse}
 use Rattle.std.proofs.lemmas.List.{drop_all, take_all}
 use Rattle.lin_core.specs.declared.log.LogEntry.{LogEntry}
 use Rattle.lin_parts.specs.declared.parts.Parts.{Parts}
