@@ -1,13 +1,13 @@
 -- What a bench script expects.
 use Rattle.std.specs.Prelude.{ℕ, Bool, ◌&&◌, ◌||◌, if◌then◌else◌, List, [], ◌∷◌, Option, Some, None}
-use Rattle.std.specs.Prelude.{Result, Ok, Err, codes, length, nat_lt, option_map, reverse}
+use Rattle.std.specs.Prelude.{Result, Ok, Err, codes, length, nat_lt, option_and_then, option_map, reverse}
 use Rattle.std.specs.Str.{bytes_eq}
 use Rattle.lin_parts.specs.Cluster.{frame_of, table_of}
 use Rattle.lin_parts.specs.declared.parts.Parts.{Parts}
 use Rattle.lin_core.specs.Tables.{cause_word, causes, look_word, looks, first_with_word, first_with_number}
 use Rattle.lin_core.specs.Tables.{refusal_number, refusal_word, refusals}
 use Rattle.lin_core.specs.declared.reply.Refusal.{Refusal}
-use Rattle.lin_log.specs.Said.{is_number}
+use Rattle.lin_log.specs.Said.{is_number, number}
 use Rattle.lin_bench.specs.Fields.{◌>>=◌, count_field, frame_field, host_field}
 use Rattle.lin_bench.specs.Fields.{number_up_to, or_bad, pair_fields, present_node, present_table}
 use Rattle.lin_bench.specs.Fields.{range_ends, range_field, rows_and_time, signal_fields}
@@ -15,7 +15,7 @@ use Rattle.lin_bench.specs.Fields.{value_field}
 use Rattle.lin_bench.specs.RuleLines.{pattern_fields}
 use Rattle.lin_bench.specs.Rules.{has_length}
 use Rattle.lin_bench.specs.declared.reason.Reason.{Reason}
-use Rattle.lin_bench.specs.declared.reason.Reason.TheVariants.{NoData, NoEntry, NoRefusal, TooSmall}
+use Rattle.lin_bench.specs.declared.reason.Reason.TheVariants.{NoData, NoEntry, NoRefusal}
 use Rattle.lin_bench.specs.declared.reason.Reason.TheVariants.{ExpectForm, UnknownExpectation, UntilForm, UnknownUntil}
 use Rattle.lin_bench.specs.declared.reason.Reason.TheVariants.{WhileForm, UnknownWhile}
 use Rattle.lin_bench.specs.declared.expected.Carried.{Carried}
@@ -26,11 +26,15 @@ use Rattle.lin_bench.specs.declared.rules.Pattern.{Pattern}
 use Rattle.lin_bench.specs.declared.expected.Expected.{Expected}
 use Rattle.lin_bench.specs.declared.expected.Expected.TheVariants as expected
 
--- a refusal's number or name
+-- the refusal with a number, 1 to 18, or a name
+abbrev pub refusal_called : List ℕ → Option Refusal
+refusal_called f =
+    if is_number f
+    then option_and_then (λ n. first_with_number refusal_number refusals n) (number 18 f)
+    else first_with_word refusal_word refusals f
+
 unfoldable pub refusal_field : List ℕ → Result Refusal Reason
-refusal_field f =
-    if is_number f then number_up_to 18 f >>= (λ n. or_bad (first_with_number refusal_number refusals n) TooSmall)
-    else or_bad (first_with_word refusal_word refusals f) (NoRefusal f)
+refusal_field f = or_bad (refusal_called f) (NoRefusal f)
 
 -- the forms of the expectations: all fields after `expect`, which are shown where there is no form
 -- of them, and those after the first word. A wrong number of fields is no form

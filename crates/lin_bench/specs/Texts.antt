@@ -97,7 +97,8 @@ reason_words (reason.NoEntry table entries) =
 reason_words (reason.NoRange field) =
     Fixed (codes "expected a range LOW..HIGH, not") ∷ Said field ∷ []
 reason_words reason.TooSmall = Fixed (codes "expected a number of at least 1, not 0") ∷ []
-reason_words reason.SlotsForm = Fixed (codes "usage: slots N, slots N ms or slots idle") ∷ []
+reason_words reason.SlotsForm =
+    Fixed (codes "usage: slots N, slots N ms, slots N leave NODE .., slots N until FORM, slots N while FORM or slots idle") ∷ []
 reason_words (reason.SlotForm word) =
     Fixed (codes "expected hurt or leave after slot, not") ∷ Said word ∷ []
 reason_words reason.LeaveForm = Fixed (codes "usage: slot leave NODE ..") ∷ []

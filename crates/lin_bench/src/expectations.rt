@@ -5,10 +5,10 @@ ghost use Rattle.std.specs.Str.{bytes_eq};
 ghost use Rattle.lin_bench.specs.Expectations.{before_last, data_length, data_pattern, entry_field, expectation, frame_form, lone_form};
 ghost use Rattle.lin_bench.specs.Expectations.{loss_expectation, lost_form, pattern_form, rows_and_limit};
 ghost use Rattle.lin_bench.specs.Expectations.{message_form, no_form, no_lost_form, no_message_form, signal_expectation};
-ghost use Rattle.lin_bench.specs.Expectations.{refusal_field, refused_form, seen_form, sent_form};
+ghost use Rattle.lin_bench.specs.Expectations.{refusal_called, refusal_field, refused_form, seen_form, sent_form};
 ghost use Rattle.lin_bench.specs.Expectations.{passes, signal_form, slot_form, table_form, until_form, waiting_form, while_form};
 ghost use Rattle.lin_bench.specs.Expectations.{word_expectation};
-ghost use Rattle.lin_bench.specs.Fields.{line_fields, range_ends, field_texts};
+ghost use Rattle.lin_bench.specs.Fields.{field_texts, line_fields, range_ends};
 ghost use Rattle.lin_bench.specs.Read.{Gives};
 ghost use Rattle.lin_bench.specs.declared.fault.LineFault.{LineFault};
 ghost use Rattle.lin_bench.specs.declared.reason.Reason.{Reason};
@@ -24,23 +24,27 @@ use crate::reason::Reason;
 use crate::rule_lines::pattern;
 use crate::rules::Pattern;
 use lin_core::{Refusal, named, numbered};
-use lin_log::{copied, first_field, is_number, is_over};
+use lin_log::{copied, first_field, is_number, is_over, number};
 use lin_parts::Cluster;
 use lin_text::Text;
 use std::alloc::{AllocError, Global};
+
+/// The refusal with a number or a name.
+fn refusal_called(field: &[u8]) -> Option<Refusal>
+    ensures { result ≡ refusal_called field.now }
+{
+    if is_number(field) {
+        return numbered(number(field, 18)?);
+    }
+    named(field)
+}
 
 /// A refusal, by its number or its name.
 #[tactic(auto, unfolding(crate::specs::Expectations::refusal_field))]
 fn refusal_field(alloc: Global, field: &[u8]) -> Result<Refusal, LineFault>
     ensures { Gives (λ r. r) result (refusal_field field.now) }
 {
-    if is_number(field) {
-        return match numbered(number_field(alloc, field, 18)?) {
-            Some(refusal) => Ok(refusal),
-            None => Err(LineFault::Bad(Reason::TooSmall)),
-        };
-    }
-    match named(field) {
+    match refusal_called(field) {
         Some(refusal) => Ok(refusal),
         None => Err(LineFault::Bad(Reason::NoRefusal(Text::copied(alloc, field)?))),
     }

@@ -7,6 +7,7 @@ ghost use Rattle.lin_bench.specs.Fields.{bytes_fields, count_field, line_fields,
 ghost use Rattle.lin_bench.specs.Fields.{after_dots, frame_called, frame_field, frame_numbered};
 ghost use Rattle.lin_bench.specs.Fields.{frames_called, has_commander, lacks_end, message_frame};
 ghost use Rattle.lin_log.specs.Language.{number_named};
+ghost use Rattle.lin_parts.specs.Cluster.{nodes};
 ghost use Rattle.lin_bench.specs.Fields.{or_bad, range_ends, range_field, rows_and_time};
 ghost use Rattle.lin_bench.specs.Fields.{host_field, pair_fields, present_node, present_signal};
 ghost use Rattle.lin_bench.specs.Fields.{present_table, sends, signal_field, signal_fields};
@@ -108,9 +109,14 @@ pub(crate) fn table_field(alloc: Global, cluster: &Cluster, field: &[u8]) -> Res
     Ok(lin_log::table_field(alloc, cluster, field)?)
 }
 
-/// A node that the cluster has, by its name or its number.
-pub(crate) fn present_node(alloc: Global, cluster: &Cluster, field: &[u8]) -> Result<u8, LineFault>
-    ensures { Gives (λ n. n) result (present_node cluster.now field.now) }
+/// Returns a node that the cluster has, by its name or its number.
+///
+/// # Errors
+/// - `Bad`: no node has the name or the number, or the number is above 255;
+/// - `OutOfMemory`.
+pub fn present_node(alloc: Global, cluster: &Cluster, field: &[u8]) -> Result<u8, LineFault>
+    ensures number { Gives (λ n. n) result (present_node cluster.now field.now) }
+    ensures range { IfOk result (λ n. n < nodes cluster.now) }
 {
     let node = node_field(alloc, cluster, field)?;
     if (node as usize) < cluster.nodes() {
@@ -119,8 +125,12 @@ pub(crate) fn present_node(alloc: Global, cluster: &Cluster, field: &[u8]) -> Re
     Err(LineFault::Bad(Reason::Step(StepReason::NoNode(Text::copied(alloc, field)?))))
 }
 
-/// A signal that the cluster has, by its name or its number.
-fn present_signal(alloc: Global, cluster: &Cluster, field: &[u8]) -> Result<u16, LineFault>
+/// Returns a signal that the cluster has, by its name or its number.
+///
+/// # Errors
+/// - `Bad`: no signal has the name or the number, or the number is above 65,535;
+/// - `OutOfMemory`.
+pub fn present_signal(alloc: Global, cluster: &Cluster, field: &[u8]) -> Result<u16, LineFault>
     ensures number { Gives (λ n. n) result (present_signal cluster.now field.now) }
     ensures range { IfOk result (λ n. n < length cluster.now.signals) }
 {

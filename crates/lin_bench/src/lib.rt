@@ -59,6 +59,7 @@ pub use bench::Bench;
 pub use expected::{Carried, Expected, Since};
 pub use fault::{LineFault, MakeFault, PlayFault, ReadFault};
 pub use faults::{FaultKind, SlotFault};
+pub use fields::{present_node, present_signal};
 pub use got::{Got, Judged, Judgement, Pending, Verdict, is_unmet, some_unmet};
 pub use got_meanings::{told_meaning, told_meanings};
 pub use law::{faults_change_their_slots_alone, plain_scripts_say_the_same, rules_alone_add_steps};

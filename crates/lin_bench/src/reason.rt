@@ -23,7 +23,7 @@ pub enum Hint {
 pub enum Reason {
     /// A port, a step, or a field of one.
     Step(lin_log::Reason),
-    /// No refusal has this name.
+    /// No refusal has this name or this number.
     NoRefusal(Text),
     /// No frame has this name.
     NoFrame(Text),
@@ -41,7 +41,7 @@ pub enum Reason {
     NoRange(Text),
     /// A 0 where a number from 1 on is wanted.
     TooSmall,
-    /// `slots` takes a number, a number and `ms`, or `idle`.
+    /// `slots` takes a number, a number and `ms`, or `idle`, and after a number `leave`, `until` or `while`.
     SlotsForm,
     /// `slot` takes `hurt` or `leave`, and not this word.
     SlotForm(Text),

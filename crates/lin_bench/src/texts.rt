@@ -173,7 +173,7 @@ fn reason_line(reason: &Reason) -> WordList<'_>
             "expected a number of at least 1, not 0",
         )]),
         Reason::SlotsForm => return WordList::of(&[Word::Fixed(
-            "usage: slots N, slots N ms or slots idle",
+            "usage: slots N, slots N ms, slots N leave NODE .., slots N until FORM, slots N while FORM or slots idle",
         )]),
         Reason::SlotForm(word) => return WordList::of(&[
             Word::Fixed("expected hurt or leave after slot, not"),

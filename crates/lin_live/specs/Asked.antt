@@ -1,15 +1,11 @@
 -- Questions: what is asked by the fields after `?`.
-use Rattle.std.specs.Prelude.{◌≡◌, ℕ, ◌<◌, ◌&&◌, nat_lt, if◌then◌else◌, List, [], ◌∷◌, length}
+use Rattle.std.specs.Prelude.{◌≡◌, ℕ, ◌<◌, if◌then◌else◌, List, [], ◌∷◌, length}
 use Rattle.std.specs.Prelude.{Result, Ok, Err, codes}
 use Rattle.std.specs.Str.{bytes_eq}
 use Rattle.lin_parts.specs.Cluster.{nodes}
 use Rattle.lin_parts.specs.declared.parts.Parts.{Parts}
-use Rattle.lin_log.specs.Language.{named_language}
-use Rattle.lin_log.specs.Said.{node_field, signal_field}
-use Rattle.lin_log.specs.declared.reason.LineFault.{LineFault as StepFault}
-use Rattle.lin_log.specs.declared.reason.LineFault.TheVariants as faults
-use Rattle.lin_log.specs.declared.reason.Reason.{Reason as StepReason}
-use Rattle.lin_bench.specs.declared.reason.Reason.TheVariants.{Step}
+use Rattle.lin_bench.specs.Fields.{present_node, present_signal}
+use Rattle.lin_bench.specs.declared.reason.Reason.{Reason as ScriptReason}
 use Rattle.lin_bench.specs.declared.fault.LineFault.{LineFault as ScriptFault}
 use Rattle.lin_bench.specs.declared.fault.LineFault.TheVariants as scripts
 use Rattle.lin_live.specs.declared.question.Question.{Question}
@@ -19,7 +15,6 @@ use Rattle.lin_live.specs.declared.reason.LineFault.{LineFault}
 use Rattle.lin_live.specs.declared.reason.LineFault.TheVariants.{Bad, OutOfMemory}
 use Rattle.lin_live.specs.declared.reason.Reason.{Reason}
 use Rattle.lin_live.specs.declared.reason.Reason.TheVariants.{Script, AskForm, UnknownQuestion}
-use Rattle.lin_live.specs.declared.reason.Reason.TheVariants.{NoNode, NoNodeOrSignal}
 
 -- what is said in turn: the first bad part says why
 infixl 10 ◌>>=◌
@@ -27,22 +22,16 @@ abbrev pub ◌>>=◌ : {A B : Type 0} → Result A Reason → (A → Result B Re
 Ok x >>= f = f x
 Err why >>= f = Err why
 
--- a field, as lines of steps have it
-abbrev pub step_field : {A : Type 0} → Result A StepReason → Result A Reason
-step_field (Ok x) = Ok x
-step_field (Err why) = Err (Script (Step why))
+-- a field, as lines of bench scripts have it
+abbrev pub script_field : {A : Type 0} → Result A ScriptReason → Result A Reason
+script_field (Ok x) = Ok x
+script_field (Err why) = Err (Script why)
 
 abbrev pub signal_asked : Parts → List ℕ → List ℕ → Result Question Reason
-signal_asked c n s =
-    step_field (node_field (named_language c) n)
-    >>= (λ node. step_field (signal_field (named_language c) s)
-    >>= (λ signal. if nat_lt node (nodes c) && nat_lt signal (length c.signals)
-    then Ok (Signal node signal) else Err NoNodeOrSignal))
-
-abbrev pub node_question : Parts → List ℕ → Result Question Reason
-node_question c n =
-    step_field (node_field (named_language c) n)
-    >>= (λ host. if nat_lt host (nodes c) then Ok (Waiting host) else Err NoNode)
+signal_asked c n s = do
+  node ← script_field (present_node c n)
+  signal ← script_field (present_signal c s)
+  Ok (Signal node signal)
 
 -- the forms of questions: all fields after `?`, which are shown where there is no form of them, and
 -- those after the first word. A wrong number of fields is no form
@@ -51,7 +40,7 @@ signal_question c all (n ∷ s ∷ []) = signal_asked c n s
 signal_question c all fs = Err (UnknownQuestion all)
 
 abbrev pub waiting_question : Parts → List (List ℕ) → List (List ℕ) → Result Question Reason
-waiting_question c all (n ∷ []) = node_question c n
+waiting_question c all (n ∷ []) = script_field (present_node c n) >>= (λ host. Ok (Waiting host))
 waiting_question c all fs = Err (UnknownQuestion all)
 
 abbrev pub lone_question : List (List ℕ) → Question → List (List ℕ) → Result Question Reason
@@ -85,10 +74,6 @@ IsAskable c (Waiting host) = host < nodes c
 IsAskable c asked = Unit {0}
 
 -- ---- what reading a question answers, beside what the definition reads
-abbrev pub fault_of_step : StepFault → LineFault
-fault_of_step (faults.Bad why) = Bad (Script (Step why))
-fault_of_step faults.OutOfMemory = OutOfMemory
-
 abbrev pub script_fault : ScriptFault → LineFault
 script_fault (scripts.Bad why) = Bad (Script why)
 script_fault scripts.OutOfMemory = OutOfMemory

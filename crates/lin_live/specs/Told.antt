@@ -33,7 +33,7 @@ use Rattle.lin_live.specs.declared.heard.Heard.TheVariants.{Ask, Make}
 use Rattle.lin_live.specs.declared.question.Question.{Question}
 use Rattle.lin_live.specs.declared.reason.Reason.{Reason}
 use Rattle.lin_live.specs.declared.reason.Reason.TheVariants.{Script, AskForm, UnknownQuestion}
-use Rattle.lin_live.specs.declared.reason.Reason.TheVariants.{NoNode, NoNodeOrSignal, TooLong}
+use Rattle.lin_live.specs.declared.reason.Reason.TheVariants.{TooLong}
 
 -- ---- the last lines of answers
 abbrev pub hash_line : List ℕ → List ℕ
@@ -43,8 +43,6 @@ abbrev pub question_reason_text : Reason → List ℕ
 question_reason_text (Script why) = script_text why
 question_reason_text AskForm = codes "missing question after ?"
 question_reason_text (UnknownQuestion fields) = codes "unknown question " ++ seen_texts (codes " ") fields
-question_reason_text NoNode = codes "no such node"
-question_reason_text NoNodeOrSignal = codes "no such node or signal"
 question_reason_text TooLong = codes "the line has more than 16,777,216 bytes"
 
 -- how an answer ends: the line was bad, a question is answered, the line met the limit of slots, an

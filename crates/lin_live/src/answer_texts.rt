@@ -61,8 +61,6 @@ pub(crate) fn put_why<W: Write>(out: &mut TextWriter<'_, W>, reason: &Reason)
             out.put_text("unknown question ");
             put_texts(out, " ", fields.as_slice());
         }
-        Reason::NoNode => out.put_text("no such node"),
-        Reason::NoNodeOrSignal => out.put_text("no such node or signal"),
         Reason::TooLong => out.put_text("the line has more than 16,777,216 bytes"),
     }
 }

@@ -2,7 +2,7 @@
 
 ghost use Rattle.std.specs.Prelude.{◌≡◌, IfOk, true};
 ghost use Rattle.lin_log.specs.Said.{fields};
-ghost use Rattle.lin_live.specs.Asked.{Gives, IsAskable, lone_question, node_question, question};
+ghost use Rattle.lin_live.specs.Asked.{Gives, IsAskable, lone_question, question};
 ghost use Rattle.lin_live.specs.Asked.{signal_asked, signal_question, waiting_question};
 ghost use Rattle.lin_live.specs.Asked.{word_question};
 ghost use Rattle.lin_live.specs.declared.reason.LineFault.{LineFault};
@@ -10,7 +10,8 @@ ghost use Rattle.lin_live.specs.declared.reason.Reason.{Reason};
 
 use crate::question::Question;
 use crate::reason::{LineFault, Reason};
-use lin_log::{copied, first_field, is_over, node_field, signal_field};
+use lin_bench::{present_node, present_signal};
+use lin_log::{copied, first_field, is_over};
 use lin_parts::Cluster;
 use std::alloc::{AllocError, Global};
 
@@ -32,13 +33,9 @@ fn signal_of(
     ensures asked { Gives result (signal_asked cluster.now node.now signal.now) }
     ensures askable { IfOk result (IsAskable cluster.now) }
 {
-    let node = node_field(alloc, cluster, node)?;
-    let signal = signal_field(alloc, cluster, signal)?;
-    if (node as usize) < cluster.nodes() && (signal as usize) < cluster.signals() {
-        Ok(Question::Signal { node, signal })
-    } else {
-        Err(LineFault::Bad(Reason::NoNodeOrSignal))
-    }
+    let node = present_node(alloc, cluster, node)?;
+    let signal = present_signal(alloc, cluster, signal)?;
+    Ok(Question::Signal { node, signal })
 }
 
 fn signal(alloc: Global, cluster: &Cluster, all: &[u8], line: &[u8]) -> Result<Question, LineFault>
@@ -57,19 +54,6 @@ fn signal(alloc: Global, cluster: &Cluster, all: &[u8], line: &[u8]) -> Result<Q
     signal_of(alloc, cluster, node, signal)
 }
 
-/// The question for a host's messages that wait, by its field.
-fn waiting_of(alloc: Global, cluster: &Cluster, host: &[u8]) -> Result<Question, LineFault>
-    ensures asked { Gives result (node_question cluster.now host.now) }
-    ensures askable { IfOk result (IsAskable cluster.now) }
-{
-    let host = node_field(alloc, cluster, host)?;
-    if (host as usize) < cluster.nodes() {
-        Ok(Question::Waiting { host })
-    } else {
-        Err(LineFault::Bad(Reason::NoNode))
-    }
-}
-
 fn waiting(alloc: Global, cluster: &Cluster, all: &[u8], line: &[u8]) -> Result<Question, LineFault>
     ensures asked { Gives result (waiting_question cluster.now (fields true all.now) (fields true line.now)) }
     ensures askable { IfOk result (IsAskable cluster.now) }
@@ -80,7 +64,9 @@ fn waiting(alloc: Global, cluster: &Cluster, all: &[u8], line: &[u8]) -> Result<
     if !is_over(cluster, rest) {
         return Err(no_form(alloc, cluster, all)?);
     }
-    waiting_of(alloc, cluster, host)
+    Ok(Question::Waiting {
+        host: present_node(alloc, cluster, host)?,
+    })
 }
 
 /// What is asked, where no field stands after its word.

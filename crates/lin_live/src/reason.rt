@@ -1,7 +1,7 @@
 //! Why a line is bad.
 
 ghost use Rattle.std.specs.Prelude.{◌≡◌};
-ghost use Rattle.lin_live.specs.Asked.{script_fault, fault_of_step};
+ghost use Rattle.lin_live.specs.Asked.{script_fault};
 ghost use Rattle.lin_live.specs.declared.reason.LineFault.TheVariants.{OutOfMemory};
 
 use lin_text::{Many, Text};
@@ -16,10 +16,6 @@ pub enum Reason {
     AskForm,
     /// `?` has no form of these fields.
     UnknownQuestion(Many<Text>),
-    /// No node has the number that is asked for.
-    NoNode,
-    /// No node, or no signal, has the number that is asked for.
-    NoNodeOrSignal,
     /// It has more than 16,777,216 bytes.
     TooLong,
 }
@@ -29,19 +25,6 @@ pub enum Reason {
 pub enum LineFault {
     Bad(Reason),
     OutOfMemory,
-}
-
-impl From<lin_log::LineFault> for LineFault {
-    ghost from_gives = { λ fault e. e ≡ fault_of_step fault };
-
-    fn from(fault: lin_log::LineFault) -> LineFault {
-        match fault {
-            lin_log::LineFault::Bad(reason) => {
-                LineFault::Bad(Reason::Script(lin_bench::Reason::Step(reason)))
-            }
-            lin_log::LineFault::OutOfMemory => LineFault::OutOfMemory,
-        }
-    }
 }
 
 impl From<lin_bench::LineFault> for LineFault {

@@ -20,7 +20,8 @@ fn bad_line(alloc: Global, text: &[u8]) -> Result<Vec<u8>, Fail> {
     }
 }
 
-const SLOTS: &str = "script 1 bad line: usage: slots N, slots N ms or slots idle\n";
+const SLOTS: &str =
+    "script 1 bad line: usage: slots N, slots N ms, slots N leave NODE .., slots N until FORM, slots N while FORM or slots idle\n";
 
 /// Texts, and what is written of them: names that aren't there, words, and numbers and bytes. What
 /// stands before the first bad line is judged, and nothing after it.
@@ -43,10 +44,7 @@ const BAD_LINES: &[(&str, &str)] = &[
         "expect refused asleep",
         "script 1 bad line: unknown refusal asleep\n",
     ),
-    (
-        "expect refused 0",
-        "script 1 bad line: expected a number of at least 1, not 0\n",
-    ),
+    ("expect refused 0", "script 1 bad line: unknown refusal 0\n"),
     (
         "# x\n  h0\n",
         "script 2 bad line: missing step after the port\n",
@@ -171,7 +169,7 @@ const BAD_LINES: &[(&str, &str)] = &[
     ),
     (
         "expect refused 19",
-        "script 1 bad line: expected a number from 0 to 18, not 19\n",
+        "script 1 bad line: unknown refusal 19\n",
     ),
     ("hurt", "script 1 bad line: expected hexadecimal bytes\n"),
     (

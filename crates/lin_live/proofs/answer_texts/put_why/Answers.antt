@@ -4,9 +4,3 @@ use Rattle.lin_live.proofs.answer_texts.put_why.Goals as goal
 pub returns-in-UnknownQuestion : goal.returns-in-UnknownQuestion
 returns-in-UnknownQuestion g c =
     rw c.in-UnknownQuestion.is (grows-more c.put_text-in-UnknownQuestion.ensures (rw c.as_slice.ensures at c.put_texts.ensures))
-
-pub returns-in-NoNode : goal.returns-in-NoNode
-returns-in-NoNode g c = rw c.in-NoNode.is c.put_text-in-NoNode.ensures
-
-pub returns-in-NoNodeOrSignal : goal.returns-in-NoNodeOrSignal
-returns-in-NoNodeOrSignal g c = rw c.in-NoNodeOrSignal.is c.put_text-in-NoNodeOrSignal.ensures
