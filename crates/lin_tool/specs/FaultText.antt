@@ -1,6 +1,6 @@
 -- Faults as text: `17:damage`, `17..19:damage`, `17..:absent:Panel`, with `+` between two of them.
 use Rattle.std.specs.Prelude.{◌≡◌, ℕ, ◌+◌, ◌==◌, nat_lt, if◌then◌else◌, List, [], ◌∷◌, ◌++◌}
-use Rattle.std.specs.Prelude.{codes, drop, length, option_map, take, Option, Some, None}
+use Rattle.std.specs.Prelude.{Bool, true, codes, drop, is_some, length, option_map, take, Option, Some, None}
 use Rattle.std.specs.Prelude.{Result, Ok, Err}
 use Rattle.std.specs.Borrow.{Bor}
 use Rattle.std.specs.Str.{bytes_eq}
@@ -24,8 +24,8 @@ use Rattle.lin_tool.specs.declared.fault_text.OneFault.{OneFault}
 use Rattle.lin_tool.specs.declared.fault_text.OneFault.TheVariants as one
 
 -- the highest number of a slot that a fault names
-abbrev pub last_slot : ℕ
-last_slot = 999999
+abbrev pub highest_slot : ℕ
+highest_slot = 999999
 
 -- a text before and after the first byte that is this one, if there is one
 abbrev pub around : ℕ → List ℕ → Option (List ℕ × List ℕ)
@@ -48,7 +48,7 @@ abbrev pub around_dots : List ℕ → Option (List ℕ × List ℕ)
 around_dots text = behind_dot (around 46 text)
 
 abbrev pub slot_number : List ℕ → Result ℕ Reason
-slot_number f = number_up_to last_slot f
+slot_number f = number_up_to highest_slot f
 
 -- `SLOT`, `SLOT..`, or `FIRST..LAST`
 abbrev pub end_of : List ℕ → ℕ → List ℕ → Result (ℕ × Option ℕ) Reason
@@ -57,12 +57,12 @@ end_of text first f =
     else slot_number f
     >>= (λ last. if nat_lt last first then Err (NoRange text) else Ok (first, Some last))
 
-abbrev pub range_of : List ℕ → List ℕ → List ℕ → Result (ℕ × Option ℕ) Reason
-range_of text first last = slot_number first >>= (λ n. end_of text n last)
+abbrev pub slots_between : List ℕ → List ℕ → List ℕ → Result (ℕ × Option ℕ) Reason
+slots_between text first last = slot_number first >>= (λ n. end_of text n last)
 
 abbrev pub slots_of : List ℕ → Option (List ℕ × List ℕ) → Result (ℕ × Option ℕ) Reason
 slots_of text None = slot_number text >>= (λ n. Ok (n, Some n))
-slots_of text (Some (first, last)) = range_of text first last
+slots_of text (Some (first, last)) = slots_between text first last
 
 abbrev pub read_slots : List ℕ → Result (ℕ × Option ℕ) Reason
 read_slots text = slots_of text (around_dots text)
@@ -84,16 +84,20 @@ absence c slots name =
 
 abbrev pub absence_of : Parts → List ℕ → Option (List ℕ) → Result SlotFault FaultReason
 absence_of c slots None = Err Form
-absence_of c slots (Some name) = as_field (absence c slots name)
+absence_of c slots (Some name) = if length name == 0 then Err Form else as_field (absence c slots name)
 
 abbrev pub of_kind : Parts → List ℕ → List ℕ → Result SlotFault FaultReason
 of_kind c slots kind =
     if bytes_eq kind (codes "damage") then as_field (damage slots)
     else absence_of c slots (after (codes "absent:") kind)
 
+-- slots without a first one
+abbrev pub lacks_slot : List ℕ → Bool
+lacks_slot slots = if length slots == 0 then true else is_some (after (codes ".") slots)
+
 abbrev pub of_parts : Parts → Option (List ℕ × List ℕ) → Result SlotFault FaultReason
 of_parts c None = Err Form
-of_parts c (Some (slots, kind)) = of_kind c slots kind
+of_parts c (Some (slots, kind)) = if lacks_slot slots then Err Form else of_kind c slots kind
 
 abbrev pub read_fault : Parts → List ℕ → Result SlotFault FaultReason
 read_fault c text = of_parts c (around 58 text)
@@ -124,14 +128,14 @@ abbrev pub faults_left : Option (Bor (List ℕ)) → List (List ℕ)
 faults_left None = []
 faults_left (Some text) = slice_split (λ b. b == 43) text.now
 
-abbrev pub left_length : Option (Bor (List ℕ)) → ℕ
-left_length None = 0
-left_length (Some text) = length text.now + 1
+abbrev pub length_left : Option (Bor (List ℕ)) → ℕ
+length_left None = 0
+length_left (Some text) = length text.now + 1
 
 -- why a line isn't valid or isn't read
-abbrev pub of_line : LineFault → OneFault
-of_line (line.Bad why) = one.Bad (Field why)
-of_line line.OutOfMemory = one.OutOfMemory
+abbrev pub of_line_fault : LineFault → OneFault
+of_line_fault (line.Bad why) = one.Bad (Field why)
+of_line_fault line.OutOfMemory = one.OutOfMemory
 
 -- what reading a fault answers
 abbrev pub ReadsFault : Parts → List ℕ → Result SlotFault OneFault → Type 0

@@ -7,8 +7,8 @@ ghost use Rattle.lin_text.specs.Written.{Grows, WritesText};
 ghost use Rattle.lin_bench.specs.Fields.{present_node};
 ghost use Rattle.lin_bench.specs.Read.{Gives};
 ghost use Rattle.lin_tool.specs.FaultText.{ReadsFault, ReadsFaults, ReadsNamed, absence, after, around};
-ghost use Rattle.lin_tool.specs.FaultText.{around_dots, bad_fault_text, damage, faults_left, left_length};
-ghost use Rattle.lin_tool.specs.FaultText.{of_line, range_of, read_slots, reason_line, slot_number};
+ghost use Rattle.lin_tool.specs.FaultText.{around_dots, bad_fault_text, damage, faults_left, lacks_slot, length_left};
+ghost use Rattle.lin_tool.specs.FaultText.{of_line_fault, slots_between, read_slots, reason_line, slot_number};
 
 use lin_bench::{FaultKind, LineFault, Reason, SlotFault, put_reason};
 use lin_log::{Reason as StepReason, node_field, number_field};
@@ -23,7 +23,7 @@ const LAST_SLOT: u32 = 999_999;
 /// Why a fault isn't valid.
 #[derive(Debug, Drop)]
 pub(crate) enum FaultReason {
-    /// What follows its first `:` is neither `damage` nor `absent:NODE`.
+    /// It has no slot, or what follows its first `:` is neither `damage` nor `absent:NODE`.
     Form,
     /// Its slots, or its node.
     Field(Reason),
@@ -51,7 +51,7 @@ enum OneFault {
 }
 
 impl From<LineFault> for OneFault {
-    ghost from_gives = { λ fault e. e ≡ of_line fault };
+    ghost from_gives = { λ fault e. e ≡ of_line_fault fault };
 
     fn from(fault: LineFault) -> OneFault {
         match fault {
@@ -108,7 +108,7 @@ fn range(
     first: &[u8],
     last: &[u8],
 ) -> Result<(u32, Option<u32>), LineFault>
-    ensures { Gives (λ slots. slots) result (range_of text.now first.now last.now) }
+    ensures { Gives (λ slots. slots) result (slots_between text.now first.now last.now) }
 {
     let from = slot_number(alloc, first)?;
     if last.is_empty() {
@@ -175,6 +175,13 @@ fn absence(
     })
 }
 
+/// Returns whether the slots of a fault have no first one.
+fn lacks_slot(range: &[u8]) -> bool
+    ensures { result ≡ lacks_slot range.now }
+{
+    range.is_empty() || after(range, b".").is_some()
+}
+
 /// Reads a fault: first the word that names its kind, then its slots, then its node.
 fn fault(alloc: Global, cluster: &Cluster, text: &[u8]) -> Result<SlotFault, OneFault>
     ensures { ReadsFault cluster.now text.now result }
@@ -182,13 +189,19 @@ fn fault(alloc: Global, cluster: &Cluster, text: &[u8]) -> Result<SlotFault, One
     let Some((range, kind)) = around(text, b':') else {
         return Err(OneFault::Bad(FaultReason::Form));
     };
+    if lacks_slot(range) {
+        return Err(OneFault::Bad(FaultReason::Form));
+    }
     if kind == b"damage".as_slice() {
         return Ok(damage(alloc, range)?);
     }
-    match after(kind, b"absent:") {
-        Some(name) => Ok(absence(alloc, cluster, range, name)?),
-        None => Err(OneFault::Bad(FaultReason::Form)),
+    let Some(name) = after(kind, b"absent:") else {
+        return Err(OneFault::Bad(FaultReason::Form));
+    };
+    if name.is_empty() {
+        return Err(OneFault::Bad(FaultReason::Form));
     }
+    Ok(absence(alloc, cluster, range, name)?)
 }
 
 /// Reads a fault, which is named if it isn't valid.
@@ -213,7 +226,7 @@ fn named_fault<'a>(
 fn first_fault(text: &[u8]) -> (&[u8], Option<&[u8]>)
     ensures faults { slice_split (λ b. b == 43) text.now
         ≡ result.0.now ∷ faults_left result.1 }
-    ensures shorter { left_length result.1 ≤ length text.now }
+    ensures shorter { length_left result.1 ≤ length text.now }
 {
     match around(text, b'+') {
         Some((first, rest)) => (first, Some(rest)),

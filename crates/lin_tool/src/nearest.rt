@@ -1,6 +1,7 @@
 //! `--explain` of a bad line of a bench script: the line, and the names that there are.
 
 use crate::explaining::{put_line, put_shown};
+use crate::fault_text::FaultReason;
 use lin_bench::Reason;
 use lin_core::{Listed, Refusal};
 use lin_log::Reason as StepReason;
@@ -50,6 +51,11 @@ const FORMS: &str =
 const HOLDING: &str =
     "signal NODE SIGNAL VALUE (LOW..HIGH, = TEXT), waiting NODE K, seen silent (none, good, damaged, \
                        collided), frame NAME (PATTERN), slot TABLE ENTRY, table TABLE, asleep, awake";
+
+/// The forms of faults.
+const FAULTS: &str =
+    "SLOT:damage, SLOT:absent:NODE, FIRST..LAST in place of SLOT for slots, or FIRST.. to the end; \
+                      + between several";
 
 /// The beginning of a name.
 fn beginning(name: &[u8]) -> &[u8] {
@@ -160,6 +166,27 @@ fn put_words(alloc: Global, out: &mut String, read: &[u8]) -> Result<(), AllocEr
         names.push(word.as_bytes())?;
     }
     put_nearest(alloc, out, "words", names.as_slice(), read)
+}
+
+/// The name that no node has, if that is the reason.
+fn unknown_node(reason: &FaultReason) -> Option<&[u8]> {
+    let FaultReason::Field(Reason::Step(StepReason::NoNode(name))) = reason else {
+        return None;
+    };
+    Some(name.as_slice())
+}
+
+/// Puts the forms of a fault that isn't valid, or if it has a name that no node has, those of the nodes.
+pub(crate) fn put_fault_form(
+    alloc: Global,
+    out: &mut String,
+    cluster: &Cluster,
+    reason: &FaultReason,
+) -> Result<(), AllocError> {
+    match unknown_node(reason) {
+        Some(name) => put_nodes(alloc, out, cluster, name),
+        None => writeln!(out, "  valid faults: {FAULTS}"),
+    }
 }
 
 /// Puts a bad line of a bench script, and where it has a name that there isn't, those that there

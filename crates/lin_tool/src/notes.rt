@@ -13,12 +13,13 @@ use crate::explaining::{
 };
 use crate::fault::{Fault, exit_status};
 use crate::fault_lines::{put_fault, write_fault};
+use crate::fault_text::FaultReason;
 use crate::field::is_read_otherwise;
 use crate::findings::put_reported_remarks;
 use crate::levels::Levels;
 use crate::locating::{problems_of_fault, problems_of_remarks, put_places};
 use crate::misspelled::count_if_similar;
-use crate::nearest::put_bad_bench_line;
+use crate::nearest::{put_bad_bench_line, put_fault_form};
 use lin_bench::Reason;
 use lin_core::Log;
 use lin_field::Remark;
@@ -392,6 +393,13 @@ impl<'a> Notes<'a> {
         if self.is_more_explained() {
             let put = put_bad_bench_line(alloc, &mut self.text, script, line, cluster, reason);
             self.is_cut |= put.is_err();
+        }
+    }
+
+    /// Adds the form of a fault, and names that there are, for one that isn't valid.
+    pub(crate) fn add_bad_fault(&mut self, alloc: Global, cluster: &Cluster, reason: &FaultReason) {
+        if self.is_more_explained() {
+            self.is_cut |= put_fault_form(alloc, &mut self.text, cluster, reason).is_err();
         }
     }
 
