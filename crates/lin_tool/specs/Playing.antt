@@ -1,6 +1,6 @@
 -- What the program's play answers.
-use Rattle.std.specs.Prelude.{◌≡◌, ◌≢◌, ◌⊎◌, ◌++◌, ℕ, ◌≤◌, Bool, true, false, if◌then◌else◌}
-use Rattle.std.specs.Prelude.{List, [], length, reverse, Option, Some, None, IfSome, Result, Ok, Err}
+use Rattle.std.specs.Prelude.{◌≡◌, ◌≢◌, ◌⊎◌, ◌++◌, ◌==◌, ℕ, ◌≤◌, Bool, true, false, not, if◌then◌else◌}
+use Rattle.std.specs.Prelude.{List, [], count_by, length, reverse, Option, Some, None, IfSome, Result, Ok, Err}
 use Rattle.std.specs.Borrow.{Bor}
 use Rattle.std.specs.Io.KnownBytes.{Appends, Keeps}
 use Rattle.lin_text.specs.Written.{WritesText}
@@ -25,7 +25,7 @@ use Rattle.lin_core.specs.Core.{CoreData}
 use Rattle.lin_core.specs.declared.log.LogEntry.{LogEntry}
 use Rattle.lin_text.specs.declared.fault.WriteFailed.{WriteFailed as Failed}
 use Rattle.lin_tool.specs.Replaying.{RefusesScript}
-use Rattle.lin_tool.specs.Tally.{tally_text}
+use Rattle.lin_tool.specs.Tally.{missed_faults, tally_text}
 use Rattle.lin_tool.specs.declared.fault.Fault.{Fault}
 use Rattle.lin_tool.specs.declared.fault.Fault.TheVariants.{BadBenchLine, BadFaults, SlotLimit, LogFull, Unmet}
 use Rattle.lin_tool.specs.declared.fault.Fault.TheVariants.{ScriptTooLong, OutOfMemory}
@@ -78,37 +78,52 @@ run_as format k is_physical named c opening capacity run =
 abbrev pub WritesTextOrPart : Option (List ℕ) → Option (List ℕ) → List ℕ → Type 0
 WritesTextOrPart silent heard text = (outcome : Result Unit Failed) × WritesText silent heard outcome text
 
--- what is told of the judgements of a play, with this log: a line for each that isn't met, and of a
--- strict play a line of numbers
-abbrev pub told_text : Option (Bor (List ℕ)) → Bool → Parts → List LogEntry → List Judgement → List ℕ
-told_text named strict c log js =
-    missed_text named c log js ++ (if strict then tally_text c log js else [])
+-- what is told of a play beside its judgements: how many of its faults changed no slot, if there are such,
+-- and of a strict one a line of numbers
+abbrev pub counts_text : Bool → ℕ → ℕ → Parts → List LogEntry → List Judgement → List ℕ
+counts_text strict faults missed c log js =
+    missed_faults faults missed ++ (if strict then tally_text c log js else [])
 
--- what is reported of the judgements of a script's play
+-- what is told of a play with this log: a line for each judgement that isn't met, and then counts
+abbrev pub told_text : Option (Bor (List ℕ)) → Bool → ℕ → ℕ → Parts → List LogEntry → List Judgement → List ℕ
+told_text named strict faults missed c log js =
+    missed_text named c log js ++ counts_text strict faults missed c log js
+
+-- what is told of a play of this script
 abbrev pub script_verdict : PlayedScript → CoreData → List Judgement → List ℕ
-script_verdict script core js = told_text script.name script.is_strict core.cluster core.log js
+script_verdict script core js =
+    told_text script.name script.is_strict script.faults script.missed core.cluster core.log js
 
--- What is written of a run: its log (this is the whole of it), and then to errors what is told of
--- its judgements, of which all are met where the answer is Ok; or writing the log stopped at some
--- place. (The log's own text takes no memory.)
-abbrev pub WritesPlayed : Format → List ℕ → List Judgement → List ℕ → Result Unit Fault
+-- A play fails where a judgement isn't met, or where it has faults and none of them changed a slot.
+abbrev pub fails : ℕ → ℕ → List Judgement → Bool
+fails faults missed js =
+    if some_unmet js then true else (if faults == 0 then false else missed == faults)
+
+-- how many faults of a run changed no slot
+abbrev pub missed_in : Run → ℕ
+missed_in run = count_by (λ f. not f.has_struck) run.bench.rules.faults
+
+-- What is written of a run: its log (this is the whole of it), and then to errors what is told of it, which
+-- didn't fail where the answer is Ok; or writing the log stopped at some place. (The log's own text takes no
+-- memory.)
+abbrev pub WritesPlayed : Format → List ℕ → Bool → List ℕ → Result Unit Fault
     → Option (List ℕ) → Option (List ℕ) → Option (List ℕ) → Option (List ℕ) → Type 0
-WritesPlayed format whole js text (Ok done) old new silent heard =
-    Appends old new whole × (some_unmet js ≡ false) × WritesTextOrPart silent heard text
-WritesPlayed format whole js text (Err (Unmet outcome)) old new silent heard =
-    Appends old new whole × (some_unmet js ≡ true) × WritesText silent heard outcome text
-WritesPlayed format whole js text (Err WriteFailed) old new silent heard =
+WritesPlayed format whole failed text (Ok done) old new silent heard =
+    Appends old new whole × (failed ≡ false) × WritesTextOrPart silent heard text
+WritesPlayed format whole failed text (Err (Unmet outcome)) old new silent heard =
+    Appends old new whole × (failed ≡ true) × WritesText silent heard outcome text
+WritesPlayed format whole failed text (Err WriteFailed) old new silent heard =
     Begins old new whole × Keeps silent heard
-WritesPlayed format whole js text (Err OutOfMemory) old new silent heard =
+WritesPlayed format whole failed text (Err OutOfMemory) old new silent heard =
     (format ≢ Log) × Begins old new whole × Keeps silent heard
-WritesPlayed format whole js text (Err _) old new silent heard = ⊥
+WritesPlayed format whole failed text (Err _) old new silent heard = ⊥
 
 -- What is written of a run: the log of its core as it is to be shown, and the judgements beside it
 abbrev pub WritesShown : Shown → CoreData → PlayedScript → Result Unit Fault → Option (List ℕ) → Option (List ℕ)
     → Option (List ℕ) → Option (List ℕ) → Type 0
 WritesShown s core script result old new silent heard =
-    WritesPlayed s.format (shown_log s core) s.judgements.now (script_verdict script core s.judgements.now) result old new
-    silent heard
+    WritesPlayed s.format (shown_log s core) (fails script.faults script.missed s.judgements.now)
+    (script_verdict script core s.judgements.now) result old new silent heard
 
 -- the lines of a bench script came to a run, and this was written of it
 abbrev pub WritesRunOf : List SlotFault → Format → Option CodedData → Bool → Option (Bor (List ℕ)) → Bool → Parts
@@ -116,13 +131,14 @@ abbrev pub WritesRunOf : List SlotFault → Format → Option CodedData → Bool
     → Option (List ℕ) → Option (List ℕ) → Type 0
 WritesRunOf fs format k shows named strict c opening capacity result told old new silent heard =
     (run : Run) × ComesTo fs strict k c opening capacity told (Ok run)
-    × WritesPlayed format (run_as format k shows named c opening capacity run) (judgements_with_meanings k run.judgements)
-    (told_text named strict c (reverse run.bench.past) (judgements_with_meanings k run.judgements)) result old new
-    silent heard
+    × WritesPlayed format (run_as format k shows named c opening capacity run)
+    (fails (length fs) (missed_in run) (judgements_with_meanings k run.judgements))
+    (told_text named strict (length fs) (missed_in run) c (reverse run.bench.past)
+    (judgements_with_meanings k run.judgements)) result old new silent heard
 
 -- What a play under faults answers in this format, what the writer took (from old to new), and what the writer
--- of errors took (from silent to heard). Of a log that was written, all judgements are met exactly
--- where the answer is Ok.
+-- of errors took (from silent to heard). Of a log that was written, the play didn't fail exactly where the
+-- answer is Ok.
 abbrev pub PlaysScriptUnder : List SlotFault → Format → Option CodedData → Bool → Option (Bor (List ℕ)) → Bool → Parts
     → ℕ → ℕ → Result Unit Fault → Option (List ℕ) → Option (List ℕ) → Option (List ℕ)
     → Option (List ℕ) → Option (List ℕ) → Type 0
@@ -159,20 +175,17 @@ PlaysScriptUnder fs format k shows named strict c opening capacity
     told old new silent heard
 PlaysScriptUnder fs format k shows named strict c opening capacity (Err _) told old new silent heard = ⊥
 
--- and without faults
-abbrev pub PlaysScript : Format → Option CodedData → Bool → Option (Bor (List ℕ)) → Bool → Parts
-    → ℕ → ℕ → Result Unit Fault → Option (List ℕ) → Option (List ℕ) → Option (List ℕ)
-    → Option (List ℕ) → Option (List ℕ) → Type 0
-PlaysScript format k shows named strict c opening capacity result told old new silent heard =
-    PlaysScriptUnder [] format k shows named strict c opening capacity result told old new silent
-    heard
-
 -- the same with what was opened
+abbrev pub PlaysOpenedUnder : List SlotFault → Opened → Option (Bor (List ℕ)) → Result Unit Fault → Option (List ℕ)
+    → Option (List ℕ) → Option (List ℕ) → Option (List ℕ) → Option (List ℕ) → Type 0
+PlaysOpenedUnder fs o named result told old new silent heard =
+    PlaysScriptUnder fs o.settings.format o.coded o.settings.is_physical named o.settings.is_strict o.cluster o.table
+    (room_for o.settings.capacity) result told old new silent heard
+
+-- and without faults
 abbrev pub PlaysOpened : Opened → Option (Bor (List ℕ)) → Result Unit Fault → Option (List ℕ) → Option (List ℕ)
     → Option (List ℕ) → Option (List ℕ) → Option (List ℕ) → Type 0
-PlaysOpened o named result told old new silent heard =
-    PlaysScript o.settings.format o.coded o.settings.is_physical named o.settings.is_strict o.cluster o.table
-    (room_for o.settings.capacity) result told old new silent heard
+PlaysOpened o named result told old new silent heard = PlaysOpenedUnder [] o named result told old new silent heard
 
 -- what is reported of the bad lines of a script, of which this is the first
 abbrev pub script_errors : PlayedScript → Opened → ℕ × Reason → List ℕ
@@ -216,10 +229,10 @@ abbrev pub ReadsScriptLines : {X : Type 0} → PlayedScript → Opened → (X �
 ReadsScriptLines script o view result silent heard =
     ReadsLines script.name o.cluster o.coded script.bytes.now view result silent heard
 
--- what judging these answers, of which this is told
-abbrev pub ReportsJudgements : Result Unit Fault → List Judgement → List ℕ
+-- what judging a play answers that failed or didn't, of which this is told
+abbrev pub ReportsJudgements : Result Unit Fault → Bool → List ℕ
     → Option (List ℕ) → Option (List ℕ) → Type 0
-ReportsJudgements (Ok done) js text silent heard = (some_unmet js ≡ false) × WritesTextOrPart silent heard text
-ReportsJudgements (Err (Unmet outcome)) js text silent heard =
-    (some_unmet js ≡ true) × WritesText silent heard outcome text
-ReportsJudgements (Err _) js text silent heard = ⊥
+ReportsJudgements (Ok done) failed text silent heard = (failed ≡ false) × WritesTextOrPart silent heard text
+ReportsJudgements (Err (Unmet outcome)) failed text silent heard =
+    (failed ≡ true) × WritesText silent heard outcome text
+ReportsJudgements (Err _) failed text silent heard = ⊥

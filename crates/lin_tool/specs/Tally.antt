@@ -1,5 +1,5 @@
 -- A play in numbers, as the last line of a strict one says them.
-use Rattle.std.specs.Prelude.{ℕ, List, ◌++◌, length, reverse, sum_by, codes}
+use Rattle.std.specs.Prelude.{ℕ, ◌==◌, if◌then◌else◌, List, [], ◌++◌, length, reverse, sum_by, codes}
 use Rattle.std.specs.List.{count_by}
 use Rattle.std.specs.Fmt.{decimal}
 use Rattle.lin_frame.specs.Words.{numbers}
@@ -30,3 +30,13 @@ tally_text c log js =
     ++ (count_with_word (count_by (λ (e : LogEntry). is_refusal e.reply) log) (codes " refused, ")
     ++ (count_with_word (events_so is_lost_event log) (codes " lost, ")
     ++ count_with_word (waiting_in c (reverse log)) (codes " waiting\n")))))))
+
+-- how many of the faults of a play changed no slot
+abbrev pub missed_line : ℕ → ℕ → List ℕ
+missed_line faults missed =
+    codes "faults: "
+    ++ (count_with_word missed (codes " of ") ++ count_with_word faults (codes " changed no slot\n"))
+
+-- the same, if there are such
+abbrev pub missed_faults : ℕ → ℕ → List ℕ
+missed_faults faults missed = if missed == 0 then [] else missed_line faults missed

@@ -5,11 +5,10 @@ ghost use Rattle.std.specs.Prelude.{◌≡◌, ◌≢◌, ◌≤◌, ◌<◌, []
 ghost use Rattle.std.specs.Io.KnownBytes.{Keeps};
 ghost use Rattle.lin_text.specs.Written.{WritesText};
 ghost use Rattle.lin_export.specs.WhereTold.{given_coding};
-ghost use Rattle.lin_tool.specs.Opening.{room_for};
 ghost use Rattle.lin_tool.specs.Placing.{missed_text};
 ghost use Rattle.lin_tool.specs.Playing.{judgements_with_meanings, coding_if_physical};
-ghost use Rattle.lin_tool.specs.Playing.{script_errors, script_verdict, told_text, PlaysOpened};
-ghost use Rattle.lin_tool.specs.Playing.{PlaysScriptUnder, ReadsScriptLines, ReportsJudgements, TakesFaults, TellsBad, WritesShown};
+ghost use Rattle.lin_tool.specs.Playing.{counts_text, fails, script_errors, script_verdict, PlaysOpened};
+ghost use Rattle.lin_tool.specs.Playing.{PlaysOpenedUnder, ReadsScriptLines, ReportsJudgements, TakesFaults, TellsBad, WritesShown};
 
 use crate::fault::Fault;
 use crate::fault_text::{FaultsFault, read_faults, write_bad_fault};
@@ -18,7 +17,7 @@ use crate::junit::write_error;
 use crate::notes::Notes;
 use crate::opening::{Opened, Settings, begin, within_limits};
 use crate::placing::{write_bad_lines, write_placed_unmet};
-use crate::tally::write_tally;
+use crate::tally::{write_missed_faults, write_tally};
 use lin_bench::{
     Judgement, PlayedUnder, ReadFault, Reason, ScriptLine, SlotFault, bad_lines, play_under, read,
     some_unmet, told_meanings, write_bad_line, write_unmet,
@@ -41,6 +40,10 @@ struct Script<'a> {
     name: Option<&'a str>,
     /// Whether the play is strict, as `lin_bench::play` says.
     is_strict: bool,
+    /// How many faults its steps are made under.
+    faults: usize,
+    /// How many of these changed no slot, as far as it was played.
+    missed: usize,
 }
 
 /// Writes to `errors` what is wrong with a bench script, of which this line is the first bad one:
@@ -125,56 +128,86 @@ fn tell_unmet<E: Write>(
     }
 }
 
-/// The same, and a last line where the play is strict.
+/// Writes how many of the script's faults changed no slot, if any, and a line of numbers if the play is
+/// strict.
 ///
 /// # Errors
 /// `WriteFailed`, where what was written is the beginning of the lines.
-fn tell<E: Write>(
+fn tell_counts<E: Write>(
     core: &Core,
-    named: Option<&str>,
-    is_strict: bool,
+    script: Script<'_>,
     judgements: &[Judgement],
     errors: &mut E,
 ) -> Result<(), WriteFailed>
     ensures { WritesText (E.contents errors.old) (E.contents errors.new) result
-        (told_text named.entry is_strict core.now.cluster core.now.log judgements.now) }
+        (counts_text script.entry.is_strict script.entry.faults script.entry.missed core.now.cluster core.now.log
+        judgements.now) }
 {
-    tell_unmet(core, named, judgements, errors)?;
-    if is_strict {
+    write_missed_faults(script.faults, script.missed, errors)?;
+    if script.is_strict {
         write_tally(core, judgements, errors)
     } else {
         Ok(())
     }
 }
 
-/// Writes to `errors` what is told of judgements.
+/// Writes what is told of a play: its judgements that aren't met, and counts.
 ///
 /// # Errors
-/// `Unmet` where one isn't met.
+/// `WriteFailed`, where what was written is the beginning of the lines.
+fn tell<E: Write>(
+    core: &Core,
+    script: Script<'_>,
+    judgements: &[Judgement],
+    errors: &mut E,
+) -> Result<(), WriteFailed>
+    ensures { WritesText (E.contents errors.old) (E.contents errors.new) result
+        (script_verdict script.entry core.now judgements.now) }
+{
+    tell_unmet(core, script.name, judgements, errors)?;
+    tell_counts(core, script, judgements, errors)
+}
+
+/// Whether a judgement isn't met, or the script has faults and none of them changed a slot.
+fn fails(script: Script<'_>, judgements: &[Judgement]) -> bool
+    ensures { result ≡ fails script.entry.faults script.entry.missed judgements.now }
+{
+    if some_unmet(judgements) {
+        true
+    } else if script.faults == 0 {
+        false
+    } else {
+        script.missed == script.faults
+    }
+}
+
+/// Writes to `errors` what is told of a play.
+///
+/// # Errors
+/// `Unmet` if it fails.
 fn judge<E: Write>(
     core: &Core,
     script: Script<'_>,
     judgements: &[Judgement],
     errors: &mut E,
 ) -> Result<(), Fault>
-    ensures { ReportsJudgements result judgements.now
+    ensures { ReportsJudgements result
+        (fails script.entry.faults script.entry.missed judgements.now)
         (script_verdict script.entry core.now judgements.now) (E.contents errors.old) (E.contents errors.new) }
 {
-    let told = tell(core, script.name, script.is_strict, judgements, errors);
-    if some_unmet(judgements) {
+    let told = tell(core, script, judgements, errors);
+    if fails(script, judgements) {
         Err(Fault::Unmet { told })
     } else {
         Ok(())
     }
 }
 
-/// Writes the log of a play as it is to be shown, and then to `errors` what is told of its
-/// judgements.
+/// Writes the log of a play as it is to be shown, and then to `errors` what is told of it.
 ///
 /// # Errors
 /// `WriteFailed`, and in a format other than the log's own text `OutOfMemory`, where what was
-/// written is the beginning of the whole; `Unmet` after all was written, where a judgement isn't
-/// met.
+/// written is the beginning of the whole; `Unmet` after all was written, as of `judge`.
 fn put_played<W: Write, E: Write>(
     alloc: Global,
     shown: &Shown<'_, '_>,
@@ -245,10 +278,11 @@ pub fn play_script<R: Read, W: Write, E: Write>(
     play_under_faults(alloc, opened, &[], reader, writer, errors, notes)
 }
 
-/// Plays a bench script as `play_script` does, where the steps of its lines are made under faults.
+/// Plays a bench script as `play_script` does, where the steps of its lines are made under faults. If some
+/// of these changed no slot, a line of `errors` says how many.
 ///
 /// # Errors
-/// As of `play_script`.
+/// As of `play_script`; `Unmet` also if there are faults, and none of them changed a slot.
 pub fn play_under_faults<R: Read, W: Write, E: Write>(
     alloc: Global,
     opened: Opened<'_>,
@@ -259,9 +293,7 @@ pub fn play_under_faults<R: Read, W: Write, E: Write>(
     notes: &mut Notes<'_>,
 ) -> Result<(), Fault>
     requires { opened.table < length opened.cluster.tables }
-    ensures { PlaysScriptUnder faults.now opened.entry.settings.format opened.entry.coded
-        opened.entry.settings.is_physical notes.old.wanted.script opened.entry.settings.is_strict
-        opened.entry.cluster opened.entry.table (room_for opened.entry.settings.capacity) result
+    ensures { PlaysOpenedUnder faults.now opened.entry notes.old.wanted.script result
         (R.remaining reader.old)
         (W.contents writer.old) (W.contents writer.new)
         (E.contents errors.old) (E.contents errors.new) }
@@ -271,6 +303,8 @@ pub fn play_under_faults<R: Read, W: Write, E: Write>(
         bytes: bytes.as_slice(),
         name: notes.wanted.script,
         is_strict: opened.settings.is_strict,
+        faults: faults.len(),
+        missed: 0,
     };
     let lines = bench_lines(alloc, &opened, script, errors, notes)?;
     let Opened {
@@ -283,6 +317,7 @@ pub fn play_under_faults<R: Read, W: Write, E: Write>(
     let PlayedUnder {
         core,
         judgements,
+        missed,
         limit,
         ..
     } = play_under(
@@ -310,15 +345,22 @@ pub fn play_under_faults<R: Read, W: Write, E: Write>(
         judgements: judgements.as_slice(),
         script: script.name,
     };
+    let script = Script { missed, ..script };
     let judged = put_played(alloc, &shown, &core, script, writer, errors);
     notes.add_refusals(core.log());
     mem::forget(core);
     judged
 }
 
-/// Writes the report of a script that wasn't played, where it is at fault or can't be read.
+/// Writes the report of a script that wasn't played, because of the LDF, the schedule table, the faults or
+/// the script.
 fn tell_unplayed<W: Write>(file: &str, fault: &Fault, writer: &mut W) -> Result<(), WriteFailed> {
     match fault {
+        Fault::Ldf(_) | Fault::Findings(_) | Fault::Remarks(_) | Fault::LdfTooLong => {
+            write_error(file, None, "bad LDF", writer)
+        }
+        Fault::NoSuchTable => write_error(file, None, "no such table", writer),
+        Fault::BadFaults { .. } => write_error(file, None, "bad fault", writer),
         Fault::BadBenchLine { line, told: _ } => write_error(file, Some(*line), "bad line", writer),
         Fault::SlotLimit { line } => write_error(file, Some(*line), "slot limit", writer),
         Fault::ScriptTooLong => write_error(file, None, "script too long", writer),
@@ -337,6 +379,7 @@ fn faults_of<E: Write>(
     cluster: &Cluster,
     faults: Option<&str>,
     errors: &mut E,
+    notes: &mut Notes<'_>,
 ) -> Result<Vec<SlotFault>, Fault>
     ensures { TakesFaults (λ v. v.items) cluster.now faults.entry result
         (E.contents errors.old) (E.contents errors.new) }
@@ -346,24 +389,25 @@ fn faults_of<E: Write>(
     };
     match read_faults(alloc, cluster, text.as_bytes()) {
         Ok(faults) => Ok(faults),
-        Err(FaultsFault::Bad(bad)) => Err(Fault::BadFaults {
-            told: write_bad_fault(&bad, errors),
-        }),
+        Err(FaultsFault::Bad(bad)) => {
+            notes.add_bad_fault(alloc, cluster, &bad.reason);
+            Err(Fault::BadFaults {
+                told: write_bad_fault(&bad, errors),
+            })
+        }
         Err(FaultsFault::OutOfMemory) => Err(Fault::OutOfMemory),
     }
 }
 
 /// Reads the bench script in the file at the path `script`, or without one that on standard input,
 /// plays it over the cluster of the settings, under faults if there are any, and writes the log on
-/// standard output in their format;
-/// where that is a report, one of a script that wasn't played has an error.
-/// Warnings of the LDF, and what is said of a bad line and of expectations that aren't met, go to
-/// `errors`.
+/// standard output in their format. Warnings of the LDF, and what is said of a bad line, of faults that changed
+/// no slot and of expectations that aren't met, go to `errors`.
 ///
 /// # Errors
 /// Those of `cluster_of_file`, `NoSuchTable` and `BadFaults`, after which nothing was written; those of
-/// `play_script`.
-pub fn play<R: AllocGlobal + Files + Input + Print, E: Write>(
+/// `play_under_faults`.
+fn play_file<R: AllocGlobal + Files + Input + Print, E: Write>(
     rt: &R,
     settings: &Settings<'_>,
     script: Option<&str>,
@@ -374,7 +418,7 @@ pub fn play<R: AllocGlobal + Files + Input + Print, E: Write>(
     let opened = begin(rt, settings, true, notes)?;
     notes.tell_warnings(errors);
     let (alloc, mut writer) = (rt.alloc(), io::writer(rt));
-    let faults = faults_of(alloc, &opened.cluster, faults, errors)?;
+    let faults = faults_of(alloc, &opened.cluster, faults, errors, notes)?;
     notes.begin_script();
     let answer = match script {
         None => play_under_faults(
@@ -400,8 +444,25 @@ pub fn play<R: AllocGlobal + Files + Input + Print, E: Write>(
         },
     };
     notes.add_unread(&answer, script);
+    answer
+}
+
+/// Plays a bench script as `play_file` does. If the format is a report, that of a script that wasn't played
+/// has an error.
+///
+/// # Errors
+/// As of `play_file`.
+pub fn play<R: AllocGlobal + Files + Input + Print, E: Write>(
+    rt: &R,
+    settings: &Settings<'_>,
+    script: Option<&str>,
+    faults: Option<&str>,
+    errors: &mut E,
+    notes: &mut Notes<'_>,
+) -> Result<(), Fault> {
+    let answer = play_file(rt, settings, script, faults, errors, notes);
     if let (Format::Junit(file), Err(fault)) = (settings.format, &answer) {
-        let _ = tell_unplayed(file, fault, &mut writer);
+        let _ = tell_unplayed(file, fault, &mut io::writer(rt));
     }
     answer
 }

@@ -6,7 +6,7 @@ ghost use Rattle.lin_bench.specs.declared.got.Judgement.{Judgement};
 ghost use Rattle.lin_bench.specs.Played.{is_unmet};
 ghost use Rattle.lin_core.specs.Core.{past_of};
 ghost use Rattle.lin_text.specs.Written.{Grows, WritesText};
-ghost use Rattle.lin_tool.specs.Tally.{count_with_word, tally_text, waiting_in};
+ghost use Rattle.lin_tool.specs.Tally.{count_with_word, missed_faults, missed_line, tally_text, waiting_in};
 
 use crate::page::summary::{messages_lost, slots_finished, steps_refused};
 use lin_bench::{Judgement, is_unmet};
@@ -71,5 +71,41 @@ pub(crate) fn write_tally<W: Write>(
     put_counted(&mut out, steps_refused(log) as u128, " refused, ");
     put_counted(&mut out, messages_lost(log), " lost, ");
     put_counted(&mut out, waiting_in(core), " waiting\n");
+    out.finish()
+}
+
+/// How many of the faults of a play changed no slot.
+fn put_missed_line<W: Write>(out: &mut TextWriter<'_, W>, faults: usize, missed: usize)
+    ensures { Grows W.contents out.old out.new (missed_line faults missed) }
+{
+    out.put_text("faults: ");
+    put_counted(out, missed as u128, " of ");
+    put_counted(out, faults as u128, " changed no slot\n");
+}
+
+/// The same, if there are such.
+fn put_missed_faults<W: Write>(out: &mut TextWriter<'_, W>, faults: usize, missed: usize)
+    ensures { Grows W.contents out.old out.new (missed_faults faults missed) }
+{
+    if missed != 0 {
+        put_missed_line(out, faults, missed);
+    }
+}
+
+/// Writes how many of the faults of a play changed no slot, if there are such.
+///
+/// # Errors
+/// `WriteFailed`, where what was written is the beginning of the line.
+pub(crate) fn write_missed_faults<W: Write>(
+    faults: usize,
+    missed: usize,
+    writer: &mut W,
+) -> Result<(), WriteFailed>
+    ensures { WritesText (W.contents writer.old) (W.contents writer.new) result
+        (missed_faults faults missed) }
+{
+    let mut buffer = TextBuffer::empty();
+    let mut out = TextWriter::new(writer, &mut buffer);
+    put_missed_faults(&mut out, faults, missed);
     out.finish()
 }

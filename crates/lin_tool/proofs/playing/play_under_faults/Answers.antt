@@ -12,7 +12,8 @@ returns g c =
     let room = c.within_limits-capacity.ensures.value in
     let read = rw c.as_slice.ensures.value at c.in_ok-lines.ensures.lines.0 in
     let said = says _ _ _ _ _ c.in_ok-bytes.ensures.0 c.in_ok-bytes.ensures.1 read in
-    let judged = rw c.as_slice-2.ensures at (rw made.log at (rw made.cluster at (rw room at c.put_played-judged.ensures))) in
+    let counted = rw made.missed at c.put_played-judged.ensures in
+    let judged = rw c.as_slice-2.ensures at (rw made.log at (rw made.cluster at (rw room at counted))) in
     let shown = rw c.as_ref-2.ensures.value at (rw c.shown.ensures at judged) in
     let written = rw c.as_ref.ensures.value at (rw c.in_ok-judgements.ensures at shown) in
     plays c.args.faults.now how.format opened.coded how.is_physical c.args.notes.now.wanted.script how.is_strict _ _ _ c.put_played-judged.result _ _ _ _ _ _ _ _ said
