@@ -4,14 +4,13 @@
 ghost use Rattle.std.specs.Prelude.{◌≡◌, ◌≤◌, ◌∷◌, ◌==◌, length, option_map};
 ghost use Rattle.std.specs.List.{slice_split};
 ghost use Rattle.lin_text.specs.Written.{Grows, WritesText};
-ghost use Rattle.lin_bench.specs.Fields.{present_node};
 ghost use Rattle.lin_bench.specs.Read.{Gives};
 ghost use Rattle.lin_tool.specs.FaultText.{ReadsFault, ReadsFaults, ReadsNamed, absence, after, around};
 ghost use Rattle.lin_tool.specs.FaultText.{around_dots, bad_fault_text, damage, faults_left, lacks_slot, length_left};
 ghost use Rattle.lin_tool.specs.FaultText.{of_line_fault, slots_between, read_slots, reason_line, slot_number};
 
-use lin_bench::{FaultKind, LineFault, Reason, SlotFault, put_reason};
-use lin_log::{Reason as StepReason, node_field, number_field};
+use lin_bench::{FaultKind, LineFault, Reason, SlotFault, present_node, put_reason};
+use lin_log::number_field;
 use lin_parts::Cluster;
 use lin_text::{Text, TextBuffer, TextWriter, WriteFailed};
 use std::alloc::Global;
@@ -134,17 +133,6 @@ fn slots(alloc: Global, text: &[u8]) -> Result<(u32, Option<u32>), LineFault>
     }
 }
 
-/// Reads the node of an absence, by its name or its number.
-fn node(alloc: Global, cluster: &Cluster, field: &[u8]) -> Result<u8, LineFault>
-    ensures { Gives (λ n. n) result (present_node cluster.now field.now) }
-{
-    let node = node_field(alloc, cluster, field)?;
-    if (node as usize) < cluster.nodes() {
-        return Ok(node);
-    }
-    Err(LineFault::Bad(Reason::Step(StepReason::NoNode(Text::copied(alloc, field)?))))
-}
-
 /// Reads the damage of responses.
 fn damage(alloc: Global, range: &[u8]) -> Result<SlotFault, LineFault>
     ensures { Gives (λ fault. fault) result (damage range.now) }
@@ -167,7 +155,7 @@ fn absence(
     ensures { Gives (λ fault. fault) result (absence cluster.now range.now name.now) }
 {
     let (first, last) = slots(alloc, range)?;
-    let node = node(alloc, cluster, name)?;
+    let node = present_node(alloc, cluster, name)?;
     Ok(SlotFault {
         first,
         last,
