@@ -21,3 +21,4 @@ pub mod LastSlots
 pub mod ListedLines
 pub mod Maps
 pub mod NumberedLines
+pub mod DifferenceLines

@@ -12,6 +12,7 @@ use lin_parts::Cluster;
 use lin_text::{TextBuffer, TextWriter, WriteFailed};
 use std::io::Write;
 
+mod differences;
 pub(crate) mod frames;
 mod maps;
 mod signals;
@@ -19,6 +20,7 @@ pub(crate) mod slot_times;
 mod timing;
 mod timings;
 
+pub use differences::{Classes, is_any_listed, table_loads, write_differences};
 pub use frames::write_frames;
 pub use maps::write_maps;
 pub use signals::write_signals;

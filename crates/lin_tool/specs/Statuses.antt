@@ -6,12 +6,12 @@ use Rattle.lin_tool.specs.declared.fault.Fault.TheVariants.{ScriptTooLong, NotHo
 use Rattle.lin_tool.specs.declared.fault.Fault.TheVariants.{OutOfMemory, ReadFailed, WriteFailed}
 use Rattle.lin_tool.specs.declared.fault.Fault.TheVariants.{TaskLimit, NoThread, LogFull}
 use Rattle.lin_tool.specs.declared.fault.Fault.TheVariants.{LogDiffers, BadBenchLine, SlotLimit}
-use Rattle.lin_tool.specs.declared.fault.Fault.TheVariants.{BadLines, Unmet, Remarks}
+use Rattle.lin_tool.specs.declared.fault.Fault.TheVariants.{BadLines, Differs, Unmet, Remarks}
 use Rattle.lin_tool.specs.declared.fault.Fault.TheVariants.{BadFaults}
 
 -- 1 for a fault of the input, 3 for lack of memory, 4 where standard input, a file or standard
--- output failed, 5 where a run met a limit, 6 where a log isn't the text of its own history or
--- expectations of a bench script aren't met
+-- output failed, 5 where a run met a limit, 6 where a log isn't the text of its own history, two LDFs
+-- differ or expectations of a bench script aren't met
 abbrev pub exit_status : Fault → ℕ
 exit_status (BadLine n) = 1
 exit_status (Ldf f) = 1
@@ -32,6 +32,7 @@ exit_status TaskLimit = 5
 exit_status NoThread = 5
 exit_status LogFull = 5
 exit_status (LogDiffers line) = 6
+exit_status Differs = 6
 exit_status (Unmet told) = 6
 
 -- the exit status of a run that ended so: 0 where it did all that was asked for

@@ -14,7 +14,7 @@ use Rattle.lin_tool.specs.declared.fault.Fault.TheVariants.{ScriptTooLong, NotHo
 use Rattle.lin_tool.specs.declared.fault.Fault.TheVariants.{OutOfMemory, ReadFailed, WriteFailed}
 use Rattle.lin_tool.specs.declared.fault.Fault.TheVariants.{TaskLimit, NoThread, LogFull}
 use Rattle.lin_tool.specs.declared.fault.Fault.TheVariants.{LogDiffers, SlotLimit, BadBenchLine}
-use Rattle.lin_tool.specs.declared.fault.Fault.TheVariants.{BadLines, Unmet, Remarks}
+use Rattle.lin_tool.specs.declared.fault.Fault.TheVariants.{BadLines, Differs, Unmet, Remarks}
 use Rattle.lin_tool.specs.declared.fault.Fault.TheVariants.{BadFaults}
 
 -- a line and a column
@@ -78,5 +78,6 @@ fault_text (LogDiffers n) = line (codes "log" ∷ decimal n ∷ codes "differs" 
 fault_text (SlotLimit n) = line (codes "script" ∷ decimal n ∷ codes "slot limit" ∷ [])
 fault_text (BadBenchLine n told) = []
 fault_text BadLines = []
+fault_text Differs = []
 fault_text (Unmet told) = []
 fault_text (BadFaults told) = []

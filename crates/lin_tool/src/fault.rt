@@ -64,6 +64,8 @@ pub enum Fault {
         line: u64,
         told: Result<(), WriteFailed>,
     },
+    /// Two LDFs differ, as the lines of their differences say.
+    Differs,
     /// Lines that were answered were bad, or made more than 1,000,000 slots, as their answers say.
     BadLines,
     /// By this line, counted from 1, a bench script makes more than 1,000,000 slots.
@@ -84,8 +86,8 @@ pub enum Fault {
 
 impl Fault {
     /// The exit status: 1 for a fault of the input, 3 where memory ran out, 4 for a failed read or
-    /// write, 5 where a run met a limit, 6 where a log isn't the text of its own history or
-    /// expectations of a bench script aren't met. (0 is for a run without a fault, and 2 for a
+    /// write, 5 where a run met a limit, 6 where a log isn't the text of its own history, two LDFs
+    /// differ or expectations of a bench script aren't met. (0 is for a run without a fault, and 2 for a
     /// wrong command line.)
     pub fn status(&self) -> u8
         ensures { result ≡ exit_status self.now }
@@ -106,7 +108,7 @@ impl Fault {
             Fault::OutOfMemory => 3,
             Fault::ReadFailed | Fault::WriteFailed => 4,
             Fault::TaskLimit | Fault::NoThread | Fault::LogFull => 5,
-            Fault::LogDiffers { .. } | Fault::Unmet { .. } => 6,
+            Fault::LogDiffers { .. } | Fault::Differs | Fault::Unmet { .. } => 6,
         }
     }
 }

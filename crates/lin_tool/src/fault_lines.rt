@@ -72,6 +72,7 @@ pub(crate) fn put_fault<W: Write>(out: &mut TextWriter<'_, W>, fault: &Fault)
         Fault::SlotLimit { line } => put_numbered(out, "script ", *line, " slot limit\n"),
         Fault::BadBenchLine { .. }
         | Fault::BadLines
+        | Fault::Differs
         | Fault::Unmet { .. }
         | Fault::BadFaults { .. } => {}
     }

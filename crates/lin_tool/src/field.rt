@@ -36,7 +36,7 @@ pub(crate) fn settled_of(alloc: Global, bytes: &mut [u8]) -> Result<Normalized, 
     }
 }
 
-fn check_settled(alloc: Global, settled: &Normalized) -> Result<Checked, Fault>
+pub(crate) fn check_settled(alloc: Global, settled: &Normalized) -> Result<Checked, Fault>
     ensures { ChecksField settled.now result }
 {
     match check_field(alloc, settled) {

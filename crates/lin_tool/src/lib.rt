@@ -15,6 +15,7 @@ mod checking;
 mod coding;
 mod comparing;
 mod describing;
+mod diffing;
 mod explaining;
 mod fault;
 mod fault_lines;
@@ -53,6 +54,7 @@ pub use describing::{
     BUILT_IN, Reading, cluster_of_file, cluster_of_input, cluster_of_reader, cluster_of_text,
     read_text,
 };
+pub use diffing::diff;
 pub use fault::{Fault, exit_status};
 pub use fault_lines::write_fault;
 pub use field::field_of_reader;
@@ -63,7 +65,7 @@ pub use law::{
     named_logs_say_the_same, page_data_are_inert, plain_texts_are_read, transcripts_are_logs,
 };
 pub use levels::{Levels, NumberRange};
-pub use lin_export::write_list;
+pub use lin_export::{Classes, write_list};
 pub use listing::{Lists, write_lists};
 pub use living::{answer_lines, bench_in_hand, live};
 pub use notes::{Notes, Wanted};

@@ -8,6 +8,8 @@ mod bench;
 #[cfg(test)]
 mod clusters;
 #[cfg(test)]
+mod differences;
+#[cfg(test)]
 mod export;
 #[cfg(test)]
 mod fakes;

@@ -54,3 +54,8 @@ pub mod UnmentionedSections
 pub mod UnusedEncodings
 pub mod WaysBack
 pub mod Wide
+pub mod MovedChains
+pub mod Found
+pub mod FactSteps
+pub mod Marked
+pub mod TextNumbers

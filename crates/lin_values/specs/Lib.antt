@@ -37,3 +37,10 @@ pub mod Raws
 pub mod Nearest
 pub mod Laws
 pub mod Units
+pub mod FactTexts
+pub mod Facts
+pub mod SortedTexts
+pub mod Numbering
+pub mod Lookups
+pub mod Differences
+pub mod Moved

@@ -80,7 +80,7 @@ pub struct NodeAttributes<'a> {
 }
 
 /// Returns the attribute that begins with the next token.
-fn attribute_here<'a>(parser: &Parser<'a>) -> Attribute<'a>
+pub(crate) fn attribute_here<'a>(parser: &Parser<'a>) -> Attribute<'a>
     requires { has_front parser.now ≡ true }
     ensures { result ≡ parser.now }
 {

@@ -24,7 +24,7 @@ use lin_text::Text;
 use std::alloc::{AllocError, Global};
 
 /// Returns what was read, or `None` if it wasn't in its form.
-fn if_read<T: Drop>(read: Result<T, LdfFault>) -> Result<Option<T>, AllocError>
+pub(crate) fn if_read<T: Drop>(read: Result<T, LdfFault>) -> Result<Option<T>, AllocError>
     ensures { (form : _) (left : _) → Gives read left form
         → IfOk result (λ found. found ≡ option_map (λ r. r.0) form) }
 {

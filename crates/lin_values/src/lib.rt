@@ -21,6 +21,7 @@ mod configurable_lists;
 mod configuring;
 mod decimal_limits;
 mod decimals;
+mod diff;
 mod encoding;
 mod frame_times;
 mod grammar;
@@ -55,6 +56,10 @@ pub use configurable_lists::read_configurables;
 pub use configuring::configure;
 pub use decimal_limits::{Coefficient, PhysicalValue};
 pub use decimals::{Decimal, is_small, physical, put_decimal, units};
+pub use diff::{
+    Bits, Class, ComparedLdf, Difference, EntryFact, Fact, FactText, Kind, TableLoad, Thing,
+    compared_things, differences,
+};
 pub use encoding::{Coding, Encoding, Range, Traits};
 pub use law::shown_is_read;
 pub use meaning::{Meaning, put_meaning, put_plain, shown};

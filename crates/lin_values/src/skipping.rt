@@ -17,7 +17,7 @@ pub(crate) fn has_line(parser: &Parser<'_>) -> bool
 }
 
 /// How many braces are open after a token.
-fn depth_behind(depth: usize, kind: TokenKind) -> usize
+pub(crate) fn depth_behind(depth: usize, kind: TokenKind) -> usize
     requires { depth + 1 < 2 ^ 64 }
     ensures depth { result ≡ brace_depth depth kind }
     ensures one_more { result ≤ depth + 1 }

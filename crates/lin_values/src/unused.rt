@@ -59,7 +59,7 @@ fn add_line<'n>(
 }
 
 /// The numbers of the encodings that lines give to names.
-fn named_signals<'n>(
+pub(crate) fn named_signals<'n>(
     alloc: Global,
     types: &[CodingType],
     lines: &'n [CodedLine],

@@ -2,12 +2,13 @@
 
 use clap::{Arg, ArgAction, ArgMatches, Command, value_parser};
 use lin_tool::{
-    BadKinds, Encodings, Extras, Format, Levels, Lists, Reading, Settings, Wanted, read_levels,
+    BadKinds, Classes, Encodings, Extras, Format, Levels, Lists, Reading, Settings, Wanted,
+    read_levels,
 };
 use std::alloc::{AllocError, Global};
 
 const STATUS_NOTE: &str =
-    "Exit status: 0 success; 1 invalid input; 2 invalid command line; 3 out of memory; 4 read or write error;\n5 a limit of the run was reached; 6 an expectation failed (play, live), the log differs (replay --same)\nor a denied warning is reported (check --deny).\nEach error is one line on standard error. With --explain, more lines explain it.";
+    "Exit status: 0 success; 1 invalid input; 2 invalid command line; 3 out of memory; 4 read or write error;\n5 a limit of the run was reached; 6 an expectation failed (play, live), the log differs (replay --same),\nthe LDF files differ (diff) or a denied warning is reported (check --deny).\nEach error is one line on standard error. With --explain, more lines explain it.";
 
 const REPLAY_NOTE: &str =
     "The script is read from standard input. A log is a script too, so this command also converts logs.\n\nThe built-in cluster has the commander cem, the responder door (NAD 1) and the schedule table diag, with a master\nrequest and a slave response of 10 ms each.\n\nExample: linsim replay door.ldf --to csv < door.script > door.csv";
@@ -23,6 +24,9 @@ const LIVE_NOTE: &str =
 
 const CHECK_NOTE: &str =
     "Standard output has one line per item: node NUMBER NAME NAD (- for none), signal NUMBER NAME, and\ntable NUMBER NAME ENTRIES.\n\nStandard error has one line per problem. A syntax error is ldf LINE:COLUMN fault NUMBER NAME; only the first is\nreported. An error in the description is LINE:COLUMN finding NUMBER NAME. A warning of --field, --physical, --lint\nor --configuration is LINE:COLUMN warning NUMBER NAME, and doesn't change the exit status without --deny. A file of\nmore than 4,194,304 bytes is ldf too long.\n\nKINDS is one or more of these, with commas between them: all, a number, FROM-TO, the name of a warning. A warning\nthat is allowed isn't reported, even if it is denied too.\n\nExample: linsim check door.ldf --lint --deny all --allow 54,OffTimeBase";
+
+const DIFF_NOTE: &str =
+    "Each line is CLASS OLDPLACE NEWPLACE SUBJECT: OLDVALUE -> NEWVALUE. A place is FILE:LINE:COLUMN, or - for none. The\nvalue - is none. OLD is checked first; only the first file with errors is reported. The exit status is 6 if there is\na line.\n\nClasses:\n  bytes       a node made for OLD may misread, miss or not answer something\n  timing      the same bytes at other times\n  meaning     the same bytes at the same times mean something else\n  compatible  additions that no node of OLD looks at\n  names       names, versions and notes\n\nExample: linsim diff old.ldf new.ldf --only bytes,timing";
 
 fn file<'a>(alloc: Global, help: &'a str) -> Arg<'a> {
     Arg::new(alloc, "file").value_name("FILE").help(help)
@@ -161,6 +165,11 @@ fn field<'a>(alloc: Global) -> Arg<'a> {
     flag(alloc, "field", help)
 }
 
+fn compared_field<'a>(alloc: Global) -> Arg<'a> {
+    let help = "Accept LIN 1.3, 2.0, J2602, ISO 17987 and old editors' LDF files";
+    flag(alloc, "field", help)
+}
+
 fn plain<'a>(alloc: Global) -> Result<Arg<'a>, AllocError> {
     let help = "Write the LDF as LIN 2.2A text instead of the list (needs --field)";
     flag(alloc, "plain", help)
@@ -220,6 +229,32 @@ fn listed_signals<'a>(alloc: Global) -> Result<Arg<'a>, AllocError> {
     flag(alloc, "signals", help).requires_arg("physical")
 }
 
+fn old_file<'a>(alloc: Global) -> Arg<'a> {
+    Arg::new(alloc, "old")
+        .value_name("OLD")
+        .help("The old LDF file, or - for standard input")
+        .required(true)
+}
+
+fn new_file<'a>(alloc: Global) -> Arg<'a> {
+    Arg::new(alloc, "new")
+        .value_name("NEW")
+        .help("The new LDF file, or - for standard input")
+        .required(true)
+}
+
+/// The classes of `--only` of `diff`.
+static CLASSES: [&str; 5] = ["bytes", "timing", "meaning", "compatible", "names"];
+
+fn only<'a>(alloc: Global) -> Arg<'a> {
+    Arg::new(alloc, "only")
+        .long("only")
+        .value_name("CLASSES")
+        .value_delimiter(',')
+        .value_parser(CLASSES.as_slice())
+        .help("List only differences of these classes, with commas between them")
+}
+
 fn slots<'a>(alloc: Global) -> Arg<'a> {
     Arg::new(alloc, "slots")
         .long("slots")
@@ -265,6 +300,16 @@ fn check<'a>(alloc: Global) -> Result<Command<'a>, AllocError> {
         .arg(allowed(alloc))?
         .arg(places(alloc))?
         .arg(explained_file(alloc))
+}
+
+fn diff<'a>(alloc: Global) -> Result<Command<'a>, AllocError> {
+    Command::new(alloc, "diff")
+        .about("Compare two LDF files and list their differences by what they mean on the bus")
+        .after_help(DIFF_NOTE)
+        .arg(old_file(alloc))?
+        .arg(new_file(alloc))?
+        .arg(compared_field(alloc))?
+        .arg(only(alloc))
 }
 
 fn run<'a>(alloc: Global) -> Result<Command<'a>, AllocError> {
@@ -329,6 +374,7 @@ fn command<'a>(alloc: Global) -> Result<Command<'a>, AllocError> {
         .after_help(STATUS_NOTE)
         .subcommand_required(true)
         .subcommand(check(alloc)?)?
+        .subcommand(diff(alloc)?)?
         .subcommand(live(alloc)?)?
         .subcommand(play(alloc)?)?
         .subcommand(replay(alloc)?)?
@@ -350,6 +396,8 @@ pub(crate) enum Invalid<'a> {
     Clap(clap::Error),
     /// A value that names kinds of warnings isn't valid.
     Kinds(BadKinds<'a>),
+    /// Both LDFs of `diff` are standard input.
+    TwoInputs,
 }
 
 /// The subcommand with its settings.
@@ -374,6 +422,13 @@ pub(crate) enum Request<'a> {
     },
     /// `linsim check FILE --field --plain [--deny KINDS] [--allow KINDS]`
     CheckPlain(&'a str),
+    /// `linsim diff [--field] [--only CLASSES] OLD NEW`
+    Diff {
+        old: &'a str,
+        new: &'a str,
+        reading: Reading,
+        classes: Classes,
+    },
     /// `linsim live FILE [--table T] [--capacity N] [--to log|named|jsonl] [--field] [--physical]
     /// [--configuration]`
     Live(Settings<'a>),
@@ -417,6 +472,9 @@ fn wanted_of<'a>(matches: &ArgMatches<'a>) -> Wanted<'a> {
     let Some((name, found)) = matches.subcommand() else {
         return Wanted::default();
     };
+    if name == "diff" {
+        return Wanted::default();
+    }
     let explained = found.get_flag("explain");
     match name {
         "check" if found.get_flag("where") => Wanted {
@@ -501,6 +559,26 @@ fn timing_of(found: &ArgMatches<'_>) -> Option<u16> {
     }
 }
 
+/// Whether a class of differences is listed.
+fn is_listed(only: Option<&[&str]>, class: &str) -> bool {
+    match only {
+        Some(only) => only.iter().any(|word| *word == class),
+        None => true,
+    }
+}
+
+/// Returns the classes of differences that are listed: `[--only]`.
+fn classes_of(found: &ArgMatches<'_>) -> Classes {
+    let only = found.get_strs("only");
+    Classes {
+        bytes: is_listed(only, "bytes"),
+        timing: is_listed(only, "timing"),
+        meaning: is_listed(only, "meaning"),
+        compatible: is_listed(only, "compatible"),
+        names: is_listed(only, "names"),
+    }
+}
+
 fn request_of<'a>(matches: &ArgMatches<'a>) -> Option<Request<'a>> {
     match matches.subcommand() {
         Some(("check", found)) if found.get_flag("plain") => {
@@ -522,6 +600,12 @@ fn request_of<'a>(matches: &ArgMatches<'a>) -> Option<Request<'a>> {
                 signals: found.get_flag("signals"),
             },
             timing: timing_of(found),
+        }),
+        Some(("diff", found)) => Some(Request::Diff {
+            old: found.get_str("old").unwrap_or(""),
+            new: found.get_str("new").unwrap_or(""),
+            reading: reading_of(found),
+            classes: classes_of(found),
         }),
         Some(("live", found)) => Some(Request::Live(settings_of(found))),
         Some(("play", found)) => Some(Request::Play {
@@ -559,7 +643,7 @@ fn levels_of<'a>(alloc: Global, matches: &ArgMatches<'a>) -> Result<Levels, Inva
 ///
 /// # Errors
 /// `Clap`: an invalid command line, a requested help or version text, or out of memory. `Kinds`, also
-/// if memory for the kinds runs out.
+/// if memory for the kinds runs out. `TwoInputs`.
 pub(crate) fn read_words<'a>(
     alloc: Global,
     words: &'a [String],
@@ -575,6 +659,14 @@ pub(crate) fn read_words<'a>(
     let Some(request) = request_of(&matches) else {
         return Ok(None);
     };
+    if let Request::Diff {
+        old: "-",
+        new: "-",
+        ..
+    } = request
+    {
+        return Err(Invalid::TwoInputs);
+    }
     Ok(Some(Asked {
         request,
         wanted: wanted_of(&matches),

@@ -27,13 +27,14 @@ struct Terminals {
 /// Does what is asked for; where standard error is watched, a run says there that it begins. A play
 /// says there what is wrong with its script.
 fn perform<
+    'a,
     R: AllocGlobal + Files + Input + Print + Eprint + Threads + Wait + Copy + Send + 'static,
     W: Write,
 >(
     rt: &R,
-    request: Request<'_>,
+    request: Request<'a>,
     is_watched: bool,
-    notes: &mut Notes<'_>,
+    notes: &mut Notes<'a>,
     errors: &mut W,
 ) -> Result<(), Fault> {
     match request {
@@ -50,6 +51,12 @@ fn perform<
             extras,
         } => lin_tool::check_object(rt, file, reading, extras, notes),
         Request::CheckPlain(file) => lin_tool::check_plain(rt, file, notes),
+        Request::Diff {
+            old,
+            new,
+            reading,
+            classes,
+        } => lin_tool::diff(rt, old, new, reading, classes, notes),
         Request::Live(settings) => lin_tool::live(rt, &settings, errors, notes),
         Request::Play {
             settings,
@@ -70,6 +77,7 @@ fn is_read(request: Request<'_>) -> bool {
         Request::Check { file, .. }
         | Request::CheckObject { file, .. }
         | Request::CheckPlain(file) => file == "-",
+        Request::Diff { old, new, .. } => old == "-" || new == "-",
         Request::Play { script, .. } => script.is_none(),
         Request::Live(_) | Request::Replay(_) | Request::Compare(_) | Request::Run { .. } => true,
     }
@@ -126,6 +134,12 @@ fn unknown_kinds<R: Eprint>(rt: &R, bad: BadKinds<'_>) -> Result<ExitCode, Fault
     Ok(ExitCode::from(COMMAND_LINE))
 }
 
+/// Prints that both LDFs of `diff` are standard input, and gives the exit status.
+fn two_inputs<R: Eprint>(rt: &R) -> ExitCode {
+    let _ = eprintln!(rt; "error: OLD and NEW are both standard input");
+    ExitCode::from(COMMAND_LINE)
+}
+
 /// The exit status where the words of the command line couldn't be read: for lack of memory, or
 /// since one isn't UTF-8.
 fn unread<R: Eprint>(rt: &R, error: &io::Error) -> Result<ExitCode, Fault> {
@@ -150,6 +164,7 @@ fn run<
         Ok(None) => Ok(ExitCode::SUCCESS),
         Err(Invalid::Clap(error)) => refused(rt, &error),
         Err(Invalid::Kinds(bad)) => unknown_kinds(rt, bad),
+        Err(Invalid::TwoInputs) => Ok(two_inputs(rt)),
     }
 }
 

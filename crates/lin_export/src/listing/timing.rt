@@ -49,7 +49,7 @@ fn slot_times(cluster: &Cluster, table: u16, entry: u16) -> (u64, u64)
 }
 
 /// The delay of the slot with the least slack in a table, and the time that it needs.
-fn tightest_slot(cluster: &Cluster, table: u16) -> (u64, u64)
+pub(super) fn tightest_slot(cluster: &Cluster, table: u16) -> (u64, u64)
     requires { table < length cluster.now.tables }
     ensures { result ≡ tightest_slot cluster.now table }
 {

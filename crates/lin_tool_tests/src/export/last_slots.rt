@@ -1,4 +1,4 @@
-//! The slot that ended last.
+//! The slot that ended last, in logs that grow.
 
 use crate::clusters::{expect_bytes, run};
 use crate::samples;
@@ -9,15 +9,16 @@ use std::alloc::Global;
 use std::process::Abort;
 use std::test::Fail;
 
-/// The last slot of a core's log as words and as a value.
+/// The last slot of a core's log as words and as a value, with what was found in a log before.
 fn expect_last(
     rt: &impl Abort,
     alloc: Global,
     core: &Core,
+    known: Option<LastSlot>,
     words: &[u8],
     value: &[u8],
-) -> Result<(), Fail> {
-    let last = LastSlot::find(alloc, core.cluster(), core.log(), None)?;
+) -> Result<Option<LastSlot>, Fail> {
+    let last = LastSlot::find(alloc, core.cluster(), core.log(), known)?;
     let mut text = Vec::new(alloc);
     let mut buffer = TextBuffer::empty();
     let mut out = TextWriter::new(&mut text, &mut buffer);
@@ -30,18 +31,19 @@ fn expect_last(
     put_last_slot_value(&mut out, core.cluster(), last.as_ref());
     out.finish()?;
     expect_bytes(rt, &object, value, "last slot", "value");
-    Ok(())
+    Ok(last)
 }
 
 #[test]
 fn the_last_slot_of_logs(rt: HostRuntime) -> Result<(), Fail> {
     let alloc = rt.alloc();
     let empty = run(alloc, samples::LIGHTS, b"")?;
-    expect_last(&rt, alloc, &empty, b" none", b"null")?;
+    let none = expect_last(&rt, alloc, &empty, None, b" none", b"null")?;
     let core = run(alloc, samples::LIGHTS, samples::KEYS_LOG)?;
     let words = b" 4 40000 Main 2 Light good 52D5";
     let value =
         b"{\"slot\":4,\"time_us\":40000,\"table\":\"Main\",\"entry\":2,\"frame\":\"Light\",\"seen\":\"good\",\"data\":\"52D5\"}";
-    expect_last(&rt, alloc, &core, words, value)?;
+    let found = expect_last(&rt, alloc, &core, none, words, value)?;
+    expect_last(&rt, alloc, &core, found, words, value)?;
     Ok(())
 }

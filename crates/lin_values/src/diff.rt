@@ -1,0 +1,66 @@
+//! What two LDFs say, compared: things with facts, and the differences between them.
+
+mod chain;
+mod compared;
+mod comparing;
+mod encodings;
+mod fact;
+mod fact_text;
+mod frames;
+mod header;
+mod index;
+mod new_names;
+mod nodes;
+mod numbering;
+mod renames;
+mod signals;
+mod sorted;
+mod tables;
+mod tokens;
+
+use crate::diff::compared::LdfFacts;
+use crate::diff::renames::Renames;
+pub use compared::{ComparedLdf, TableLoad};
+pub use comparing::{Difference, differences};
+pub use fact::{Bits, Class, EntryFact, Fact, Kind, Thing};
+pub use fact_text::FactText;
+use lin_text::Many;
+use std::alloc::{AllocError, Global};
+
+/// Returns the things of an LDF, of each kind in their order. `renames` has their new names.
+fn things_of<'a>(
+    alloc: Global,
+    facts: &LdfFacts<'a>,
+    renames: &Renames<'a>,
+) -> Result<Vec<Many<Thing<'a>>>, AllocError> {
+    let mut headers = Vec::new(alloc);
+    headers.push(header::thing(alloc, facts)?)?;
+    let mut kinds = Vec::new(alloc);
+    kinds.push(Many::new(headers))?;
+    kinds.push(Many::new(nodes::things(alloc, facts, renames)?))?;
+    kinds.push(Many::new(signals::things(alloc, facts, renames)?))?;
+    kinds.push(Many::new(frames::things(alloc, facts, renames)?))?;
+    kinds.push(Many::new(frames::sporadic_things(alloc, facts, renames)?))?;
+    kinds.push(Many::new(frames::event_things(alloc, facts, renames)?))?;
+    kinds.push(Many::new(tables::things(alloc, facts, renames)?))?;
+    kinds.push(Many::new(encodings::things(alloc, facts, renames)?))?;
+    Ok(kinds)
+}
+
+/// Returns the things of two LDFs, of each kind in their order. Things of the old LDF have the names that
+/// the new one has for them.
+///
+/// An error means out of memory.
+pub fn compared_things<'a>(
+    alloc: Global,
+    old: ComparedLdf<'a>,
+    new: ComparedLdf<'a>,
+) -> Result<(Vec<Many<Thing<'a>>>, Vec<Many<Thing<'a>>>), AllocError> {
+    let old = LdfFacts::new(alloc, old)?;
+    let new = LdfFacts::new(alloc, new)?;
+    let renames = Renames::find(alloc, &old, &new)?;
+    let olds = things_of(alloc, &old, &renames)?;
+    let none = Renames::none(alloc)?;
+    let news = things_of(alloc, &new, &none)?;
+    Ok((olds, news))
+}

@@ -1,0 +1,74 @@
+//! The LDFs that are compared.
+
+use crate::attribute_blocks::{Attribute, NodeAttributes, read_attributes};
+use crate::coded::NamedSignals;
+use crate::codings::Codings;
+use crate::diff::tokens::header_lines;
+use crate::mentioned::mentions;
+use crate::unused::named_signals;
+use lin_parts::Cluster;
+use lin_parts::description::Description;
+use lin_text::Many;
+use std::alloc::{AllocError, Global};
+
+/// The load of a schedule table.
+#[derive(Clone, Copy, Debug)]
+pub struct TableLoad {
+    /// The time of one round in microseconds.
+    pub cycle_us: u64,
+    /// The bus load in thousandths.
+    pub load: u64,
+    /// The delay of the slot with the least slack, in microseconds.
+    pub delay_us: u64,
+    /// The time that this slot needs, in microseconds.
+    pub needed_us: u64,
+}
+
+/// An LDF that describes a cluster.
+#[derive(Clone, Copy)]
+pub struct ComparedLdf<'a> {
+    /// The text of which the description was read.
+    pub source: &'a [u8],
+    pub description: &'a Description,
+    pub cluster: &'a Cluster,
+    pub codings: &'a Codings,
+    /// Of each schedule table.
+    pub loads: &'a [TableLoad],
+}
+
+/// An LDF, with what its text says besides the description.
+#[derive(Drop)]
+pub(crate) struct LdfFacts<'a> {
+    pub(crate) ldf: ComparedLdf<'a>,
+    /// The lines of its header.
+    pub(crate) lines: Vec<Attribute<'a>>,
+    /// The attributes of nodes.
+    pub(crate) blocks: Many<NodeAttributes<'a>>,
+    /// The encodings of signals.
+    pub(crate) codings: NamedSignals<'a>,
+}
+
+/// Reads the attributes of nodes. An LDF that doesn't mention their section is only searched for its word.
+fn attribute_blocks<'a>(
+    alloc: Global,
+    source: &'a [u8],
+) -> Result<Many<NodeAttributes<'a>>, AllocError> {
+    if mentions(source, b"Node_attributes") {
+        read_attributes(alloc, source)
+    } else {
+        Ok(Many::new(Vec::new(alloc)))
+    }
+}
+
+impl<'a> LdfFacts<'a> {
+    /// Reads what the text says besides the description.
+    pub(crate) fn new(alloc: Global, ldf: ComparedLdf<'a>) -> Result<LdfFacts<'a>, AllocError> {
+        let types = ldf.codings.types.as_slice();
+        Ok(LdfFacts {
+            ldf,
+            lines: header_lines(alloc, ldf.source)?,
+            blocks: attribute_blocks(alloc, ldf.source)?,
+            codings: named_signals(alloc, types, ldf.codings.lines.as_slice())?,
+        })
+    }
+}

@@ -1,0 +1,213 @@
+//! The things that have another name in the new LDF: their kinds in order, since the key of one has the
+//! new names of others.
+
+use crate::diff::compared::LdfFacts;
+use crate::diff::new_names::{Keyed, NameSet, NewNames};
+use crate::diff::{encodings, frames, nodes, signals, tables};
+use lin_cluster::Named;
+use std::alloc::{AllocError, Global};
+
+/// The names that the new LDF has for the things of the old one, of each kind. Frames of all kinds are
+/// together.
+#[derive(Drop)]
+pub(crate) struct Renames<'a> {
+    pub(crate) nodes: NewNames<'a>,
+    pub(crate) frames: NewNames<'a>,
+    pub(crate) signals: NewNames<'a>,
+    pub(crate) tables: NewNames<'a>,
+    pub(crate) encodings: NewNames<'a>,
+}
+
+/// Adds the new names of the things of a kind: of those with keys, and of the others, which stay.
+fn add_names<'a, T: Named>(
+    alloc: Global,
+    names: &mut NewNames<'a>,
+    all: &'a [T],
+    olds: &[Keyed<'a>],
+    news: &[Keyed<'a>],
+) -> Result<(), AllocError> {
+    names.add_renamed(alloc, olds, news)?;
+    names.add_all(all)
+}
+
+impl<'a> Renames<'a> {
+    /// Each name stays.
+    pub(crate) fn none(alloc: Global) -> Result<Renames<'a>, AllocError> {
+        Ok(Renames {
+            nodes: NewNames::new(alloc)?,
+            frames: NewNames::new(alloc)?,
+            signals: NewNames::new(alloc)?,
+            tables: NewNames::new(alloc)?,
+            encodings: NewNames::new(alloc)?,
+        })
+    }
+
+    /// Returns the new name of a node, or else of a frame, or else of a signal, or else the word.
+    pub(crate) fn any(&self, word: &'a [u8]) -> &'a [u8] {
+        if let Some(name) = self.nodes.get(word) {
+            return name;
+        }
+        if let Some(name) = self.frames.get(word) {
+            return name;
+        }
+        self.signals.of(word)
+    }
+
+    fn add_nodes(
+        &mut self,
+        alloc: Global,
+        old: &LdfFacts<'a>,
+        new: &LdfFacts<'a>,
+    ) -> Result<(), AllocError> {
+        let old_names = nodes::names(alloc, old)?;
+        let new_names = nodes::names(alloc, new)?;
+        let olds = nodes::keys(alloc, old, &new_names)?;
+        let news = nodes::keys(alloc, new, &old_names)?;
+        self.nodes
+            .add_renamed(alloc, olds.as_slice(), news.as_slice())?;
+        let description = old.ldf.description;
+        self.nodes.add(description.master().text.as_slice())?;
+        self.nodes.add_all(description.slaves())
+    }
+
+    fn add_frames(
+        &mut self,
+        alloc: Global,
+        old: &LdfFacts<'a>,
+        new: &LdfFacts<'a>,
+    ) -> Result<(), AllocError> {
+        let all = old.ldf.description.frames();
+        let old_names = NameSet::of(alloc, all)?;
+        let new_names = NameSet::of(alloc, new.ldf.description.frames())?;
+        let olds = frames::keys(alloc, old, &new_names)?;
+        let news = frames::keys(alloc, new, &old_names)?;
+        add_names(
+            alloc,
+            &mut self.frames,
+            all,
+            olds.as_slice(),
+            news.as_slice(),
+        )
+    }
+
+    fn add_events(
+        &mut self,
+        alloc: Global,
+        old: &LdfFacts<'a>,
+        new: &LdfFacts<'a>,
+    ) -> Result<(), AllocError> {
+        let all = old.ldf.description.events();
+        let old_names = NameSet::of(alloc, all)?;
+        let new_names = NameSet::of(alloc, new.ldf.description.events())?;
+        let olds = frames::event_keys(alloc, old, &new_names)?;
+        let news = frames::event_keys(alloc, new, &old_names)?;
+        add_names(
+            alloc,
+            &mut self.frames,
+            all,
+            olds.as_slice(),
+            news.as_slice(),
+        )
+    }
+
+    fn add_signals(
+        &mut self,
+        alloc: Global,
+        old: &LdfFacts<'a>,
+        new: &LdfFacts<'a>,
+        none: &Renames<'a>,
+    ) -> Result<(), AllocError> {
+        let all = old.ldf.description.signals();
+        let old_names = NameSet::of(alloc, all)?;
+        let new_names = NameSet::of(alloc, new.ldf.description.signals())?;
+        let olds = signals::keys(alloc, old, &new_names, self)?;
+        let news = signals::keys(alloc, new, &old_names, none)?;
+        add_names(
+            alloc,
+            &mut self.signals,
+            all,
+            olds.as_slice(),
+            news.as_slice(),
+        )
+    }
+
+    fn add_sporadics(
+        &mut self,
+        alloc: Global,
+        old: &LdfFacts<'a>,
+        new: &LdfFacts<'a>,
+        none: &Renames<'a>,
+    ) -> Result<(), AllocError> {
+        let all = old.ldf.description.sporadic();
+        let old_names = NameSet::of(alloc, all)?;
+        let new_names = NameSet::of(alloc, new.ldf.description.sporadic())?;
+        let olds = frames::sporadic_keys(alloc, old, &new_names, self)?;
+        let news = frames::sporadic_keys(alloc, new, &old_names, none)?;
+        add_names(
+            alloc,
+            &mut self.frames,
+            all,
+            olds.as_slice(),
+            news.as_slice(),
+        )
+    }
+
+    fn add_tables(
+        &mut self,
+        alloc: Global,
+        old: &LdfFacts<'a>,
+        new: &LdfFacts<'a>,
+        none: &Renames<'a>,
+    ) -> Result<(), AllocError> {
+        let all = old.ldf.description.tables();
+        let old_names = NameSet::of(alloc, all)?;
+        let new_names = NameSet::of(alloc, new.ldf.description.tables())?;
+        let olds = tables::keys(alloc, old, &new_names, self)?;
+        let news = tables::keys(alloc, new, &old_names, none)?;
+        add_names(
+            alloc,
+            &mut self.tables,
+            all,
+            olds.as_slice(),
+            news.as_slice(),
+        )
+    }
+
+    fn add_encodings(
+        &mut self,
+        alloc: Global,
+        old: &LdfFacts<'a>,
+        new: &LdfFacts<'a>,
+    ) -> Result<(), AllocError> {
+        let all = old.ldf.codings.types.as_slice();
+        let old_names = NameSet::of(alloc, all)?;
+        let new_names = NameSet::of(alloc, new.ldf.codings.types.as_slice())?;
+        let olds = encodings::keys(alloc, old, &new_names)?;
+        let news = encodings::keys(alloc, new, &old_names)?;
+        add_names(
+            alloc,
+            &mut self.encodings,
+            all,
+            olds.as_slice(),
+            news.as_slice(),
+        )
+    }
+
+    /// Finds the new names of all things.
+    pub(crate) fn find(
+        alloc: Global,
+        old: &LdfFacts<'a>,
+        new: &LdfFacts<'a>,
+    ) -> Result<Renames<'a>, AllocError> {
+        let none = Renames::none(alloc)?;
+        let mut renames = Renames::none(alloc)?;
+        renames.add_nodes(alloc, old, new)?;
+        renames.add_frames(alloc, old, new)?;
+        renames.add_events(alloc, old, new)?;
+        renames.add_signals(alloc, old, new, &none)?;
+        renames.add_sporadics(alloc, old, new, &none)?;
+        renames.add_tables(alloc, old, new, &none)?;
+        renames.add_encodings(alloc, old, new)?;
+        Ok(renames)
+    }
+}
