@@ -57,5 +57,6 @@ pub mod Wide
 pub mod MovedChains
 pub mod Found
 pub mod FactSteps
+pub mod NewNameSteps
 pub mod Marked
 pub mod TextNumbers

@@ -41,6 +41,7 @@ pub mod FactTexts
 pub mod Facts
 pub mod SortedTexts
 pub mod Numbering
+pub mod NewNames
 pub mod Lookups
 pub mod Differences
 pub mod Moved
