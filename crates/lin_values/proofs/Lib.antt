@@ -58,5 +58,13 @@ pub mod MovedChains
 pub mod Found
 pub mod FactSteps
 pub mod NewNameSteps
+pub mod RenamedKinds
 pub mod Marked
+pub mod TokenSteps
+pub mod FirstTypes
+pub mod Unattributed
+pub mod TableSteps
+pub mod HeaderLines
+pub mod PlacesOfSignals
 pub mod TextNumbers
+pub mod SignalEncodings

@@ -2,14 +2,16 @@
 use Rattle.std.proofs.Common.{◌≡◌, ◌∙◌, ◌+◌, ◌<◌, ℕ, Bool, true, false, cond, List, [], ◌∷◌, ◌++◌, length, map, take, get_or, Option, Some, None, option_map, refl, sym, ap, append-nil}
 use Rattle.std.specs.Prelude.{◌||◌, filter, find, is_some, option_and_then}
 use Rattle.std.specs.List.{list_any}
-use Rattle.std.specs.Option.{option_or}
+use Rattle.std.specs.Option.{option_map_or, option_or}
 use Rattle.std.specs.Str.{bytes_eq}
 use Rattle.std.proofs.lemmas.List.{map_more}
 use Rattle.std.proofs.lemmas.List.Elements.{filter-append}
 use Rattle.std.proofs.lemmas.List.Folds.{find-append}
+use Rattle.indexmap.specs.IndexMap.{index_map_len}
 use denote.Ref.{Bor}
 use Rattle.lin_cluster.proofs.NamesFound.{same-text}
-use Rattle.lin_values.specs.NewNames.{has_key, is_among, only_with, the_only, KeyedName}
+use Rattle.lin_values.specs.NewNames.{has_in, has_key, is_among, known_by, name_in, only_with, the_only, KeyedName}
+use Rattle.lin_values.specs.declared.diff.new_names.NewNames.{NewNames}
 
 -- ---- sets of names
 
@@ -19,7 +21,7 @@ some-or-there true (Some y) x = refl
 some-or-there false None x = refl
 some-or-there false (Some y) x = refl
 
-any-append : {X : Type 0} (p : X → Bool) (xs : List X) (x : X) → list_any p (xs ++ x ∷ []) ≡ (list_any p xs || p x)
+pub any-append : {X : Type 0} (p : X → Bool) (xs : List X) (x : X) → list_any p (xs ++ x ∷ []) ≡ (list_any p xs || p x)
 any-append p [] x = elim (p x) as (λ b. (b || false) ≡ b) [
   | true ↦ refl
   | false ↦ refl
@@ -95,6 +97,22 @@ pub put-there : (r : Option (List ℕ)) (has : List ℕ → Bool) (name new q : 
     → option_or r (cond (has q) (Some q) None) ≡ option_or (option_or r (cond (has q) (Some q) None)) (cond (bytes_eq name q) (Some new) None)
 put-there r has name new q there =
     there-by (bytes_eq name q) r (has q) q new (λ e. ap has (sym (same-text name q e)) ∙ there)
+
+-- ---- no new names
+
+no-items : {X : Type 0} (xs : List X) → length xs ≡ 0 → xs ≡ []
+no-items [] e = refl
+no-items (x ∷ xs) e = absurd cc
+
+own-if-kept : (b : Bool) (name : List ℕ) → name ≡ option_map_or (λ n. n) (cond b (Some name) None) name
+own-if-kept true name = refl
+own-if-kept false name = refl
+
+-- without new names, each name is its own
+pub own-if-none : (n : NewNames) (name : List ℕ) → index_map_len n.renamed ≡ 0 → name ≡ name_in (known_by n) name
+own-if-none n name none =
+    let empty : n.renamed.entries ≡ [] = no-items n.renamed.entries none in
+    rw empty (own-if-kept (has_in n.kept.map name) name)
 
 -- ---- keys
 

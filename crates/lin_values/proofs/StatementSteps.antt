@@ -75,7 +75,7 @@ same-statements (suc n) (suc m) ts p q =
       | false ↦ λ e. refl
     ] refl
 
-one-more : (ts : List Symbol) → has_line ts ≡ true → statements ts ≡ ts ∷ statements (behind_statement ts)
+pub one-more : (ts : List Symbol) → has_line ts ≡ true → statements ts ≡ ts ∷ statements (behind_statement ts)
 one-more [] h = absurd cc
 one-more (t ∷ ts) h =
     let lt : length (behind_statement (t ∷ ts)) < length (t ∷ ts) = statement-shorter (t ∷ ts) h in
@@ -83,7 +83,7 @@ one-more (t ∷ ts) h =
     same-statements (length ts) (length (behind_statement (t ∷ ts))) (behind_statement (t ∷ ts)) (omega arith) (omega arith) in
     rw h (ap (λ (xs : List (List Symbol)). (t ∷ ts) ∷ xs) same)
 
-none-left : (ts : List Symbol) → has_line ts ≡ false → statements ts ≡ []
+pub none-left : (ts : List Symbol) → has_line ts ≡ false → statements ts ≡ []
 none-left [] h = refl
 none-left (t ∷ ts) h = rw h refl
 

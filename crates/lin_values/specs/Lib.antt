@@ -42,6 +42,10 @@ pub mod Facts
 pub mod SortedTexts
 pub mod Numbering
 pub mod NewNames
+pub mod TokenTexts
+pub mod Things
+pub mod Renames
 pub mod Lookups
+pub mod SignalPlaces
 pub mod Differences
 pub mod Moved

@@ -1,5 +1,10 @@
 //! What two LDFs say, compared: things with facts, and the differences between them.
 
+ghost use Rattle.std.specs.Prelude.{◌≡◌, IfOk};
+ghost use Rattle.lin_values.specs.NewNames.{no_renames, renames_data};
+ghost use Rattle.lin_values.specs.Renames.{all_renames};
+ghost use Rattle.lin_values.specs.Things.{all_things, compared_data, AreRead};
+
 mod chain;
 mod compared;
 mod comparing;
@@ -32,7 +37,11 @@ fn things_of<'a>(
     alloc: Global,
     facts: &LdfFacts<'a>,
     renames: &Renames<'a>,
-) -> Result<Vec<Many<Thing<'a>>>, AllocError> {
+) -> Result<Vec<Many<Thing<'a>>>, AllocError>
+    requires { AreRead facts.now }
+    ensures { IfOk result (λ v. v.items
+        ≡ all_things (compared_data facts.now.ldf) (renames_data renames.now)) }
+{
     let mut headers = Vec::new(alloc);
     headers.push(header::thing(alloc, facts)?)?;
     let mut kinds = Vec::new(alloc);
@@ -55,7 +64,11 @@ pub fn compared_things<'a>(
     alloc: Global,
     old: ComparedLdf<'a>,
     new: ComparedLdf<'a>,
-) -> Result<(Vec<Many<Thing<'a>>>, Vec<Many<Thing<'a>>>), AllocError> {
+) -> Result<(Vec<Many<Thing<'a>>>, Vec<Many<Thing<'a>>>), AllocError>
+    ensures olds { IfOk result (λ r. r.0.items ≡ all_things (compared_data old.entry)
+        (all_renames (compared_data old.entry) (compared_data new.entry))) }
+    ensures news { IfOk result (λ r. r.1.items ≡ all_things (compared_data new.entry) no_renames) }
+{
     let old = LdfFacts::new(alloc, old)?;
     let new = LdfFacts::new(alloc, new)?;
     let renames = Renames::find(alloc, &old, &new)?;

@@ -1,5 +1,11 @@
 //! The LDFs that are compared.
 
+ghost use Rattle.std.specs.Prelude.{◌≡◌, IfOk};
+ghost use Rattle.lin_ldf.specs.Stream.{start_of};
+ghost use Rattle.lin_ldf.specs.Symbols.{symbols_in};
+ghost use Rattle.lin_values.specs.Attributes.{node_attributes};
+ghost use Rattle.lin_values.specs.Things.{AreRead};
+
 use crate::attribute_blocks::{Attribute, NodeAttributes, read_attributes};
 use crate::coded::NamedSignals;
 use crate::codings::Codings;
@@ -52,7 +58,10 @@ pub(crate) struct LdfFacts<'a> {
 fn attribute_blocks<'a>(
     alloc: Global,
     source: &'a [u8],
-) -> Result<Many<NodeAttributes<'a>>, AllocError> {
+) -> Result<Many<NodeAttributes<'a>>, AllocError>
+    ensures { IfOk result
+        (λ b. b ≡ node_attributes (symbols_in source.now (start_of source.now).tokens)) }
+{
     if mentions(source, b"Node_attributes") {
         read_attributes(alloc, source)
     } else {
@@ -62,7 +71,10 @@ fn attribute_blocks<'a>(
 
 impl<'a> LdfFacts<'a> {
     /// Reads what the text says besides the description.
-    pub(crate) fn new(alloc: Global, ldf: ComparedLdf<'a>) -> Result<LdfFacts<'a>, AllocError> {
+    pub(crate) fn new(alloc: Global, ldf: ComparedLdf<'a>) -> Result<LdfFacts<'a>, AllocError>
+        ensures read { IfOk result (λ f. AreRead f) }
+        ensures same { IfOk result (λ f. f.ldf ≡ ldf.entry) }
+    {
         let types = ldf.codings.types.as_slice();
         Ok(LdfFacts {
             ldf,

@@ -1,5 +1,14 @@
 //! The facts of encodings.
 
+ghost use Rattle.std.specs.Prelude.{◌≡◌, ◌++◌, ◌∷◌, ◌≤◌, [], IfOk, OnOk, fold, length, map, take};
+ghost use Rattle.lin_cluster.specs.Names.{NumbersFirst};
+ghost use Rattle.lin_values.specs.FactTexts.{with_word};
+ghost use Rattle.lin_values.specs.NewNames.{alone, has_in, keyed_name, renames_data};
+ghost use Rattle.lin_values.specs.Renames.{encoding_key, encoding_keys, with_item};
+ghost use Rattle.lin_values.specs.Shown.{decimal_shown};
+ghost use Rattle.lin_values.specs.Things.{compared_data, encoding_items, encoding_thing, first_type, first_types};
+ghost use Rattle.lin_values.specs.Things.{item_fact, item_key, item_value, physical_value, quoted_words};
+
 use crate::codings::{CodingType, Item};
 use crate::decimal_limits::Coefficient;
 use crate::decimals::put_decimal;
@@ -10,13 +19,16 @@ use crate::diff::new_names::{Keyed, NameSet};
 use crate::diff::nodes::place_of;
 use crate::diff::numbering::numbered;
 use crate::diff::renames::Renames;
-use lin_cluster::{number_by, numbers_of};
+use lin_cluster::{Numbers, number_by, numbers_of};
 use lin_parts::Location;
 use lin_text::{TextBuffer, TextWriter};
 use std::alloc::{AllocError, Global};
 
 /// Puts a text in quotes, if there is one.
-fn put_quoted(text: &mut Vec<u8>, shown: &[u8]) -> Result<(), AllocError> {
+#[tactic(auto, using(crate::proofs::FactSteps::word_goes_on))]
+fn put_quoted(text: &mut Vec<u8>, shown: &[u8]) -> Result<(), AllocError>
+    ensures { OnOk result (text.new.items ≡ fold with_word text.old.items (quoted_words shown.now)) }
+{
     if shown.is_empty() {
         return Ok(());
     }
@@ -31,7 +43,9 @@ fn put_coefficient(
     text: &mut Vec<u8>,
     buffer: &mut TextBuffer,
     coefficient: Coefficient,
-) -> Result<(), AllocError> {
+) -> Result<(), AllocError>
+    ensures { OnOk result (text.new.items ≡ text.old.items ++ decimal_shown coefficient) }
+{
     let mut out = TextWriter::new(text, buffer);
     put_decimal(&mut out, coefficient.decimal());
     match out.finish() {
@@ -41,7 +55,9 @@ fn put_coefficient(
 }
 
 /// Returns the key of an item.
-fn key_text<'a>(alloc: Global, item: &Item) -> Result<FactText<'a>, AllocError> {
+fn key_text<'a>(alloc: Global, item: &Item) -> Result<FactText<'a>, AllocError>
+    ensures { IfOk result (λ t. t ≡ item_key item.now) }
+{
     match item {
         Item::Logical { value, .. } => {
             let mut text = Vec::from_slice(alloc, b"logical ")?;
@@ -61,13 +77,16 @@ fn key_text<'a>(alloc: Global, item: &Item) -> Result<FactText<'a>, AllocError> 
 }
 
 /// Returns the value of a range: its scale, its offset, and its unit if it has one.
+#[tactic(auto, using(crate::proofs::FactSteps::word_goes_on))]
 fn physical_text<'a>(
     alloc: Global,
     buffer: &mut TextBuffer,
     scale: Coefficient,
     offset: Coefficient,
     unit: &[u8],
-) -> Result<FactText<'a>, AllocError> {
+) -> Result<FactText<'a>, AllocError>
+    ensures { IfOk result (λ t. t ≡ physical_value scale offset unit.now) }
+{
     let mut text = Vec::new(alloc);
     put_coefficient(&mut text, buffer, scale)?;
     put_word(&mut text, &[])?;
@@ -81,7 +100,9 @@ fn item_text<'a>(
     alloc: Global,
     buffer: &mut TextBuffer,
     item: &Item,
-) -> Result<FactText<'a>, AllocError> {
+) -> Result<FactText<'a>, AllocError>
+    ensures { IfOk result (λ t. t ≡ item_value item.now) }
+{
     match item {
         Item::Logical { text, .. } if text.as_slice().is_empty() => Ok(FactText::lent(b"-")),
         Item::Logical { text, .. } => {
@@ -105,7 +126,9 @@ fn item_fact<'a>(
     buffer: &mut TextBuffer,
     item: &Item,
     place: Location,
-) -> Result<Fact<'a>, AllocError> {
+) -> Result<Fact<'a>, AllocError>
+    ensures { IfOk result (λ f. f ≡ item_fact place item.now) }
+{
     let key = key_text(alloc, item)?;
     let value = item_text(alloc, buffer, item)?;
     Ok(Fact::new(key, value, place, Class::Meaning))
@@ -116,7 +139,9 @@ fn facts_of<'a>(
     alloc: Global,
     buffer: &mut TextBuffer,
     coding: &'a CodingType,
-) -> Result<Vec<Fact<'a>>, AllocError> {
+) -> Result<Vec<Fact<'a>>, AllocError>
+    ensures { IfOk result (λ v. v.items ≡ encoding_items coding.now) }
+{
     let place = place_of(&coding.name);
     let mut found = Vec::new(alloc);
     for one in coding.items.as_slice() {
@@ -131,24 +156,47 @@ fn thing<'a>(
     buffer: &mut TextBuffer,
     coding: &'a CodingType,
     renames: &Renames<'a>,
-) -> Result<Thing<'a>, AllocError> {
+) -> Result<Thing<'a>, AllocError>
+    ensures { IfOk result (λ t. t ≡ encoding_thing (renames_data renames.now) coding.now) }
+{
     let found = facts_of(alloc, buffer, coding)?;
     let name = coding.name.text.as_slice();
     let names = (name, renames.encodings.of(name));
     Ok(Thing::new(alloc, Kind::Encoding, names, place_of(&coding.name), found))
 }
 
+/// Adds a type, if none of the first so many types has its name. `numbers` are those of all types.
+#[tactic(auto, using(crate::proofs::StatementSteps::nothing_more))]
+fn add_first<'a>(
+    firsts: &mut Vec<&'a CodingType>,
+    types: &[CodingType],
+    numbers: &Numbers<'_>,
+    number: usize,
+    coding: &'a CodingType,
+) -> Result<(), AllocError>
+    requires numbers { NumbersFirst (λ t. t.name) types.now numbers.now.map }
+    requires within { number ≤ length types.now }
+    ensures { OnOk result (map (λ t. t.now) firsts.new.items ≡ map (λ t. t.now) firsts.old.items
+        ++ first_type (take number types.now) coding.now) }
+{
+    if number_by(numbers, types, &coding.name) < number {
+        return Ok(());
+    }
+    firsts.push(coding)?;
+    Ok(())
+}
+
 /// Returns the first type of each name.
 fn first_types<'a>(
     alloc: Global,
     types: &'a [CodingType],
-) -> Result<Vec<&'a CodingType>, AllocError> {
+) -> Result<Vec<&'a CodingType>, AllocError>
+    ensures { IfOk result (λ v. map (λ t. t.now) v.items ≡ first_types [] types.now) }
+{
     let numbers = numbers_of(alloc, types)?;
     let mut firsts = Vec::new(alloc);
-    for (number, coding) in types.iter().enumerate() {
-        if number_by(&numbers, types, &coding.name) == number {
-            firsts.push(coding)?;
-        }
+    for number in 0..types.len() {
+        add_first(&mut firsts, types, &numbers, number, &types[number])?;
     }
     Ok(firsts)
 }
@@ -158,7 +206,10 @@ pub(crate) fn things<'a>(
     alloc: Global,
     facts: &LdfFacts<'a>,
     renames: &Renames<'a>,
-) -> Result<Vec<Thing<'a>>, AllocError> {
+) -> Result<Vec<Thing<'a>>, AllocError>
+    ensures { IfOk result (λ v. v.items ≡ map (encoding_thing (renames_data renames.now))
+        (first_types [] facts.now.ldf.codings.now.types)) }
+{
     let types = first_types(alloc, facts.ldf.codings.types.as_slice())?;
     let mut buffer = TextBuffer::empty();
     let mut things = Vec::new(alloc);
@@ -168,26 +219,41 @@ pub(crate) fn things<'a>(
     Ok(things)
 }
 
+/// Puts an item: its key and its value.
+#[tactic(auto, using(crate::proofs::FactSteps::word_goes_on))]
+fn put_item(text: &mut Vec<u8>, fact: &Fact<'_>) -> Result<(), AllocError>
+    ensures { OnOk result (text.new.items ≡ with_item text.old.items fact.now) }
+{
+    put_word(text, fact.key.as_slice())?;
+    text.push(b':')?;
+    put_word(text, fact.value.as_slice())?;
+    text.push(b';')?;
+    Ok(())
+}
+
 /// Returns the key of a type: all its items.
-fn items_text<'a>(alloc: Global, facts: &[Fact<'_>]) -> Result<FactText<'a>, AllocError> {
+fn items_text<'a>(alloc: Global, facts: &[Fact<'_>]) -> Result<FactText<'a>, AllocError>
+    ensures { IfOk result (λ t. t ≡ fold with_item [] facts.now) }
+{
     let mut text = Vec::new(alloc);
     for fact in facts {
-        put_word(&mut text, fact.key.as_slice())?;
-        text.push(b':')?;
-        put_word(&mut text, fact.value.as_slice())?;
-        text.push(b';')?;
+        put_item(&mut text, fact)?;
     }
     FactText::copied(alloc, text.as_slice())
 }
 
 /// Adds the key of a type that isn't among other names.
+#[tactic(auto, using(crate::proofs::StatementSteps::nothing_more))]
 fn add_key<'a>(
     alloc: Global,
     keys: &mut Vec<Keyed<'a>>,
     buffer: &mut TextBuffer,
     coding: &'a CodingType,
     others: &NameSet<'_>,
-) -> Result<(), AllocError> {
+) -> Result<(), AllocError>
+    ensures { OnOk result (map keyed_name keys.new.items ≡ map keyed_name keys.old.items
+        ++ alone (has_in others.now.map) (encoding_key coding.now ∷ [])) }
+{
     let name = coding.name.text.as_slice();
     if others.has(name) {
         return Ok(());
@@ -203,7 +269,10 @@ pub(crate) fn keys<'a>(
     alloc: Global,
     facts: &LdfFacts<'a>,
     others: &NameSet<'_>,
-) -> Result<Vec<Keyed<'a>>, AllocError> {
+) -> Result<Vec<Keyed<'a>>, AllocError>
+    ensures { IfOk result (λ v. map keyed_name v.items
+        ≡ alone (has_in others.now.map) (encoding_keys (compared_data facts.now.ldf))) }
+{
     let types = first_types(alloc, facts.ldf.codings.types.as_slice())?;
     let mut buffer = TextBuffer::empty();
     let mut keys = Vec::new(alloc);

@@ -1,7 +1,16 @@
 //! The facts of frames: unconditional, sporadic and event-triggered ones.
 
-ghost use Rattle.std.specs.Prelude.{IfOk};
+ghost use Rattle.std.specs.Prelude.{◌≡◌, ◌++◌, ◌∷◌, [], IfOk, OnOk, List, ℕ, if◌then◌else◌, map, option_map};
+ghost use Rattle.lin_cluster.specs.FindingsNames.{signal_named};
+ghost use Rattle.lin_cluster.specs.LintNames.{has_dot};
+ghost use Rattle.lin_values.specs.FactTexts.{joined};
 ghost use Rattle.lin_values.specs.Lookups.{AreFrameFacts};
+ghost use Rattle.lin_values.specs.NewNames.{alone, has_in, keyed_name, renames_data};
+ghost use Rattle.lin_values.specs.Renames.{event_keys, frame_keys, number_key, sporadic_keys, sporadic_key};
+ghost use Rattle.lin_values.specs.SortedTexts.{sorted};
+ghost use Rattle.lin_values.specs.Things.{bits_in, bits_of, compared_data, event_thing, frame_thing, id_fact};
+ghost use Rattle.lin_values.specs.Things.{frame_things, is_listed, is_member, member_names, model_text, own_facts, place_fact};
+ghost use Rattle.lin_values.specs.Things.{place_of_first, placed_fact, sporadic_thing, table_facts, taken_bits};
 
 use crate::diff::compared::LdfFacts;
 use crate::diff::fact::{Bits, Class, Fact, Kind, Thing};
@@ -20,17 +29,23 @@ use std::alloc::{AllocError, Global};
 
 /// Whether the name of a schedule table is one that `--field` gives to the table of an event-triggered
 /// frame without a table.
-pub(crate) fn is_added(table: &Name) -> bool {
+pub(crate) fn is_added(table: &Name) -> bool
+    ensures { result ≡ has_dot table.now.text }
+{
     table.text.as_slice().contains(&b'.')
 }
 
-fn id_text<'a>(alloc: Global, id: Number) -> Result<FactText<'a>, AllocError> {
+fn id_text<'a>(alloc: Global, id: Number) -> Result<FactText<'a>, AllocError>
+    ensures { IfOk result (λ t. t ≡ (id_fact id).value) }
+{
     let mut text = Vec::from_slice(alloc, b"0x")?;
     put_hex(&mut text, (id.value % 256) as u8)?;
     FactText::copied(alloc, text.as_slice())
 }
 
-fn model_word(model: SumKind) -> &'static [u8] {
+fn model_word(model: SumKind) -> &'static [u8]
+    ensures { result.now ≡ model_text model }
+{
     match model {
         SumKind::Classic => b"classic",
         SumKind::Enhanced => b"enhanced",
@@ -38,7 +53,9 @@ fn model_word(model: SumKind) -> &'static [u8] {
 }
 
 /// Adds an identifier.
-fn add_id<'a>(alloc: Global, facts: &mut Vec<Fact<'a>>, id: Number) -> Result<(), AllocError> {
+fn add_id<'a>(alloc: Global, facts: &mut Vec<Fact<'a>>, id: Number) -> Result<(), AllocError>
+    ensures { OnOk result (facts.new.items ≡ facts.old.items ++ id_fact id ∷ []) }
+{
     let value = id_text(alloc, id)?;
     let place = place_of_number(id);
     facts.push(Fact::new(FactText::lent(b"id"), value, place, Class::Bytes))?;
@@ -46,7 +63,9 @@ fn add_id<'a>(alloc: Global, facts: &mut Vec<Fact<'a>>, id: Number) -> Result<()
 }
 
 /// Returns the bits of a signal in a frame. `signal` is its declaration.
-fn bits_of(placed: &PlacedSignal, signal: Option<&Signal>) -> Bits {
+fn bits_of(placed: &PlacedSignal, signal: Option<&Signal>) -> Bits
+    ensures { result ≡ bits_of placed.now (option_map (λ s. s.now) signal.entry) }
+{
     let from = u64::from(placed.offset.value);
     let size = match signal {
         Some(signal) => u64::from(signal.size.value),
@@ -64,7 +83,9 @@ fn place_fact<'a>(
     name: &[u8],
     placed: &PlacedSignal,
     bits: Bits,
-) -> Result<Fact<'a>, AllocError> {
+) -> Result<Fact<'a>, AllocError>
+    ensures { IfOk result (λ f. f ≡ place_fact name.now placed.now bits) }
+{
     let key = two_words(alloc, b"place", name)?;
     let value = FactText::number(alloc, u64::from(placed.offset.value))?;
     let place = place_of_number(placed.offset);
@@ -79,7 +100,9 @@ fn own_facts<'a>(
     frame: &Frame,
     publisher: &'a [u8],
     model: SumKind,
-) -> Result<Vec<Fact<'a>>, AllocError> {
+) -> Result<Vec<Fact<'a>>, AllocError>
+    ensures { IfOk result (λ v. v.items ≡ own_facts frame.now publisher.now model) }
+{
     let mut found = Vec::new(alloc);
     add_id(alloc, &mut found, frame.id)?;
     let value = FactText::lent(publisher);
@@ -113,7 +136,9 @@ impl<'b, 'a> Drop for FrameFacts<'b, 'a> {
 }
 
 /// Returns the names of the frames that event-triggered frames list.
-fn members<'a>(alloc: Global, events: &'a [EventFrame]) -> Result<NameSet<'a>, AllocError> {
+fn members<'a>(alloc: Global, events: &'a [EventFrame]) -> Result<NameSet<'a>, AllocError>
+    ensures { IfOk result (λ s. (q : List ℕ) → has_in s.map q ≡ is_listed events.now q) }
+{
     let mut members = NameSet::new(alloc)?;
     for event in events {
         members.add_all(event.members.as_slice())?;
@@ -128,6 +153,8 @@ impl<'b, 'a> FrameFacts<'b, 'a> {
         renames: &'b Renames<'a>,
     ) -> Result<FrameFacts<'b, 'a>, AllocError>
         ensures found { IfOk result (λ f. AreFrameFacts f) }
+        ensures facts { IfOk result (λ f. f.facts.now ≡ facts.now) }
+        ensures renames { IfOk result (λ f. f.renames.now ≡ renames.now) }
     {
         Ok(FrameFacts {
             facts,
@@ -140,6 +167,8 @@ impl<'b, 'a> FrameFacts<'b, 'a> {
     /// Returns the bits of a signal in a frame.
     fn bits_of(&self, placed: &PlacedSignal) -> Bits
         requires { AreFrameFacts self.now }
+        ensures { result ≡ bits_of placed.now
+            (signal_named self.now.facts.now.ldf.description.now placed.now.signal) }
     {
         let facts = self.facts;
         let signals = facts.ldf.description.signals();
@@ -154,6 +183,8 @@ impl<'b, 'a> FrameFacts<'b, 'a> {
         all: &[PlacedSignal],
     ) -> Result<(), AllocError>
         requires { AreFrameFacts self.now }
+        ensures { OnOk result (found.new.items ≡ found.old.items ++ map
+            (placed_fact self.now.facts.now.ldf.description.now (renames_data self.now.renames.now)) all.now) }
     {
         for placed in all {
             let name = self.renames.signals.of(placed.signal.text.as_slice());
@@ -162,17 +193,40 @@ impl<'b, 'a> FrameFacts<'b, 'a> {
         Ok(())
     }
 
-    /// Returns the bits of a frame that a signal or its identifier has.
-    fn taken(&self, alloc: Global, frame: &Frame) -> Result<Vec<Bits>, AllocError>
+    /// Returns the bits of a frame that its identifier has, if an event-triggered frame lists it.
+    fn identifier_bits(&self, alloc: Global, frame: &Frame) -> Result<Vec<Bits>, AllocError>
         requires { AreFrameFacts self.now }
+        ensures { IfOk result (λ v. v.items
+            ≡ (if is_member self.now.facts.now.ldf.description.now frame.now
+            then record { from = 0; end = 8 } ∷ [] else [])) }
     {
         let mut taken = Vec::new(alloc);
         if self.members.has(frame.name.text.as_slice()) {
             taken.push(Bits { from: 0, end: 8 })?;
         }
-        for placed in frame.placed.as_slice() {
+        Ok(taken)
+    }
+
+    /// Adds the bits of signals.
+    fn add_bits(&self, taken: &mut Vec<Bits>, all: &[PlacedSignal]) -> Result<(), AllocError>
+        requires { AreFrameFacts self.now }
+        ensures { OnOk result (taken.new.items
+            ≡ taken.old.items ++ map (bits_in self.now.facts.now.ldf.description.now) all.now) }
+    {
+        for placed in all {
             taken.push(self.bits_of(placed))?;
         }
+        Ok(())
+    }
+
+    /// Returns the bits of a frame that a signal or its identifier has.
+    fn taken(&self, alloc: Global, frame: &Frame) -> Result<Vec<Bits>, AllocError>
+        requires { AreFrameFacts self.now }
+        ensures { IfOk result (λ v. v.items
+            ≡ taken_bits self.now.facts.now.ldf.description.now frame.now) }
+    {
+        let mut taken = self.identifier_bits(alloc, frame)?;
+        self.add_bits(&mut taken, frame.placed.as_slice())?;
         Ok(taken)
     }
 
@@ -184,6 +238,8 @@ impl<'b, 'a> FrameFacts<'b, 'a> {
         model: SumKind,
     ) -> Result<Thing<'a>, AllocError>
         requires { AreFrameFacts self.now }
+        ensures { IfOk result (λ t. t ≡ frame_thing self.now.facts.now.ldf.description.now
+            (renames_data self.now.renames.now) frame.now model) }
     {
         let publisher = self.renames.nodes.of(frame.publisher.text.as_slice());
         let mut found = own_facts(alloc, frame, publisher, model)?;
@@ -197,7 +253,9 @@ impl<'b, 'a> FrameFacts<'b, 'a> {
 }
 
 /// Returns the checksum models of the unconditional frames.
-fn models(alloc: Global, cluster: &Cluster) -> Result<Vec<SumKind>, AllocError> {
+fn models(alloc: Global, cluster: &Cluster) -> Result<Vec<SumKind>, AllocError>
+    ensures { IfOk result (λ v. v.items ≡ map (λ f. f.model) cluster.now.frames) }
+{
     cluster.sound();
     let mut models = Vec::new(alloc);
     for frame in 0..cluster.frames() as u16 {
@@ -211,7 +269,10 @@ pub(crate) fn things<'a>(
     alloc: Global,
     facts: &LdfFacts<'a>,
     renames: &Renames<'a>,
-) -> Result<Vec<Thing<'a>>, AllocError> {
+) -> Result<Vec<Thing<'a>>, AllocError>
+    ensures { IfOk result (λ v. v.items
+        ≡ frame_things (compared_data facts.now.ldf) (renames_data renames.now)) }
+{
     let looked_up = FrameFacts::new(alloc, facts, renames)?;
     let frames = facts.ldf.description.frames();
     let models = models(alloc, facts.ldf.cluster)?;
@@ -227,7 +288,9 @@ fn member_names<'a>(
     alloc: Global,
     members: &'a [Name],
     renames: &Renames<'a>,
-) -> Result<FactText<'a>, AllocError> {
+) -> Result<FactText<'a>, AllocError>
+    ensures { IfOk result (λ t. t ≡ joined (member_names (renames_data renames.now) members.now)) }
+{
     let mut text = Vec::new(alloc);
     for member in members {
         put_word(&mut text, renames.frames.of(member.text.as_slice()))?;
@@ -236,7 +299,9 @@ fn member_names<'a>(
 }
 
 /// Returns the place of the first of these names, or else of another one.
-fn place_of_first(members: &[Name], name: &Name) -> Location {
+fn place_of_first(members: &[Name], name: &Name) -> Location
+    ensures { result ≡ place_of_first members.now name.now }
+{
     match members.first() {
         Some(first) => place_of(first),
         None => place_of(name),
@@ -247,7 +312,9 @@ fn sporadic_thing<'a>(
     alloc: Global,
     sporadic: &'a Sporadic,
     renames: &Renames<'a>,
-) -> Result<Thing<'a>, AllocError> {
+) -> Result<Thing<'a>, AllocError>
+    ensures { IfOk result (λ t. t ≡ sporadic_thing (renames_data renames.now) sporadic.now) }
+{
     let members = sporadic.members.as_slice();
     let value = member_names(alloc, members, renames)?;
     let place = place_of_first(members, &sporadic.name);
@@ -264,7 +331,10 @@ pub(crate) fn sporadic_things<'a>(
     alloc: Global,
     facts: &LdfFacts<'a>,
     renames: &Renames<'a>,
-) -> Result<Vec<Thing<'a>>, AllocError> {
+) -> Result<Vec<Thing<'a>>, AllocError>
+    ensures { IfOk result (λ v. v.items ≡ map (sporadic_thing (renames_data renames.now))
+        facts.now.ldf.description.now.sporadic) }
+{
     let mut things = Vec::new(alloc);
     for sporadic in facts.ldf.description.sporadic() {
         things.push(sporadic_thing(alloc, sporadic, renames)?)?;
@@ -277,7 +347,10 @@ fn sorted_names<'a>(
     alloc: Global,
     members: &'a [Name],
     renames: &Renames<'a>,
-) -> Result<FactText<'a>, AllocError> {
+) -> Result<FactText<'a>, AllocError>
+    ensures { IfOk result
+        (λ t. t ≡ joined (sorted (member_names (renames_data renames.now) members.now))) }
+{
     let mut names = Many::new(Vec::new(alloc));
     for member in members {
         let name = renames.frames.of(member.text.as_slice());
@@ -287,11 +360,15 @@ fn sorted_names<'a>(
 }
 
 /// Adds the table that resolves collisions, unless `--field` adds it.
+#[tactic(auto, using(crate::proofs::StatementSteps::nothing_more))]
 fn add_table<'a>(
     facts: &mut Vec<Fact<'a>>,
     table: &'a Name,
     renames: &Renames<'a>,
-) -> Result<(), AllocError> {
+) -> Result<(), AllocError>
+    ensures { OnOk result
+        (facts.new.items ≡ facts.old.items ++ table_facts (renames_data renames.now) table.now) }
+{
     if is_added(table) {
         return Ok(());
     }
@@ -309,7 +386,9 @@ fn event_thing<'a>(
     alloc: Global,
     event: &'a EventFrame,
     renames: &Renames<'a>,
-) -> Result<Thing<'a>, AllocError> {
+) -> Result<Thing<'a>, AllocError>
+    ensures { IfOk result (λ t. t ≡ event_thing (renames_data renames.now) event.now) }
+{
     let mut found = Vec::new(alloc);
     add_id(alloc, &mut found, event.id)?;
     add_table(&mut found, &event.table, renames)?;
@@ -327,7 +406,10 @@ pub(crate) fn event_things<'a>(
     alloc: Global,
     facts: &LdfFacts<'a>,
     renames: &Renames<'a>,
-) -> Result<Vec<Thing<'a>>, AllocError> {
+) -> Result<Vec<Thing<'a>>, AllocError>
+    ensures { IfOk result (λ v. v.items ≡ map (event_thing (renames_data renames.now))
+        facts.now.ldf.description.now.events) }
+{
     let mut things = Vec::new(alloc);
     for event in facts.ldf.description.events() {
         things.push(event_thing(alloc, event, renames)?)?;
@@ -336,13 +418,17 @@ pub(crate) fn event_things<'a>(
 }
 
 /// Adds the key of a thing that isn't among other names: its identifier, or its address.
+#[tactic(auto, using(crate::proofs::StatementSteps::nothing_more))]
 pub(crate) fn add_number_key<'a>(
     alloc: Global,
     keys: &mut Vec<Keyed<'a>>,
     name: &'a Name,
     number: Number,
     others: &NameSet<'_>,
-) -> Result<(), AllocError> {
+) -> Result<(), AllocError>
+    ensures { OnOk result (map keyed_name keys.new.items ≡ map keyed_name keys.old.items
+        ++ alone (has_in others.now.map) (number_key name.now number ∷ [])) }
+{
     let name = name.text.as_slice();
     if others.has(name) {
         return Ok(());
@@ -357,7 +443,10 @@ pub(crate) fn keys<'a>(
     alloc: Global,
     facts: &LdfFacts<'a>,
     others: &NameSet<'_>,
-) -> Result<Vec<Keyed<'a>>, AllocError> {
+) -> Result<Vec<Keyed<'a>>, AllocError>
+    ensures { IfOk result (λ v. map keyed_name v.items
+        ≡ alone (has_in others.now.map) (frame_keys (compared_data facts.now.ldf))) }
+{
     let mut keys = Vec::new(alloc);
     for frame in facts.ldf.description.frames() {
         add_number_key(alloc, &mut keys, &frame.name, frame.id, others)?;
@@ -370,7 +459,10 @@ pub(crate) fn event_keys<'a>(
     alloc: Global,
     facts: &LdfFacts<'a>,
     others: &NameSet<'_>,
-) -> Result<Vec<Keyed<'a>>, AllocError> {
+) -> Result<Vec<Keyed<'a>>, AllocError>
+    ensures { IfOk result (λ v. map keyed_name v.items
+        ≡ alone (has_in others.now.map) (event_keys (compared_data facts.now.ldf))) }
+{
     let mut keys = Vec::new(alloc);
     for event in facts.ldf.description.events() {
         add_number_key(alloc, &mut keys, &event.name, event.id, others)?;
@@ -379,13 +471,17 @@ pub(crate) fn event_keys<'a>(
 }
 
 /// Adds the key of a sporadic frame that isn't among other names: its members.
+#[tactic(auto, using(crate::proofs::StatementSteps::nothing_more))]
 fn add_sporadic_key<'a>(
     alloc: Global,
     keys: &mut Vec<Keyed<'a>>,
     sporadic: &'a Sporadic,
     others: &NameSet<'_>,
     renames: &Renames<'a>,
-) -> Result<(), AllocError> {
+) -> Result<(), AllocError>
+    ensures { OnOk result (map keyed_name keys.new.items ≡ map keyed_name keys.old.items
+        ++ alone (has_in others.now.map) (sporadic_key (renames_data renames.now) sporadic.now ∷ [])) }
+{
     let name = sporadic.name.text.as_slice();
     if others.has(name) {
         return Ok(());
@@ -401,7 +497,10 @@ pub(crate) fn sporadic_keys<'a>(
     facts: &LdfFacts<'a>,
     others: &NameSet<'_>,
     renames: &Renames<'a>,
-) -> Result<Vec<Keyed<'a>>, AllocError> {
+) -> Result<Vec<Keyed<'a>>, AllocError>
+    ensures { IfOk result (λ v. map keyed_name v.items ≡ alone (has_in others.now.map)
+        (sporadic_keys (compared_data facts.now.ldf) (renames_data renames.now))) }
+{
     let mut keys = Vec::new(alloc);
     for sporadic in facts.ldf.description.sporadic() {
         add_sporadic_key(alloc, &mut keys, sporadic, others, renames)?;

@@ -201,6 +201,9 @@ impl<'a> NewNames<'a> {
     pub(crate) fn of(&self, name: &'a [u8]) -> &'a [u8]
         ensures { result.now ≡ name_in (known_by self.now) name.now }
     {
+        if self.renamed.is_empty() {
+            return name;
+        }
         match self.renamed.get(&name) {
             Some(new) => *new,
             None => name,

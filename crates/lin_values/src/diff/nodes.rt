@@ -1,8 +1,20 @@
 //! The facts of nodes.
 
-ghost use Rattle.std.specs.Prelude.{◌≡◌, IfOk};
-ghost use Rattle.lin_values.specs.Facts.{place_of_name};
+ghost use Rattle.std.specs.Prelude.{◌≡◌, ◌++◌, ◌∷◌, [], IfOk, List, ℕ, OnOk, if◌then◌else◌, filter, find, flat_map, map, option_map};
+ghost use Rattle.std.specs.Option.{option_copied};
+ghost use Rattle.lin_cluster.specs.FindingsNames.{same_name};
+ghost use Rattle.lin_cluster.specs.Models.{block_named};
+ghost use Rattle.lin_ldf.specs.Forms.{front};
+ghost use Rattle.lin_ldf.specs.Words.{place_of};
+ghost use Rattle.lin_values.specs.Attributes.{node_attributes};
+ghost use Rattle.lin_values.specs.Facts.{fact, place_of_name};
 ghost use Rattle.lin_values.specs.Lookups.{AreBlocks};
+ghost use Rattle.lin_values.specs.NewNames.{alone, has_in, is_among, keyed_name, renames_data};
+ghost use Rattle.lin_values.specs.Renames.{commander_key, node_keys, node_names, responder_keys};
+ghost use Rattle.lin_values.specs.Things.{attribute_fact, attribute_facts, commander_thing, compared_data};
+ghost use Rattle.lin_values.specs.Things.{is_other_attribute, nad_facts, nad_of, node_facts, node_thing};
+ghost use Rattle.lin_values.specs.Things.{node_things, protocol_facts, responder_thing, role_fact};
+ghost use Rattle.lin_values.specs.Things.{AreRead};
 
 use crate::attribute_blocks::{Attribute, NodeAttributes};
 use crate::diff::compared::LdfFacts;
@@ -17,7 +29,7 @@ use crate::diff::tokens::{Spelling, value_text};
 use crate::shown_texts::shown_text;
 use lin_cluster::{Numbers, find_by, numbers_of};
 use lin_parts::Location;
-use lin_parts::description::{Attributes, Name, Number};
+use lin_parts::description::{Attributes, Description, Name, Number};
 use std::alloc::{AllocError, Global};
 
 /// Returns the place of a name.
@@ -31,7 +43,10 @@ pub(crate) fn place_of(name: &Name) -> Location
 }
 
 /// Returns the names of the nodes.
-pub(crate) fn names<'a>(alloc: Global, facts: &LdfFacts<'a>) -> Result<NameSet<'a>, AllocError> {
+pub(crate) fn names<'a>(alloc: Global, facts: &LdfFacts<'a>) -> Result<NameSet<'a>, AllocError>
+    ensures { IfOk result (λ s. (q : List ℕ)
+        → has_in s.map q ≡ is_among (node_names facts.now.ldf.description.now) q) }
+{
     let description = facts.ldf.description;
     let mut names = NameSet::new(alloc)?;
     names.add(description.master().text.as_slice())?;
@@ -39,7 +54,9 @@ pub(crate) fn names<'a>(alloc: Global, facts: &LdfFacts<'a>) -> Result<NameSet<'
     Ok(names)
 }
 
-fn nad_of(block: Option<&Attributes>) -> Option<Number> {
+fn nad_of(block: Option<&Attributes>) -> Option<Number>
+    ensures { result ≡ nad_of (option_map (λ b. b.now) block.entry) }
+{
     match block {
         Some(block) => block.configured_nad,
         None => None,
@@ -47,17 +64,65 @@ fn nad_of(block: Option<&Attributes>) -> Option<Number> {
 }
 
 /// Adds the key of a responder that isn't among other names: its address, if it has one.
+#[tactic(auto, using(crate::proofs::StatementSteps::nothing_more))]
 fn add_key<'a>(
     alloc: Global,
     keys: &mut Vec<Keyed<'a>>,
     others: &NameSet<'_>,
     name: &'a Name,
     block: Option<&Attributes>,
-) -> Result<(), AllocError> {
+) -> Result<(), AllocError>
+    ensures { OnOk result (map keyed_name keys.new.items ≡ map keyed_name keys.old.items
+        ++ alone (has_in others.now.map)
+        (responder_keys name.now (option_map (λ b. b.now) block.entry))) }
+{
     match nad_of(block) {
         Some(nad) => add_number_key(alloc, keys, name, nad, others),
         None => Ok(()),
     }
+}
+
+/// Returns the key of the commander, if it isn't among other names.
+fn commander_keys<'a>(
+    alloc: Global,
+    description: &'a Description,
+    others: &NameSet<'_>,
+) -> Result<Vec<Keyed<'a>>, AllocError>
+    ensures { IfOk result (λ v. map keyed_name v.items
+        ≡ alone (has_in others.now.map) (commander_key description.now ∷ [])) }
+{
+    let mut keys = Vec::new(alloc);
+    let name = description.master().text.as_slice();
+    if !others.has(name) {
+        let key = FactText::lent(b"commander");
+        keys.push(Keyed { name, key })?;
+    }
+    Ok(keys)
+}
+
+/// Adds the keys of the responders that aren't among other names. `attributes` are those of nodes.
+fn add_responder_keys<'a>(
+    alloc: Global,
+    keys: &mut Vec<Keyed<'a>>,
+    others: &NameSet<'_>,
+    slaves: &'a [Name],
+    attributes: &[Attributes],
+) -> Result<(), AllocError>
+    ensures { OnOk result (map keyed_name keys.new.items ≡ map keyed_name keys.old.items
+        ++ alone (has_in others.now.map)
+        (flat_map (λ n. responder_keys n (find (λ a. same_name a.node n) attributes.now)) slaves.now)) }
+{
+    let numbers = numbers_of(alloc, attributes)?;
+    for slave in slaves {
+        add_key(
+            alloc,
+            keys,
+            others,
+            slave,
+            find_by(&numbers, attributes, slave),
+        )?;
+    }
+    Ok(())
 }
 
 /// Returns the keys of the nodes that aren't among other names: that it is the commander, or an address.
@@ -65,19 +130,14 @@ pub(crate) fn keys<'a>(
     alloc: Global,
     facts: &LdfFacts<'a>,
     others: &NameSet<'_>,
-) -> Result<Vec<Keyed<'a>>, AllocError> {
+) -> Result<Vec<Keyed<'a>>, AllocError>
+    ensures { IfOk result (λ v. map keyed_name v.items
+        ≡ alone (has_in others.now.map) (node_keys (compared_data facts.now.ldf))) }
+{
     let description = facts.ldf.description;
-    let blocks = numbers_of(alloc, description.attributes())?;
-    let mut keys = Vec::new(alloc);
-    let master = description.master().text.as_slice();
-    if !others.has(master) {
-        let key = FactText::lent(b"commander");
-        keys.push(Keyed { name: master, key })?;
-    }
-    for slave in description.slaves() {
-        let block = find_by(&blocks, description.attributes(), slave);
-        add_key(alloc, &mut keys, others, slave, block)?;
-    }
+    let mut keys = commander_keys(alloc, description, others)?;
+    let attributes = description.attributes();
+    add_responder_keys(alloc, &mut keys, others, description.slaves(), attributes)?;
     Ok(keys)
 }
 
@@ -86,7 +146,11 @@ fn attribute_value<'a>(
     alloc: Global,
     attribute: &Attribute<'a>,
     renames: &Renames<'a>,
-) -> Result<(FactText<'a>, Class), AllocError> {
+) -> Result<(FactText<'a>, Class), AllocError>
+    ensures { IfOk result (λ v.
+        fact (front attribute.now).text v.0 (place_of (front attribute.now)) v.1
+        ≡ attribute_fact (renames_data renames.now) attribute.now) }
+{
     if attribute.is(b"product_id") || attribute.is(b"initial_NAD") {
         return Ok((
             value_text(alloc, attribute, Spelling::Numbers)?,
@@ -119,12 +183,17 @@ fn attribute_value<'a>(
 }
 
 /// Adds an attribute, unless its value is a fact of the node itself.
+#[tactic(auto, using(crate::proofs::StatementSteps::nothing_more))]
 fn add_attribute<'a>(
     alloc: Global,
     facts: &mut Vec<Fact<'a>>,
     attribute: &Attribute<'a>,
     renames: &Renames<'a>,
-) -> Result<(), AllocError> {
+) -> Result<(), AllocError>
+    ensures { OnOk result (facts.new.items ≡ facts.old.items
+        ++ (if is_other_attribute attribute.now
+        then attribute_fact (renames_data renames.now) attribute.now ∷ [] else [])) }
+{
     if attribute.is(b"LIN_protocol") || attribute.is(b"configured_NAD") {
         return Ok(());
     }
@@ -134,26 +203,49 @@ fn add_attribute<'a>(
     Ok(())
 }
 
+/// Adds attributes.
+fn add_all<'a>(
+    alloc: Global,
+    facts: &mut Vec<Fact<'a>>,
+    attributes: &[Attribute<'a>],
+    renames: &Renames<'a>,
+) -> Result<(), AllocError>
+    ensures { OnOk result (facts.new.items ≡ facts.old.items
+        ++ map (attribute_fact (renames_data renames.now)) (filter is_other_attribute attributes.now)) }
+{
+    for attribute in attributes {
+        add_attribute(alloc, facts, attribute, renames)?;
+    }
+    Ok(())
+}
+
+/// Adds the attributes of a node, if the text has any.
+#[tactic(auto, using(crate::proofs::StatementSteps::nothing_more))]
 fn add_attributes<'a>(
     alloc: Global,
     facts: &mut Vec<Fact<'a>>,
     block: Option<&NodeAttributes<'a>>,
     renames: &Renames<'a>,
-) -> Result<(), AllocError> {
-    if let Some(block) = block {
-        for attribute in block.attributes.as_slice() {
-            add_attribute(alloc, facts, attribute, renames)?;
-        }
+) -> Result<(), AllocError>
+    ensures { OnOk result (facts.new.items ≡ facts.old.items
+        ++ attribute_facts (renames_data renames.now) (option_map (λ b. b.now) block.entry)) }
+{
+    match block {
+        Some(block) => add_all(alloc, facts, block.attributes.as_slice(), renames),
+        None => Ok(()),
     }
-    Ok(())
 }
 
 /// Adds the version in the attributes of a node.
+#[tactic(auto, using(crate::proofs::StatementSteps::nothing_more))]
 fn add_protocol<'a>(
     alloc: Global,
     facts: &mut Vec<Fact<'a>>,
     block: Option<&Attributes>,
-) -> Result<(), AllocError> {
+) -> Result<(), AllocError>
+    ensures { OnOk result (facts.new.items
+        ≡ facts.old.items ++ protocol_facts (option_map (λ b. b.now) block.entry)) }
+{
     if let Some(block) = block
         && let Some(protocol) = &block.protocol
     {
@@ -165,17 +257,23 @@ fn add_protocol<'a>(
 }
 
 /// Returns what a node is in the cluster.
-fn role_fact<'a>(role: &'static [u8], name: &Name) -> Fact<'a> {
+fn role_fact<'a>(role: &'static [u8], name: &Name) -> Fact<'a>
+    ensures { result ≡ role_fact role.now name.now }
+{
     let value = FactText::lent(role);
     Fact::new(FactText::lent(b"role"), value, place_of(name), Class::Bytes)
 }
 
 /// Adds the address of a responder.
+#[tactic(auto, using(crate::proofs::StatementSteps::nothing_more))]
 fn add_nad<'a>(
     alloc: Global,
     facts: &mut Vec<Fact<'a>>,
     block: Option<&Attributes>,
-) -> Result<(), AllocError> {
+) -> Result<(), AllocError>
+    ensures { OnOk result (facts.new.items
+        ≡ facts.old.items ++ nad_facts (option_map (λ b. b.now) block.entry)) }
+{
     match nad_of(block) {
         Some(nad) => add_number(alloc, facts, b"nad", nad, Class::Bytes),
         None => Ok(()),
@@ -188,7 +286,9 @@ fn node_thing<'a>(
     name: &'a Name,
     facts: Vec<Fact<'a>>,
     renames: &Renames<'a>,
-) -> Result<Thing<'a>, AllocError> {
+) -> Result<Thing<'a>, AllocError>
+    ensures { IfOk result (λ t. t ≡ node_thing (renames_data renames.now) name.now facts.entry.items) }
+{
     let text = name.text.as_slice();
     let names = (text, renames.nodes.of(text));
     let found = numbered(alloc, facts)?;
@@ -215,7 +315,9 @@ impl<'b, 'a> Drop for Blocks<'b, 'a> {
 
 impl<'b, 'a> Blocks<'b, 'a> {
     fn new(alloc: Global, facts: &'b LdfFacts<'a>) -> Result<Blocks<'b, 'a>, AllocError>
+        requires { AreRead facts.now }
         ensures blocks { IfOk result (λ b. AreBlocks b) }
+        ensures facts { IfOk result (λ b. b.facts.now ≡ facts.now) }
     {
         Ok(Blocks {
             facts,
@@ -227,6 +329,7 @@ impl<'b, 'a> Blocks<'b, 'a> {
     /// Returns the attributes of a node that the description has.
     fn declared(&self, name: &Name) -> Option<&'a Attributes>
         requires { AreBlocks self.now }
+        ensures { option_map (λ b. b.now) result ≡ block_named self.now.facts.now.ldf.description.now name.now }
     {
         let facts = self.facts;
         let blocks = facts.ldf.description.attributes();
@@ -236,6 +339,8 @@ impl<'b, 'a> Blocks<'b, 'a> {
     /// Returns the attributes of a node that the text has.
     fn read(&self, name: &Name) -> Option<&'b NodeAttributes<'a>>
         requires { AreBlocks self.now }
+        ensures { option_map (λ b. b.now) result ≡ find (λ b. same_name b.node name.now)
+            (node_attributes (compared_data self.now.facts.now.ldf).tokens) }
     {
         let facts = self.facts;
         find_by(&self.read, facts.blocks.as_slice(), name)
@@ -250,6 +355,8 @@ impl<'b, 'a> Blocks<'b, 'a> {
         renames: &Renames<'a>,
     ) -> Result<(), AllocError>
         requires { AreBlocks self.now }
+        ensures { OnOk result (found.new.items ≡ found.old.items
+            ++ node_facts (compared_data self.now.facts.now.ldf) (renames_data renames.now) name.now) }
     {
         add_protocol(alloc, found, self.declared(name))?;
         add_attributes(alloc, found, self.read(name), renames)
@@ -258,6 +365,8 @@ impl<'b, 'a> Blocks<'b, 'a> {
     /// Returns the commander.
     fn commander(&self, alloc: Global, renames: &Renames<'a>) -> Result<Thing<'a>, AllocError>
         requires { AreBlocks self.now }
+        ensures { IfOk result (λ t. t
+            ≡ commander_thing (compared_data self.now.facts.now.ldf) (renames_data renames.now)) }
     {
         let facts = self.facts;
         let name = facts.ldf.description.master();
@@ -275,6 +384,8 @@ impl<'b, 'a> Blocks<'b, 'a> {
         renames: &Renames<'a>,
     ) -> Result<Thing<'a>, AllocError>
         requires { AreBlocks self.now }
+        ensures { IfOk result (λ t. t
+            ≡ responder_thing (compared_data self.now.facts.now.ldf) (renames_data renames.now) name.now) }
     {
         let mut found = Vec::new(alloc);
         found.push(role_fact(b"responder", name))?;
@@ -289,7 +400,11 @@ pub(crate) fn things<'a>(
     alloc: Global,
     facts: &LdfFacts<'a>,
     renames: &Renames<'a>,
-) -> Result<Vec<Thing<'a>>, AllocError> {
+) -> Result<Vec<Thing<'a>>, AllocError>
+    requires { AreRead facts.now }
+    ensures { IfOk result (λ v. v.items
+        ≡ node_things (compared_data facts.now.ldf) (renames_data renames.now)) }
+{
     let blocks = Blocks::new(alloc, facts)?;
     let mut things = Vec::new(alloc);
     things.push(blocks.commander(alloc, renames)?)?;

@@ -1,6 +1,14 @@
 //! The things that have another name in the new LDF: their kinds in order, since the key of one has the
 //! new names of others.
 
+ghost use Rattle.std.specs.Prelude.{◌≡◌, ℕ, IfOk, List, OnOk, map};
+ghost use Rattle.std.specs.Option.{option_or};
+ghost use Rattle.lin_values.specs.NewNames.{any_name, keyed_name, known_by, new_names, no_renames};
+ghost use Rattle.lin_values.specs.NewNames.{renames_data};
+ghost use Rattle.lin_values.specs.Renames.{all_renames, with_encodings, with_events, with_frames};
+ghost use Rattle.lin_values.specs.Renames.{with_nodes, with_signals, with_sporadics, with_tables};
+ghost use Rattle.lin_values.specs.Things.{compared_data};
+
 use crate::diff::compared::LdfFacts;
 use crate::diff::new_names::{Keyed, NameSet, NewNames};
 use crate::diff::{encodings, frames, nodes, signals, tables};
@@ -25,14 +33,20 @@ fn add_names<'a, T: Named>(
     all: &'a [T],
     olds: &[Keyed<'a>],
     news: &[Keyed<'a>],
-) -> Result<(), AllocError> {
+) -> Result<(), AllocError>
+    ensures { OnOk result ((q : List ℕ) → known_by names.new q
+        ≡ option_or (known_by names.old q) (new_names (map (λ x. (T.name_of x).text) all.now)
+        (map keyed_name olds.now) (map keyed_name news.now) q)) }
+{
     names.add_renamed(alloc, olds, news)?;
     names.add_all(all)
 }
 
 impl<'a> Renames<'a> {
     /// Each name stays.
-    pub(crate) fn none(alloc: Global) -> Result<Renames<'a>, AllocError> {
+    pub(crate) fn none(alloc: Global) -> Result<Renames<'a>, AllocError>
+        ensures { IfOk result (λ r. renames_data r ≡ no_renames) }
+    {
         Ok(Renames {
             nodes: NewNames::new(alloc)?,
             frames: NewNames::new(alloc)?,
@@ -43,7 +57,9 @@ impl<'a> Renames<'a> {
     }
 
     /// Returns the new name of a node, or else of a frame, or else of a signal, or else the word.
-    pub(crate) fn any(&self, word: &'a [u8]) -> &'a [u8] {
+    pub(crate) fn any(&self, word: &'a [u8]) -> &'a [u8]
+        ensures { result.now ≡ any_name (renames_data self.now) word.now }
+    {
         if let Some(name) = self.nodes.get(word) {
             return name;
         }
@@ -58,7 +74,10 @@ impl<'a> Renames<'a> {
         alloc: Global,
         old: &LdfFacts<'a>,
         new: &LdfFacts<'a>,
-    ) -> Result<(), AllocError> {
+    ) -> Result<(), AllocError>
+        ensures { OnOk result (renames_data self.new
+            ≡ with_nodes (compared_data old.now.ldf) (compared_data new.now.ldf) (renames_data self.old)) }
+    {
         let old_names = nodes::names(alloc, old)?;
         let new_names = nodes::names(alloc, new)?;
         let olds = nodes::keys(alloc, old, &new_names)?;
@@ -75,7 +94,10 @@ impl<'a> Renames<'a> {
         alloc: Global,
         old: &LdfFacts<'a>,
         new: &LdfFacts<'a>,
-    ) -> Result<(), AllocError> {
+    ) -> Result<(), AllocError>
+        ensures { OnOk result (renames_data self.new
+            ≡ with_frames (compared_data old.now.ldf) (compared_data new.now.ldf) (renames_data self.old)) }
+    {
         let all = old.ldf.description.frames();
         let old_names = NameSet::of(alloc, all)?;
         let new_names = NameSet::of(alloc, new.ldf.description.frames())?;
@@ -95,7 +117,10 @@ impl<'a> Renames<'a> {
         alloc: Global,
         old: &LdfFacts<'a>,
         new: &LdfFacts<'a>,
-    ) -> Result<(), AllocError> {
+    ) -> Result<(), AllocError>
+        ensures { OnOk result (renames_data self.new
+            ≡ with_events (compared_data old.now.ldf) (compared_data new.now.ldf) (renames_data self.old)) }
+    {
         let all = old.ldf.description.events();
         let old_names = NameSet::of(alloc, all)?;
         let new_names = NameSet::of(alloc, new.ldf.description.events())?;
@@ -116,7 +141,11 @@ impl<'a> Renames<'a> {
         old: &LdfFacts<'a>,
         new: &LdfFacts<'a>,
         none: &Renames<'a>,
-    ) -> Result<(), AllocError> {
+    ) -> Result<(), AllocError>
+        requires { renames_data none.now ≡ no_renames }
+        ensures { OnOk result (renames_data self.new
+            ≡ with_signals (compared_data old.now.ldf) (compared_data new.now.ldf) (renames_data self.old)) }
+    {
         let all = old.ldf.description.signals();
         let old_names = NameSet::of(alloc, all)?;
         let new_names = NameSet::of(alloc, new.ldf.description.signals())?;
@@ -137,7 +166,11 @@ impl<'a> Renames<'a> {
         old: &LdfFacts<'a>,
         new: &LdfFacts<'a>,
         none: &Renames<'a>,
-    ) -> Result<(), AllocError> {
+    ) -> Result<(), AllocError>
+        requires { renames_data none.now ≡ no_renames }
+        ensures { OnOk result (renames_data self.new
+            ≡ with_sporadics (compared_data old.now.ldf) (compared_data new.now.ldf) (renames_data self.old)) }
+    {
         let all = old.ldf.description.sporadic();
         let old_names = NameSet::of(alloc, all)?;
         let new_names = NameSet::of(alloc, new.ldf.description.sporadic())?;
@@ -158,7 +191,11 @@ impl<'a> Renames<'a> {
         old: &LdfFacts<'a>,
         new: &LdfFacts<'a>,
         none: &Renames<'a>,
-    ) -> Result<(), AllocError> {
+    ) -> Result<(), AllocError>
+        requires { renames_data none.now ≡ no_renames }
+        ensures { OnOk result (renames_data self.new
+            ≡ with_tables (compared_data old.now.ldf) (compared_data new.now.ldf) (renames_data self.old)) }
+    {
         let all = old.ldf.description.tables();
         let old_names = NameSet::of(alloc, all)?;
         let new_names = NameSet::of(alloc, new.ldf.description.tables())?;
@@ -178,7 +215,10 @@ impl<'a> Renames<'a> {
         alloc: Global,
         old: &LdfFacts<'a>,
         new: &LdfFacts<'a>,
-    ) -> Result<(), AllocError> {
+    ) -> Result<(), AllocError>
+        ensures { OnOk result (renames_data self.new
+            ≡ with_encodings (compared_data old.now.ldf) (compared_data new.now.ldf) (renames_data self.old)) }
+    {
         let all = old.ldf.codings.types.as_slice();
         let old_names = NameSet::of(alloc, all)?;
         let new_names = NameSet::of(alloc, new.ldf.codings.types.as_slice())?;
@@ -198,7 +238,10 @@ impl<'a> Renames<'a> {
         alloc: Global,
         old: &LdfFacts<'a>,
         new: &LdfFacts<'a>,
-    ) -> Result<Renames<'a>, AllocError> {
+    ) -> Result<Renames<'a>, AllocError>
+        ensures { IfOk result (λ r. renames_data r
+            ≡ all_renames (compared_data old.now.ldf) (compared_data new.now.ldf)) }
+    {
         let none = Renames::none(alloc)?;
         let mut renames = Renames::none(alloc)?;
         renames.add_nodes(alloc, old, new)?;

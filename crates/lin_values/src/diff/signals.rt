@@ -1,5 +1,17 @@
 //! The facts of signals.
 
+ghost use Rattle.std.specs.Prelude.{◌≡◌, ◌++◌, ◌∷◌, [], IfOk, OnOk, List, ℕ, filter, fold, length, map, not, option_map};
+ghost use Rattle.std.specs.Prelude.{false, true};
+ghost use Rattle.std.specs.List.{list_any};
+ghost use Rattle.lin_values.specs.NewNames.{alone, has_in, is_among, keyed_name, renames_data};
+ghost use Rattle.lin_values.specs.Numbering.{ArePlaces};
+ghost use Rattle.lin_values.specs.Renames.{all_places, place_text, signal_key, signal_keys, signal_names};
+ghost use Rattle.lin_values.specs.SignalPlaces.{number_of, with_frame, with_place, ArePlacesOf};
+ghost use Rattle.lin_values.specs.SortedTexts.{insert_text};
+ghost use Rattle.lin_values.specs.Things.{array_text, compared_data, encoding_facts, encoding_of};
+ghost use Rattle.lin_values.specs.Things.{initial_fact, is_subscriber, signal_thing, size_text};
+ghost use Rattle.lin_values.specs.Things.{value_facts, with_subscriber, AreRead};
+
 use crate::codings::CodingType;
 use crate::diff::compared::LdfFacts;
 use crate::diff::fact::{Class, Fact, Kind, Thing};
@@ -15,7 +27,9 @@ use lin_text::Many;
 use std::alloc::{AllocError, Global};
 
 /// Returns the size of a signal in bits, after `array` if it is an array.
-fn size_text<'a>(alloc: Global, signal: &Signal) -> Result<FactText<'a>, AllocError> {
+fn size_text<'a>(alloc: Global, signal: &Signal) -> Result<FactText<'a>, AllocError>
+    ensures { IfOk result (λ t. t ≡ size_text signal.now) }
+{
     let size = u64::from(signal.size.value);
     match &signal.init {
         Init::Scalar(_) => FactText::number(alloc, size),
@@ -28,7 +42,9 @@ fn size_text<'a>(alloc: Global, signal: &Signal) -> Result<FactText<'a>, AllocEr
 }
 
 /// Returns the bytes of an array as in scripts.
-fn array_text<'a>(alloc: Global, values: &[Number]) -> Result<FactText<'a>, AllocError> {
+fn array_text<'a>(alloc: Global, values: &[Number]) -> Result<FactText<'a>, AllocError>
+    ensures { IfOk result (λ t. t ≡ array_text values.now) }
+{
     let mut text = Vec::from_slice(alloc, b"x")?;
     for value in values {
         put_hex(&mut text, (value.value % 256) as u8)?;
@@ -37,7 +53,9 @@ fn array_text<'a>(alloc: Global, values: &[Number]) -> Result<FactText<'a>, Allo
 }
 
 /// Returns the initial value of a signal as in scripts.
-fn initial_fact<'a>(alloc: Global, init: &Init) -> Result<Fact<'a>, AllocError> {
+fn initial_fact<'a>(alloc: Global, init: &Init) -> Result<Fact<'a>, AllocError>
+    ensures { IfOk result (λ f. f ≡ initial_fact init.now) }
+{
     let (value, place) = match init {
         Init::Scalar(number) => {
             let text = FactText::number(alloc, u64::from(number.value))?;
@@ -49,7 +67,9 @@ fn initial_fact<'a>(alloc: Global, init: &Init) -> Result<Fact<'a>, AllocError> 
 }
 
 /// Whether an earlier fact is this subscriber.
-fn is_known(facts: &[Fact<'_>], name: &[u8]) -> bool {
+fn is_known(facts: &[Fact<'_>], name: &[u8]) -> bool
+    ensures { result ≡ list_any (is_subscriber name.now) facts.now }
+{
     facts.iter().any(|fact| fact.class.is_compatible() && fact.value.as_slice() == name)
 }
 
@@ -59,7 +79,10 @@ fn add_subscriber<'a>(
     facts: &mut Vec<Fact<'a>>,
     subscriber: &'a Name,
     renames: &Renames<'a>,
-) -> Result<(), AllocError> {
+) -> Result<(), AllocError>
+    ensures { OnOk result (facts.new.items
+        ≡ with_subscriber (renames_data renames.now) facts.old.items subscriber.now) }
+{
     let name = renames.nodes.of(subscriber.text.as_slice());
     if is_known(facts.as_slice(), name) {
         return Ok(());
@@ -70,12 +93,30 @@ fn add_subscriber<'a>(
     Ok(())
 }
 
+/// Adds the subscribers of a signal.
+fn add_subscribers<'a>(
+    alloc: Global,
+    facts: &mut Vec<Fact<'a>>,
+    subscribers: &'a [Name],
+    renames: &Renames<'a>,
+) -> Result<(), AllocError>
+    ensures { OnOk result (facts.new.items
+        ≡ fold (with_subscriber (renames_data renames.now)) facts.old.items subscribers.now) }
+{
+    for subscriber in subscribers {
+        add_subscriber(alloc, facts, subscriber, renames)?;
+    }
+    Ok(())
+}
+
 /// Returns the size of a signal, its initial value and its publisher.
 fn value_facts<'a>(
     alloc: Global,
     signal: &'a Signal,
     renames: &Renames<'a>,
-) -> Result<Vec<Fact<'a>>, AllocError> {
+) -> Result<Vec<Fact<'a>>, AllocError>
+    ensures { IfOk result (λ v. v.items ≡ value_facts (renames_data renames.now) signal.now) }
+{
     let mut found = Vec::new(alloc);
     let size = size_text(alloc, signal)?;
     let place = place_of_number(signal.size);
@@ -88,12 +129,16 @@ fn value_facts<'a>(
 }
 
 /// Adds the encoding of a signal.
+#[tactic(auto, using(crate::proofs::StatementSteps::nothing_more))]
 fn add_encoding<'a>(
     facts: &mut Vec<Fact<'a>>,
     signal: &Signal,
     encoding: Option<&'a CodingType>,
     renames: &Renames<'a>,
-) -> Result<(), AllocError> {
+) -> Result<(), AllocError>
+    ensures { OnOk result (facts.new.items ≡ facts.old.items
+        ++ encoding_facts (renames_data renames.now) signal.now (option_map (λ t. t.now) encoding.entry)) }
+{
     if let Some(encoding) = encoding {
         let value = FactText::lent(renames.encodings.of(encoding.name.text.as_slice()));
         let place = place_of(&signal.name);
@@ -103,7 +148,10 @@ fn add_encoding<'a>(
 }
 
 /// Returns the encoding of a signal.
-fn encoding_of<'a>(facts: &LdfFacts<'a>, signal: &Signal) -> Option<&'a CodingType> {
+fn encoding_of<'a>(facts: &LdfFacts<'a>, signal: &Signal) -> Option<&'a CodingType>
+    requires { AreRead facts.now }
+    ensures { option_map (λ t. t.now) result ≡ encoding_of facts.now.ldf.codings.now signal.now }
+{
     match facts.codings.encoding_of(signal.name.text.as_slice()) {
         Some(number) => facts.ldf.codings.types.as_slice().get(number),
         None => None,
@@ -116,11 +164,13 @@ fn thing<'a>(
     facts: &LdfFacts<'a>,
     signal: &'a Signal,
     renames: &Renames<'a>,
-) -> Result<Thing<'a>, AllocError> {
+) -> Result<Thing<'a>, AllocError>
+    requires { AreRead facts.now }
+    ensures { IfOk result (λ t. t
+        ≡ signal_thing (compared_data facts.now.ldf) (renames_data renames.now) signal.now) }
+{
     let mut found = value_facts(alloc, signal, renames)?;
-    for subscriber in signal.subscribers.as_slice() {
-        add_subscriber(alloc, &mut found, subscriber, renames)?;
-    }
+    add_subscribers(alloc, &mut found, signal.subscribers.as_slice(), renames)?;
     add_encoding(&mut found, signal, encoding_of(facts, signal), renames)?;
     let name = signal.name.text.as_slice();
     let names = (name, renames.signals.of(name));
@@ -133,7 +183,12 @@ pub(crate) fn things<'a>(
     alloc: Global,
     facts: &LdfFacts<'a>,
     renames: &Renames<'a>,
-) -> Result<Vec<Thing<'a>>, AllocError> {
+) -> Result<Vec<Thing<'a>>, AllocError>
+    requires { AreRead facts.now }
+    ensures { IfOk result (λ v. v.items ≡ map
+        (signal_thing (compared_data facts.now.ldf) (renames_data renames.now))
+        facts.now.ldf.description.now.signals) }
+{
     let mut things = Vec::new(alloc);
     for signal in facts.ldf.description.signals() {
         things.push(thing(alloc, facts, signal, renames)?)?;
@@ -157,28 +212,47 @@ impl<'a> Drop for Places<'a> {
     }
 }
 
+/// Adds a name that isn't among other names.
+#[tactic(auto, using(crate::proofs::StatementSteps::nothing_more))]
+fn add_alone<'a>(
+    names: &mut Vec<&'a [u8]>,
+    name: &'a [u8],
+    others: &NameSet<'_>,
+) -> Result<(), AllocError>
+    ensures { OnOk result (map (λ n. n.now) names.new.items ≡ map (λ n. n.now) names.old.items
+        ++ filter (λ n. not (has_in others.now.map n)) (name.now ∷ [])) }
+{
+    if !others.has(name) {
+        names.push(name)?;
+    }
+    Ok(())
+}
+
 /// Returns the names of signals that aren't among other names.
 fn alone<'a>(
     alloc: Global,
     signals: &'a [Signal],
     others: &NameSet<'_>,
-) -> Result<Vec<&'a [u8]>, AllocError> {
+) -> Result<Vec<&'a [u8]>, AllocError>
+    ensures { IfOk result (λ v. map (λ n. n.now) v.items
+        ≡ filter (λ n. not (has_in others.now.map n)) (map (λ s. s.name.text) signals.now)) }
+{
     let mut names = Vec::new(alloc);
     for signal in signals {
-        let name = signal.name.text.as_slice();
-        if !others.has(name) {
-            names.push(name)?;
-        }
+        add_alone(&mut names, signal.name.text.as_slice(), others)?;
     }
     Ok(names)
 }
 
 /// Returns a place: the name of a frame, and an offset in it.
+#[tactic(auto, using(crate::proofs::FactSteps::word_goes_on))]
 fn place_text<'a>(
     alloc: Global,
     frame: &[u8],
     placed: &PlacedSignal,
-) -> Result<FactText<'a>, AllocError> {
+) -> Result<FactText<'a>, AllocError>
+    ensures { IfOk result (λ t. t ≡ place_text frame.now placed.now) }
+{
     let mut text = Vec::from_slice(alloc, frame)?;
     put_word(&mut text, &[])?;
     put_number(&mut text, u64::from(placed.offset.value))?;
@@ -187,7 +261,9 @@ fn place_text<'a>(
 
 impl<'a> Places<'a> {
     /// No places of signals with these names.
-    fn new(alloc: Global, names: &[&'a [u8]]) -> Result<Places<'a>, AllocError> {
+    fn new(alloc: Global, names: &[&'a [u8]]) -> Result<Places<'a>, AllocError>
+        ensures { IfOk result (λ p. ArePlacesOf (map (λ n. n.now) names.now) (λ q. []) p) }
+    {
         let mut all = Vec::with_capacity(alloc, names.len())?;
         for _name in names {
             all.push(Many::new(Vec::new(alloc)))?;
@@ -198,12 +274,29 @@ impl<'a> Places<'a> {
         })
     }
 
-    /// Adds a place of a signal.
-    fn add(&mut self, signal: &[u8], place: FactText<'a>) -> Result<(), AllocError> {
+    /// Returns the number of a signal, or the one after the last.
+    fn number_of(&self, signal: &[u8]) -> usize
+        ensures { (names : List (List ℕ)) → ArePlaces names self.now.numbers.map
+            → length self.now.all.items ≡ length names → result ≡ number_of names signal.now }
+    {
         match self.numbers.place_of(signal) {
-            Some(number) if number < self.all.len() => insert_sorted(&mut self.all[number], place),
-            _ => Ok(()),
+            Some(number) => number,
+            None => self.all.len(),
         }
+    }
+
+    /// Adds a place of a signal.
+    fn add(&mut self, signal: &[u8], place: FactText<'a>) -> Result<(), AllocError>
+        ensures { OnOk result ((names : List (List ℕ)) (places : List ℕ → List (List ℕ))
+            → ArePlacesOf names places self.old
+            → ArePlacesOf names (with_place places signal.now place.entry) self.new) }
+    {
+        let number = self.number_of(signal);
+        if self.all.len() <= number {
+            return Ok(());
+        }
+        insert_sorted(&mut self.all[number], place)?;
+        Ok(())
     }
 
     /// Adds the places of the signals of a frame.
@@ -212,7 +305,11 @@ impl<'a> Places<'a> {
         alloc: Global,
         frame: &Frame,
         renames: &Renames<'a>,
-    ) -> Result<(), AllocError> {
+    ) -> Result<(), AllocError>
+        ensures { OnOk result ((names : List (List ℕ)) (places : List ℕ → List (List ℕ))
+            → ArePlacesOf names places self.old
+            → ArePlacesOf names (with_frame (renames_data renames.now) places frame.now) self.new) }
+    {
         let name = renames.frames.of(frame.name.text.as_slice());
         for placed in frame.placed.as_slice() {
             let place = place_text(alloc, name, placed)?;
@@ -222,11 +319,16 @@ impl<'a> Places<'a> {
     }
 
     /// Returns the places of a signal.
-    fn of(&self, signal: &[u8]) -> &[FactText<'a>] {
-        match self.numbers.place_of(signal) {
-            Some(number) if number < self.all.len() => self.all[number].as_slice(),
-            _ => &[],
+    fn of(&self, signal: &[u8]) -> &[FactText<'a>]
+        ensures { (names : List (List ℕ)) (places : List ℕ → List (List ℕ))
+            → ArePlacesOf names places self.now → is_among names signal.now ≡ true
+            → result.now ≡ places signal.now }
+    {
+        let number = self.number_of(signal);
+        if self.all.len() <= number {
+            return &[];
         }
+        self.all[number].as_slice()
     }
 }
 
@@ -236,7 +338,11 @@ fn placed_in_frames<'a>(
     facts: &LdfFacts<'a>,
     others: &NameSet<'_>,
     renames: &Renames<'a>,
-) -> Result<Places<'a>, AllocError> {
+) -> Result<Places<'a>, AllocError>
+    ensures { IfOk result (λ p. ArePlacesOf
+        (filter (λ n. not (has_in others.now.map n)) (signal_names (compared_data facts.now.ldf)))
+        (all_places (compared_data facts.now.ldf) (renames_data renames.now)) p) }
+{
     let names = alone(alloc, facts.ldf.description.signals(), others)?;
     let mut places = Places::new(alloc, names.as_slice())?;
     if names.is_empty() {
@@ -249,12 +355,16 @@ fn placed_in_frames<'a>(
 }
 
 /// Adds the key of a signal: its kind and size, and its places, if it has any.
+#[tactic(auto, using(crate::proofs::StatementSteps::nothing_more))]
 fn add_key<'a>(
     alloc: Global,
     keys: &mut Vec<Keyed<'a>>,
     signal: &'a Signal,
     places: &[FactText<'_>],
-) -> Result<(), AllocError> {
+) -> Result<(), AllocError>
+    ensures { OnOk result (map keyed_name keys.new.items
+        ≡ map keyed_name keys.old.items ++ signal_key signal.now places.now) }
+{
     if places.is_empty() {
         return Ok(());
     }
@@ -266,6 +376,27 @@ fn add_key<'a>(
     Ok(())
 }
 
+/// Adds the key of a signal, if it isn't among other names. `places` has those of the signals that aren't.
+fn add_key_if_alone<'a>(
+    alloc: Global,
+    keys: &mut Vec<Keyed<'a>>,
+    signal: &'a Signal,
+    others: &NameSet<'_>,
+    places: &Places<'_>,
+) -> Result<(), AllocError>
+    ensures { OnOk result ((names : List (List ℕ)) (all : List ℕ → List (List ℕ))
+        → ArePlacesOf names all places.now
+        → (has_in others.now.map signal.now.name.text ≡ false → is_among names signal.now.name.text ≡ true)
+        → map keyed_name keys.new.items ≡ map keyed_name keys.old.items
+        ++ alone (has_in others.now.map) (signal_key signal.now (all signal.now.name.text))) }
+{
+    let name = signal.name.text.as_slice();
+    if others.has(name) {
+        return Ok(());
+    }
+    add_key(alloc, keys, signal, places.of(name))
+}
+
 /// Returns the keys of the signals that aren't among other names and that a frame has: kind and size, and
 /// all places.
 pub(crate) fn keys<'a>(
@@ -273,14 +404,14 @@ pub(crate) fn keys<'a>(
     facts: &LdfFacts<'a>,
     others: &NameSet<'_>,
     renames: &Renames<'a>,
-) -> Result<Vec<Keyed<'a>>, AllocError> {
+) -> Result<Vec<Keyed<'a>>, AllocError>
+    ensures { IfOk result (λ v. map keyed_name v.items ≡ alone (has_in others.now.map)
+        (signal_keys (compared_data facts.now.ldf) (renames_data renames.now))) }
+{
     let places = placed_in_frames(alloc, facts, others, renames)?;
     let mut keys = Vec::new(alloc);
     for signal in facts.ldf.description.signals() {
-        let name = signal.name.text.as_slice();
-        if !others.has(name) {
-            add_key(alloc, &mut keys, signal, places.of(name))?;
-        }
+        add_key_if_alone(alloc, &mut keys, signal, others, &places)?;
     }
     Ok(keys)
 }

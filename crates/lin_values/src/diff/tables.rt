@@ -1,6 +1,19 @@
 //! The facts of schedule tables, and their entries.
 
+ghost use Rattle.std.specs.Prelude.{◌≡◌, ◌++◌, ◌∷◌, [], IfOk, OnOk, List, ℕ, flat_map, map, option_map};
+ghost use Rattle.std.specs.List.{list_any};
+ghost use Rattle.std.specs.Option.{option_map_or};
 ghost use Rattle.lin_cluster.specs.Names.{NumbersFirst};
+ghost use Rattle.lin_ldf.specs.Stream.{start_of};
+ghost use Rattle.lin_ldf.specs.Symbols.{symbols_in};
+ghost use Rattle.lin_values.specs.Facts.{place_of_name};
+ghost use Rattle.lin_values.specs.NewNames.{alone, has_in, keyed_name, renames_data};
+ghost use Rattle.lin_values.specs.Numbering.{numbered_entries};
+ghost use Rattle.lin_values.specs.Renames.{table_keys, table_keys_of, words_key};
+ghost use Rattle.lin_values.specs.Statements.{statements};
+ghost use Rattle.lin_values.specs.Things.{compared_data, entries_from, entries_in, entry_fact, entry_word};
+ghost use Rattle.lin_values.specs.Things.{has_command, lines_of_table, load_facts, section_tables};
+ghost use Rattle.lin_values.specs.Things.{slack_text, table_of, table_thing, table_thing_of, table_things, text_tables};
 
 use crate::configurable_lists::name_here;
 use crate::diff::compared::{LdfFacts, TableLoad};
@@ -38,7 +51,10 @@ impl<'a> Named for TableLines<'a> {
 }
 
 /// Adds the next table, if a table is next.
-fn add_table<'a>(parser: &Parser<'a>, tables: &mut Vec<TableLines<'a>>) -> Result<(), AllocError> {
+#[tactic(auto, using(crate::proofs::StatementSteps::nothing_more))]
+fn add_table<'a>(parser: &Parser<'a>, tables: &mut Vec<TableLines<'a>>) -> Result<(), AllocError>
+    ensures { OnOk result (tables.new.items ≡ tables.old.items ++ table_of parser.now) }
+{
     if !is_group(parser) {
         return Ok(());
     }
@@ -52,7 +68,10 @@ fn add_table<'a>(parser: &Parser<'a>, tables: &mut Vec<TableLines<'a>>) -> Resul
 fn add_tables<'a>(
     parser: &mut Parser<'a>,
     tables: &mut Vec<TableLines<'a>>,
-) -> Result<(), AllocError> {
+) -> Result<(), AllocError>
+    ensures { OnOk result
+        (tables.new.items ≡ tables.old.items ++ flat_map table_of (statements parser.old)) }
+{
     while has_line(parser) {
         add_table(parser, tables)?;
         pass_statement(parser)?;
@@ -61,10 +80,10 @@ fn add_tables<'a>(
 }
 
 /// Adds the tables of the next section, if it is `Schedule_tables`.
-fn add_section<'a>(
-    parser: &Parser<'a>,
-    tables: &mut Vec<TableLines<'a>>,
-) -> Result<(), AllocError> {
+#[tactic(auto, using(crate::proofs::StatementSteps::nothing_more))]
+fn add_section<'a>(parser: &Parser<'a>, tables: &mut Vec<TableLines<'a>>) -> Result<(), AllocError>
+    ensures { OnOk result (tables.new.items ≡ tables.old.items ++ section_tables parser.now) }
+{
     if is_group(parser) && parser.is_at_word(b"Schedule_tables") {
         return add_tables(&mut inside(parser), tables);
     }
@@ -72,8 +91,17 @@ fn add_section<'a>(
 }
 
 /// Whether a table has a configuration entry.
-fn has_command(table: &Table) -> bool {
+fn has_command(table: &Table) -> bool
+    ensures { result ≡ has_command table.now }
+{
     table.entries.as_slice().iter().any(|entry| entry.has_group)
+}
+
+/// Whether one of some tables has a configuration entry.
+fn has_commands(tables: &[Table]) -> bool
+    ensures { result ≡ list_any has_command tables.now }
+{
+    tables.iter().any(|table| has_command(table))
 }
 
 /// Returns where the entries of tables begin; no tables if none has a configuration entry.
@@ -81,9 +109,12 @@ fn text_tables<'a>(
     alloc: Global,
     source: &'a [u8],
     declared: &[Table],
-) -> Result<Vec<TableLines<'a>>, AllocError> {
+) -> Result<Vec<TableLines<'a>>, AllocError>
+    ensures { IfOk result (λ v. v.items
+        ≡ text_tables (symbols_in source.now (start_of source.now).tokens) declared.now) }
+{
     let mut tables = Vec::new(alloc);
-    if !declared.iter().any(|table| has_command(table)) {
+    if !has_commands(declared) {
         return Ok(tables);
     }
     let mut parser = Parser::new(alloc, source);
@@ -102,6 +133,7 @@ fn lines_of<'a>(
     name: &Name,
 ) -> Parser<'a>
     requires { NumbersFirst (λ l. l.name) lines.now numbers.now.map }
+    ensures { result ≡ lines_of_table lines.now name.now }
 {
     match find_by(numbers, lines, name) {
         Some(own) => own.inside.ahead(),
@@ -116,7 +148,9 @@ fn entry_word<'a>(
     entry: &'a TableEntry,
     line: &Parser<'a>,
     renames: &Renames<'a>,
-) -> Result<FactText<'a>, AllocError> {
+) -> Result<FactText<'a>, AllocError>
+    ensures { IfOk result (λ t. t ≡ entry_word (renames_data renames.now) entry.now line.now) }
+{
     if entry.has_group && has_line(line) {
         return command_text(alloc, line, renames);
     }
@@ -129,7 +163,9 @@ fn entry_fact<'a>(
     word: FactText<'a>,
     position: usize,
     entry: &TableEntry,
-) -> Result<EntryFact<'a>, AllocError> {
+) -> Result<EntryFact<'a>, AllocError>
+    ensures { IfOk result (λ e. e ≡ entry_fact word.entry position entry.now) }
+{
     Ok(EntryFact {
         word,
         again: None,
@@ -146,7 +182,10 @@ fn entries_of<'a>(
     entries: &'a [TableEntry],
     lines: Parser<'a>,
     renames: &Renames<'a>,
-) -> Result<Vec<EntryFact<'a>>, AllocError> {
+) -> Result<Vec<EntryFact<'a>>, AllocError>
+    ensures { IfOk result (λ v. v.items
+        ≡ numbered_entries (entries_from (renames_data renames.now) 0 lines.entry entries.now)) }
+{
     let mut line = lines;
     let mut found = Vec::new(alloc);
     for (position, entry) in entries.iter().enumerate() {
@@ -158,7 +197,9 @@ fn entries_of<'a>(
 }
 
 /// Returns the time that a slot leaves, or `-` and the time that is missing.
-fn slack_text<'a>(alloc: Global, load: TableLoad) -> Result<FactText<'a>, AllocError> {
+fn slack_text<'a>(alloc: Global, load: TableLoad) -> Result<FactText<'a>, AllocError>
+    ensures { IfOk result (λ t. t ≡ slack_text load) }
+{
     if load.needed_us <= load.delay_us {
         return FactText::number(alloc, load.delay_us - load.needed_us);
     }
@@ -172,7 +213,9 @@ fn load_facts<'a>(
     alloc: Global,
     load: TableLoad,
     place: Location,
-) -> Result<Vec<Fact<'a>>, AllocError> {
+) -> Result<Vec<Fact<'a>>, AllocError>
+    ensures { IfOk result (λ v. v.items ≡ load_facts load place) }
+{
     let mut found = Vec::new(alloc);
     let cycle = FactText::number(alloc, load.cycle_us)?;
     found.push(Fact::new(FactText::lent(b"cycle"), cycle, place, Class::Timing))?;
@@ -190,7 +233,9 @@ fn thing<'a>(
     load: TableLoad,
     new_name: &'a [u8],
     entries: Vec<EntryFact<'a>>,
-) -> Result<Thing<'a>, AllocError> {
+) -> Result<Thing<'a>, AllocError>
+    ensures { IfOk result (λ t. t ≡ table_thing new_name.now table.now load entries.entry.items) }
+{
     let place = place_of(&table.name);
     let found = load_facts(alloc, load, place)?;
     Ok(Thing {
@@ -204,31 +249,78 @@ fn thing<'a>(
     })
 }
 
+/// Returns the entries of a table. `lines` are where the tables of the text begin, and `numbers` has their
+/// numbers.
+fn table_entries<'a>(
+    alloc: Global,
+    table: &'a Table,
+    numbers: &Numbers<'_>,
+    lines: &[TableLines<'a>],
+    renames: &Renames<'a>,
+) -> Result<Vec<EntryFact<'a>>, AllocError>
+    requires { NumbersFirst (λ l. l.name) lines.now numbers.now.map }
+    ensures { IfOk result (λ v. v.items ≡ entries_in lines.now (renames_data renames.now) table.now) }
+{
+    let own = lines_of(alloc, numbers, lines, &table.name);
+    entries_of(alloc, table.entries.as_slice(), own, renames)
+}
+
+/// Adds a table, unless `--field` adds it.
+#[tactic(auto, using(crate::proofs::StatementSteps::nothing_more))]
+fn add_thing<'a>(
+    alloc: Global,
+    things: &mut Vec<Thing<'a>>,
+    declared: (&'a Table, TableLoad),
+    numbers: &Numbers<'_>,
+    lines: &[TableLines<'a>],
+    renames: &Renames<'a>,
+) -> Result<(), AllocError>
+    requires { NumbersFirst (λ l. l.name) lines.now numbers.now.map }
+    ensures { OnOk result (things.new.items ≡ things.old.items
+        ++ table_thing_of lines.now (renames_data renames.now) declared.entry.0.now declared.entry.1) }
+{
+    let (table, load) = declared;
+    if is_added(&table.name) {
+        return Ok(());
+    }
+    let entries = table_entries(alloc, table, numbers, lines, renames)?;
+    let new_name = renames.tables.of(table.name.text.as_slice());
+    things.push(thing(alloc, table, load, new_name, entries)?)?;
+    Ok(())
+}
+
 /// Returns the schedule tables, without those that `--field` adds.
 pub(crate) fn things<'a>(
     alloc: Global,
     facts: &LdfFacts<'a>,
     renames: &Renames<'a>,
-) -> Result<Vec<Thing<'a>>, AllocError> {
+) -> Result<Vec<Thing<'a>>, AllocError>
+    ensures { IfOk result (λ v. v.items
+        ≡ table_things (compared_data facts.now.ldf) (renames_data renames.now)) }
+{
     let tables = facts.ldf.description.tables();
     let lines = text_tables(alloc, facts.ldf.source, tables)?;
     let numbers = numbers_of(alloc, lines.as_slice())?;
     let loads = facts.ldf.loads;
     let mut things = Vec::new(alloc);
     for number in 0..tables.len().min(loads.len()) {
-        let table = &tables[number];
-        if !is_added(&table.name) {
-            let own = lines_of(alloc, &numbers, lines.as_slice(), &table.name);
-            let entries = entries_of(alloc, table.entries.as_slice(), own, renames)?;
-            let new_name = renames.tables.of(table.name.text.as_slice());
-            things.push(thing(alloc, table, loads[number], new_name, entries)?)?;
-        }
+        let declared = (&tables[number], loads[number]);
+        add_thing(
+            alloc,
+            &mut things,
+            declared,
+            &numbers,
+            lines.as_slice(),
+            renames,
+        )?;
     }
     Ok(things)
 }
 
 /// Returns the words of entries, a line for each.
-fn words_text<'a>(alloc: Global, entries: &[EntryFact<'_>]) -> Result<FactText<'a>, AllocError> {
+fn words_text<'a>(alloc: Global, entries: &[EntryFact<'_>]) -> Result<FactText<'a>, AllocError>
+    ensures { IfOk result (λ t. t ≡ words_key entries.now) }
+{
     let mut text = Vec::new(alloc);
     for entry in entries {
         text.extend_from_slice(entry.word.as_slice())?;
@@ -237,25 +329,55 @@ fn words_text<'a>(alloc: Global, entries: &[EntryFact<'_>]) -> Result<FactText<'
     FactText::copied(alloc, text.as_slice())
 }
 
+/// Adds the key of a table that isn't among other names, unless `--field` adds it.
+#[tactic(auto, using(crate::proofs::StatementSteps::nothing_more))]
+fn add_key<'a>(
+    alloc: Global,
+    keys: &mut Vec<Keyed<'a>>,
+    declared: (&'a Table, &NameSet<'_>),
+    numbers: &Numbers<'_>,
+    lines: &[TableLines<'a>],
+    renames: &Renames<'a>,
+) -> Result<(), AllocError>
+    requires { NumbersFirst (λ l. l.name) lines.now numbers.now.map }
+    ensures { OnOk result (map keyed_name keys.new.items ≡ map keyed_name keys.old.items
+        ++ alone (has_in declared.entry.1.now.map)
+        (table_keys_of lines.now (renames_data renames.now) declared.entry.0.now)) }
+{
+    let (table, others) = declared;
+    let name = table.name.text.as_slice();
+    if is_added(&table.name) || others.has(name) {
+        return Ok(());
+    }
+    let entries = table_entries(alloc, table, numbers, lines, renames)?;
+    let key = words_text(alloc, entries.as_slice())?;
+    keys.push(Keyed { name, key })?;
+    Ok(())
+}
+
 /// Returns the keys of the tables that aren't among other names: the words of their entries.
 pub(crate) fn keys<'a>(
     alloc: Global,
     facts: &LdfFacts<'a>,
     others: &NameSet<'_>,
     renames: &Renames<'a>,
-) -> Result<Vec<Keyed<'a>>, AllocError> {
+) -> Result<Vec<Keyed<'a>>, AllocError>
+    ensures { IfOk result (λ v. map keyed_name v.items ≡ alone (has_in others.now.map)
+        (table_keys (compared_data facts.now.ldf) (renames_data renames.now))) }
+{
     let tables = facts.ldf.description.tables();
     let lines = text_tables(alloc, facts.ldf.source, tables)?;
     let numbers = numbers_of(alloc, lines.as_slice())?;
     let mut keys = Vec::new(alloc);
     for table in tables {
-        let name = table.name.text.as_slice();
-        if !others.has(name) && !is_added(&table.name) {
-            let own = lines_of(alloc, &numbers, lines.as_slice(), &table.name);
-            let entries = entries_of(alloc, table.entries.as_slice(), own, renames)?;
-            let key = words_text(alloc, entries.as_slice())?;
-            keys.push(Keyed { name, key })?;
-        }
+        add_key(
+            alloc,
+            &mut keys,
+            (table, others),
+            &numbers,
+            lines.as_slice(),
+            renames,
+        )?;
     }
     Ok(keys)
 }

@@ -1,6 +1,20 @@
 //! Values that are tokens of an LDF: those of attributes, of lines of the header, and of configuration
 //! entries.
 
+ghost use Rattle.std.specs.Prelude.{◌≡◌, ◌&&◌, ◌||◌, ◌∷◌, [], Some, IfOk, OnOk, fold};
+ghost use Rattle.lin_ldf.specs.Forms.{front, tail};
+ghost use Rattle.lin_ldf.specs.Grammar.{without_quotes};
+ghost use Rattle.lin_ldf.specs.Stream.{start_of};
+ghost use Rattle.lin_ldf.specs.Symbols.{is_kind, symbols_in};
+ghost use Rattle.lin_ldf.specs.UpTo.{front_kind};
+ghost use Rattle.lin_ldf.specs.declared.token.TokenKind.TheVariants.{CloseBrace, Comma, Semicolon};
+ghost use Rattle.lin_values.specs.FactTexts.{with_word};
+ghost use Rattle.lin_values.specs.NewNames.{renames_data};
+ghost use Rattle.lin_values.specs.Texts.{shown_text};
+ghost use Rattle.lin_values.specs.TokenTexts.{command_text, group_words, header_lines, number_token};
+ghost use Rattle.lin_values.specs.TokenTexts.{quoted, spelled, token_text, tokens_until, tokens_words};
+ghost use Rattle.lin_values.specs.TokenTexts.{value_text};
+
 use crate::attribute_blocks::{Attribute, attribute_here};
 use crate::attribute_values::if_read;
 use crate::diff::fact_text::{FactText, put_number, put_word};
@@ -27,7 +41,9 @@ pub(crate) enum Spelling<'n, 'a> {
 }
 
 impl<'n, 'a> Spelling<'n, 'a> {
-    fn leaves_out(self, kind: TokenKind) -> bool {
+    fn leaves_out(self, kind: TokenKind) -> bool
+        ensures { result ≡ ((spelled self.entry).has_decimals && is_kind Comma kind) }
+    {
         match self {
             Spelling::Numbers => kind == TokenKind::Comma,
             _ => false,
@@ -35,7 +51,9 @@ impl<'n, 'a> Spelling<'n, 'a> {
     }
 
     /// Returns a word as it is written.
-    fn word(self, word: &'a [u8]) -> &'a [u8] {
+    fn word(self, word: &'a [u8]) -> &'a [u8]
+        ensures { result.now ≡ (spelled self.entry).word word.now }
+    {
         match self {
             Spelling::AsTheyAre | Spelling::Numbers => word,
             Spelling::Frames(renames) => renames.frames.of(word),
@@ -44,7 +62,9 @@ impl<'n, 'a> Spelling<'n, 'a> {
         }
     }
 
-    fn has_decimals(self) -> bool {
+    fn has_decimals(self) -> bool
+        ensures { result ≡ (spelled self.entry).has_decimals }
+    {
         match self {
             Spelling::Numbers => true,
             _ => false,
@@ -53,7 +73,9 @@ impl<'n, 'a> Spelling<'n, 'a> {
 }
 
 /// Returns what is between the quotes of a text.
-pub(crate) fn between_quotes(text: &[u8]) -> &[u8] {
+pub(crate) fn between_quotes(text: &[u8]) -> &[u8]
+    ensures { result.now ≡ without_quotes text.now }
+{
     if text.len() < 2 {
         &[]
     } else {
@@ -62,7 +84,11 @@ pub(crate) fn between_quotes(text: &[u8]) -> &[u8] {
 }
 
 /// Puts a text in quotes, as it is shown.
-fn put_quoted(text: &mut Vec<u8>, alloc: Global, token: &[u8]) -> Result<(), AllocError> {
+#[tactic(auto, using(crate::proofs::FactSteps::word_goes_on))]
+fn put_quoted(text: &mut Vec<u8>, alloc: Global, token: &[u8]) -> Result<(), AllocError>
+    ensures { OnOk result
+        (text.new.items ≡ with_word text.old.items (quoted (shown_text (without_quotes token.now)))) }
+{
     let shown = shown_text(alloc, between_quotes(token))?;
     put_word(text, b"\"")?;
     text.extend_from_slice(shown.as_slice())?;
@@ -71,7 +97,10 @@ fn put_quoted(text: &mut Vec<u8>, alloc: Global, token: &[u8]) -> Result<(), All
 }
 
 /// Puts a number: an integer of up to 32 bits in decimal, any other as the LDF has it.
-fn put_decimal_token(text: &mut Vec<u8>, parser: &Parser<'_>) -> Result<(), AllocError> {
+#[tactic(auto, using(crate::proofs::FactSteps::word_goes_on))]
+fn put_decimal_token(text: &mut Vec<u8>, parser: &Parser<'_>) -> Result<(), AllocError>
+    ensures { OnOk result (text.new.items ≡ with_word text.old.items (number_token parser.now)) }
+{
     let mut ahead = parser.ahead();
     match if_read(ahead.int())? {
         Some(number) => {
@@ -83,7 +112,9 @@ fn put_decimal_token(text: &mut Vec<u8>, parser: &Parser<'_>) -> Result<(), Allo
 }
 
 /// Whether a token ends a group, or a value that ends at a semicolon.
-fn ends_group(kind: TokenKind, ends_at_semicolon: bool) -> bool {
+fn ends_group(kind: TokenKind, ends_at_semicolon: bool) -> bool
+    ensures { result ≡ (is_kind CloseBrace kind || ends_at_semicolon && is_kind Semicolon kind) }
+{
     kind == TokenKind::CloseBrace || ends_at_semicolon && kind == TokenKind::Semicolon
 }
 
@@ -93,7 +124,11 @@ fn put_token<'a>(
     parser: &Parser<'a>,
     kind: TokenKind,
     spelling: Spelling<'_, 'a>,
-) -> Result<(), AllocError> {
+) -> Result<(), AllocError>
+    requires { front_kind parser.now ≡ Some kind }
+    ensures { OnOk result
+        (text.new.items ≡ with_word text.old.items (token_text (spelled spelling.entry) (front parser.now))) }
+{
     match kind {
         TokenKind::Text => put_quoted(text, parser.alloc(), parser.text()),
         TokenKind::Word => put_word(text, spelling.word(parser.text())),
@@ -102,23 +137,43 @@ fn put_token<'a>(
     }
 }
 
+/// Puts the next token, unless it is left out.
+#[tactic(auto, using(crate::proofs::TokenSteps::putting_one))]
+fn put_next<'a>(
+    text: &mut Vec<u8>,
+    parser: &Parser<'a>,
+    kind: TokenKind,
+    spelling: Spelling<'_, 'a>,
+) -> Result<(), AllocError>
+    requires { front_kind parser.now ≡ Some kind }
+    ensures { OnOk result (text.new.items ≡ fold with_word text.old.items
+        (tokens_words (spelled spelling.entry) (front parser.now ∷ []))) }
+{
+    if spelling.leaves_out(kind) {
+        return Ok(());
+    }
+    put_token(text, parser, kind, spelling)
+}
+
 /// Puts the tokens up to the brace that closes the group, or up to a semicolon outside of braces if that
 /// ends them.
+#[tactic(auto, using(crate::proofs::TokenSteps::putting))]
 fn put_tokens<'a>(
     text: &mut Vec<u8>,
     parser: &mut Parser<'a>,
     ends_at_semicolon: bool,
     spelling: Spelling<'_, 'a>,
-) -> Result<(), AllocError> {
+) -> Result<(), AllocError>
+    ensures { OnOk result (text.new.items ≡ fold with_word text.old.items
+        (tokens_words (spelled spelling.entry) (tokens_until ends_at_semicolon 0 parser.old))) }
+{
     let left = parser.left();
     let mut depth = 0usize;
     while let Some(kind) = parser.front_kind() {
         if depth == 0 && ends_group(kind, ends_at_semicolon) {
             return Ok(());
         }
-        if !spelling.leaves_out(kind) {
-            put_token(text, parser, kind, spelling)?;
-        }
+        put_next(text, parser, kind, spelling)?;
         depth = depth_behind(depth, kind);
         parser.skip();
     }
@@ -130,7 +185,10 @@ fn put_group<'a>(
     text: &mut Vec<u8>,
     parser: &mut Parser<'a>,
     spelling: Spelling<'_, 'a>,
-) -> Result<(), AllocError> {
+) -> Result<(), AllocError>
+    ensures { OnOk result (text.new.items
+        ≡ fold with_word text.old.items (group_words (spelled spelling.entry) parser.old)) }
+{
     put_word(text, b"{")?;
     parser.skip();
     put_tokens(text, parser, false, spelling)?;
@@ -142,7 +200,9 @@ pub(crate) fn value_text<'a>(
     alloc: Global,
     attribute: &Attribute<'a>,
     spelling: Spelling<'_, 'a>,
-) -> Result<FactText<'a>, AllocError> {
+) -> Result<FactText<'a>, AllocError>
+    ensures { IfOk result (λ t. t ≡ value_text (spelled spelling.entry) (tail attribute.now)) }
+{
     let mut text = Vec::new(alloc);
     let mut parser = attribute.value();
     if parser.is_at(TokenKind::OpenBrace) {
@@ -164,7 +224,9 @@ pub(crate) fn command_text<'a>(
     alloc: Global,
     entry: &Parser<'a>,
     renames: &Renames<'a>,
-) -> Result<FactText<'a>, AllocError> {
+) -> Result<FactText<'a>, AllocError>
+    ensures { IfOk result (λ t. t ≡ command_text (renames_data renames.now) entry.now) }
+{
     let mut text = Vec::from_slice(alloc, entry.text())?;
     let mut parser = entry.ahead();
     parser.skip();
@@ -173,10 +235,16 @@ pub(crate) fn command_text<'a>(
 }
 
 /// Returns the lines of a header: the statements of an LDF before its first section.
-pub(crate) fn header_lines(alloc: Global, source: &[u8]) -> Result<Vec<Attribute<'_>>, AllocError> {
+pub(crate) fn header_lines(alloc: Global, source: &[u8]) -> Result<Vec<Attribute<'_>>, AllocError>
+    ensures { IfOk result (λ lines. lines.items
+        ≡ header_lines (symbols_in source.now (start_of source.now).tokens)) }
+{
     let mut lines = Vec::new(alloc);
     let mut parser = Parser::new(alloc, source);
-    while has_line(&parser) && !is_group(&parser) {
+    while has_line(&parser) {
+        if is_group(&parser) {
+            return Ok(lines);
+        }
         lines.push(attribute_here(&parser))?;
         pass_statement(&mut parser)?;
     }

@@ -1,0 +1,17 @@
+use Rattle.std.proofs.Common.{◌≡◌, ◌∙◌, [], List, map, ap}
+use Rattle.std.proofs.lemmas.List.{take_all}
+use denote.Ref.{Bor}
+use Rattle.lin_values.specs.NewNames.{renames_data}
+use Rattle.lin_values.specs.Things.{encoding_thing, first_types}
+use Rattle.lin_values.specs.declared.codings.CodingType.{CodingType}
+use Rattle.lin_values.specs.declared.diff.fact.Thing.{Thing}
+use Rattle.lin_values.proofs.FactSteps.{mapped-lent}
+use Rattle.lin_values.proofs.diff.encodings.things.Goals as goal
+
+pub returns : goal.returns
+returns c =
+    let of : CodingType → Thing = encoding_thing (renames_data c.args.renames.now) in
+    c.loop-coding.invariant
+    ∙ ap (λ (ts : List (Bor CodingType)). map (λ t. of t.now) ts) (take_all c.loop-coding.coding-index c.as_slice-coding-items.result.now c.loop-coding-test.false)
+    ∙ mapped-lent of c.as_slice-coding-items.result.now
+    ∙ ap (λ (ts : List (Bor CodingType)). map of (map (λ t. t.now) ts)) c.as_slice-coding-items.ensures.value ∙ ap (map of) (c.in_ok-types.ensures ∙ ap (first_types []) c.as_slice.ensures)

@@ -1,0 +1,106 @@
+-- Values that are tokens of an LDF: those of attributes and of lines of the header, and the groups of
+-- configuration entries (LIN 2.2A, sections 9.1, 9.2.2.2 and 9.2.5).
+use Rattle.std.specs.Prelude.{ℕ, ◌==◌, ◌&&◌, ◌||◌, ◌++◌, Bool, true, false, List, [], ◌∷◌, codes, filter}
+use Rattle.std.specs.Prelude.{if◌then◌else◌, map, not, take_while}
+use Rattle.std.specs.Fmt.{decimal}
+use Rattle.std.specs.Option.{option_map_or}
+use Rattle.lin_ldf.specs.Forms.{front, tail}
+use Rattle.lin_ldf.specs.Loops.{is_next}
+use Rattle.lin_ldf.specs.Grammar.{without_quotes}
+use Rattle.lin_ldf.specs.Symbols.{Symbol, is_kind}
+use Rattle.lin_ldf.specs.Words.{int}
+use Rattle.lin_ldf.specs.declared.token.TokenKind.TheVariants as kinds
+use Rattle.lin_values.specs.FactTexts.{joined}
+use Rattle.lin_values.specs.NewNames.{any_name, name_in, renames_data, RenamesData}
+use Rattle.lin_values.specs.Passed.{brace_depth}
+use Rattle.lin_values.specs.Statements.{is_group, statements}
+use Rattle.lin_values.specs.Texts.{shown_text}
+use Rattle.lin_values.specs.declared.diff.tokens.Spelling.{Spelling}
+use Rattle.lin_values.specs.declared.diff.tokens.Spelling.TheVariants as spellings
+
+-- how words are written, and whether numbers are decimal and commas are ignored
+pub record Spelled : Type 0 where
+  pub word : List ℕ → List ℕ
+  pub has_decimals : Bool
+
+abbrev pub as_they_are : Spelled
+as_they_are = record { word = λ w. w; has_decimals = false }
+
+abbrev pub numbers : Spelled
+numbers = record { word = λ w. w; has_decimals = true }
+
+abbrev pub of_frames : RenamesData → Spelled
+of_frames r = record { word = name_in r.frames; has_decimals = false }
+
+abbrev pub of_signals : RenamesData → Spelled
+of_signals r = record { word = name_in r.signals; has_decimals = false }
+
+abbrev pub of_all : RenamesData → Spelled
+of_all r = record { word = any_name r; has_decimals = false }
+
+-- ---- a token: a text in its quotes as it is shown, a word as it is written
+
+abbrev pub quoted : List ℕ → List ℕ
+quoted shown = 34 ∷ (shown ++ 34 ∷ [])
+
+-- an integer of up to 32 bits is decimal
+abbrev pub number_token : List Symbol → List ℕ
+number_token ts = option_map_or (λ r. decimal r.0.value) (int.read ts) (front ts).text
+
+abbrev pub token_text : Spelled → Symbol → List ℕ
+token_text s t =
+    if is_kind kinds.Text t.kind then quoted (shown_text (without_quotes t.text))
+    else if is_kind kinds.Word t.kind then s.word t.text
+    else if s.has_decimals && is_kind kinds.Number t.kind then number_token (t ∷ [])
+    else t.text
+
+-- (without commas where numbers are decimal)
+abbrev pub tokens_words : Spelled → List Symbol → List (List ℕ)
+tokens_words s ts =
+    map (token_text s) (filter (λ t. not (s.has_decimals && is_kind kinds.Comma t.kind)) ts)
+
+-- ---- values
+
+-- up to the brace that closes the group, or up to a semicolon outside of braces if that ends the value; n braces
+-- are open
+abbrev pub tokens_until : Bool → ℕ → List Symbol → List Symbol
+tokens_until at_semicolon n [] = []
+tokens_until at_semicolon n (t ∷ ts) =
+    if n == 0 && (is_kind kinds.CloseBrace t.kind || at_semicolon && is_kind kinds.Semicolon t.kind)
+    then []
+    else t ∷ tokens_until at_semicolon (brace_depth n t.kind) ts
+
+-- a group, from its opening brace on
+abbrev pub group_words : Spelled → List Symbol → List (List ℕ)
+group_words s ts = codes "{" ∷ tokens_words s (tokens_until false 0 (tail ts)) ++ codes "}" ∷ []
+
+abbrev pub without_equals : List Symbol → List Symbol
+without_equals ts = if is_next kinds.Equals ts then tail ts else ts
+
+abbrev pub or_yes : List ℕ → List ℕ
+or_yes [] = codes "yes"
+or_yes (b ∷ bs) = b ∷ bs
+
+-- the value of an attribute or a line, from behind its word on
+abbrev pub value_text : Spelled → List Symbol → List ℕ
+value_text s ts =
+    if is_next kinds.OpenBrace ts then joined (group_words s ts)
+    else or_yes (joined (tokens_words s (tokens_until true 0 (without_equals ts))))
+
+-- a configuration entry, from its word on
+abbrev pub command_text : RenamesData → List Symbol → List ℕ
+command_text r ts = joined ((front ts).text ∷ group_words (of_all r) (tail ts))
+
+-- ---- what contracts see of the code's type
+
+abbrev pub spelled : Spelling → Spelled
+spelled spellings.AsTheyAre = as_they_are
+spelled spellings.Numbers = numbers
+spelled (spellings.Frames r) = of_frames (renames_data r.now)
+spelled (spellings.Signals r) = of_signals (renames_data r.now)
+spelled (spellings.Names r) = of_all (renames_data r.now)
+
+-- ---- the lines of the header: the statements before the first section
+
+abbrev pub header_lines : List Symbol → List (List Symbol)
+header_lines ts = take_while (λ us. not (is_group us)) (statements ts)
