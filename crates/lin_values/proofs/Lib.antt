@@ -67,4 +67,9 @@ pub mod TableSteps
 pub mod HeaderLines
 pub mod PlacesOfSignals
 pub mod TextNumbers
+pub mod MovedLaws
+pub mod FoundTexts
+pub mod EntryOrder
+pub mod Silence
+pub mod KeptThings
 pub mod SignalEncodings

@@ -48,4 +48,5 @@ pub mod Renames
 pub mod Lookups
 pub mod SignalPlaces
 pub mod Differences
+pub mod DiffLaws
 pub mod Moved

@@ -61,7 +61,7 @@ pub use diff::{
     compared_things, differences,
 };
 pub use encoding::{Coding, Encoding, Range, Traits};
-pub use law::shown_is_read;
+pub use law::{shown_is_read, silence_is_sameness, silence_keeps_bytes, silence_keeps_times};
 pub use meaning::{Meaning, put_meaning, put_plain, shown};
 pub use raws::Raws;
 pub use script_decimals::{number_and_unit, read_decimal};
