@@ -12,3 +12,4 @@ pub mod Openings
 pub mod laws
 pub mod Remaining
 pub mod FaultTexts
+pub mod Differing

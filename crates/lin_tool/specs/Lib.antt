@@ -1,6 +1,7 @@
 pub mod Clusters
 pub mod Coding
 pub mod Comparing
+pub mod Diffing
 pub mod Field
 pub mod Formats
 pub mod Junit

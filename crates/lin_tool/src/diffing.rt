@@ -1,5 +1,14 @@
 //! `linsim diff`: what differs between two LDFs.
 
+ghost use Rattle.std.specs.Prelude.{◌≡◌, ◌≤◌, List, ℕ, IfOk, true};
+ghost use Rattle.lin_ldf.specs.Describes.{Describes};
+ghost use Rattle.lin_tool.specs.Clusters.{AnswersText, IsSaidBy};
+ghost use Rattle.lin_tool.specs.Diffing.{differences_of, read_data, ReadsCluster, ReadsField};
+ghost use Rattle.lin_tool.specs.Diffing.{ReadsLdf, ReadsStandard, WritesCompared};
+ghost use Rattle.lin_tool.specs.Levels.{is_in_ranges};
+ghost use Rattle.lin_values.specs.Differences.{differences_data};
+ghost use Rattle.lin_values.specs.Things.{compared_data};
+
 use crate::checking::text_at;
 use crate::describing::{Reading, description_of};
 use crate::fault::Fault;
@@ -14,14 +23,17 @@ use lin_ldf::UnknownWords;
 use lin_parts::Cluster;
 use lin_parts::description::Description;
 use lin_text::Many;
-use lin_values::{Codings, ComparedLdf, TableLoad, compared_things, differences, read_codings};
+use lin_values::{
+    Codings, ComparedLdf, Difference, TableLoad, compared_things, differences, read_codings,
+};
 use std::alloc::{AllocError, Global};
 use std::fs::Files;
-use std::io;
+use std::io::{self, Write};
 
 /// An LDF that describes a cluster.
 #[derive(Drop)]
 struct ReadLdf {
+    /// Without what `--field` ignores.
     text: Vec<u8>,
     description: Description,
     cluster: Cluster,
@@ -31,7 +43,9 @@ struct ReadLdf {
 
 impl ReadLdf {
     /// Returns what is compared.
-    fn compared(&self) -> ComparedLdf<'_> {
+    fn compared(&self) -> ComparedLdf<'_>
+        ensures { compared_data result ≡ read_data self.now }
+    {
         ComparedLdf {
             source: self.text.as_slice(),
             description: &self.description,
@@ -42,19 +56,42 @@ impl ReadLdf {
     }
 }
 
-/// Returns the description of an LDF of LIN 2.1 or 2.2, and its cluster.
-fn standard_cluster(alloc: Global, text: &[u8]) -> Result<(Description, Cluster), Fault> {
-    let description = description_of(alloc, text, &mut UnknownWords::new(alloc))?;
-    let Examined { found, models } = examine(alloc, &description)?;
-    if !found.as_slice().is_empty() {
-        return Err(Fault::Findings(Findings(Many::new(found))));
+/// Returns the cluster of a description.
+///
+/// # Errors
+/// `Findings` for all errors in the description; `OutOfMemory`.
+fn described_cluster(alloc: Global, description: &Description) -> Result<Cluster, Fault>
+    ensures said { IfOk result (IsSaidBy description.now) }
+    ensures answers { (text : List ℕ) → Describes text description.now → AnswersText result text }
+{
+    let Examined { found, models } = examine(alloc, description)?;
+    if found.as_slice().is_empty() {
+        Ok(cluster_of(alloc, description, models.as_slice())?)
+    } else {
+        Err(Fault::Findings(Findings(Many::new(found))))
     }
-    let cluster = cluster_of(alloc, &description, models.as_slice())?;
+}
+
+/// Returns the description of an LDF of LIN 2.1 or 2.2, and its cluster.
+///
+/// # Errors
+/// `Ldf`, `Findings`, `OutOfMemory`.
+fn standard_cluster(alloc: Global, text: &[u8]) -> Result<(Description, Cluster), Fault>
+    ensures { ReadsStandard result text.now }
+{
+    let description = description_of(alloc, text, &mut UnknownWords::new(alloc))?;
+    let cluster = described_cluster(alloc, &description)?;
     Ok((description, cluster))
 }
 
-/// Returns the normalized description of an LDF that `--field` accepts, and its cluster.
-fn field_cluster(alloc: Global, text: &mut [u8]) -> Result<(Description, Cluster), Fault> {
+/// Returns the normalized description of an LDF that `--field` accepts, and its cluster. In the text, what
+/// `--field` ignores becomes spaces.
+///
+/// # Errors
+/// `Ldf`, `Remarks`, `OutOfMemory`.
+fn field_cluster(alloc: Global, text: &mut [u8]) -> Result<(Description, Cluster), Fault>
+    ensures { ReadsField result text.old text.new }
+{
     let settled = settled_of(alloc, text)?;
     let Checked {
         cluster,
@@ -68,6 +105,24 @@ fn field_cluster(alloc: Global, text: &mut [u8]) -> Result<(Description, Cluster
         byte_order: _order,
     } = settled;
     Ok((description, cluster))
+}
+
+/// Returns the description of an LDF, and its cluster.
+///
+/// # Errors
+/// `Ldf` for the first fault of the text; `Findings`, or `Remarks` if it is read as `--field` does, for all
+/// errors in its description; `OutOfMemory`.
+fn read_cluster(
+    alloc: Global,
+    text: &mut [u8],
+    reading: Reading,
+) -> Result<(Description, Cluster), Fault>
+    ensures { ReadsCluster reading result text.old text.new }
+{
+    match reading {
+        Reading::Plain => standard_cluster(alloc, text),
+        Reading::Field => field_cluster(alloc, text),
+    }
 }
 
 /// Keeps where an LDF has a fault or findings.
@@ -84,21 +139,19 @@ fn note_fault(
     }
 }
 
-/// Reads an LDF.
-fn read<'a, R: AllocGlobal + Files + Input>(
-    rt: &R,
-    path: &'a str,
+/// Returns what an LDF says. The notes keep where it has a fault or findings.
+///
+/// # Errors
+/// Those of `read_cluster`.
+fn read_ldf(
+    alloc: Global,
+    mut text: Vec<u8>,
     reading: Reading,
-    notes: &mut Notes<'a>,
-) -> Result<ReadLdf, Fault> {
-    let alloc = rt.alloc();
-    notes.wanted.file = Some(path);
-    let mut text = text_at(rt, path)?;
-    let read = match reading {
-        Reading::Plain => standard_cluster(alloc, text.as_slice()),
-        Reading::Field => field_cluster(alloc, text.as_mut_slice()),
-    };
-    match read {
+    notes: &mut Notes<'_>,
+) -> Result<ReadLdf, Fault>
+    ensures { ReadsLdf reading result text.items }
+{
+    match read_cluster(alloc, text.as_mut_slice(), reading) {
         Ok((description, cluster)) => Ok(ReadLdf {
             codings: read_codings(alloc, text.as_slice())?,
             loads: table_loads(alloc, &cluster)?,
@@ -116,8 +169,68 @@ fn read<'a, R: AllocGlobal + Files + Input>(
     }
 }
 
-/// No warning is reported.
-fn all_allowed(alloc: Global) -> Result<Levels, AllocError> {
+/// Reads the LDF in a file. If the path is `-`, it is read from standard input.
+///
+/// # Errors
+/// `LdfTooLong`, `ReadFailed`, and those of `read_ldf`.
+fn read<'a, R: AllocGlobal + Files + Input>(
+    rt: &R,
+    path: &'a str,
+    reading: Reading,
+    notes: &mut Notes<'a>,
+) -> Result<ReadLdf, Fault> {
+    notes.wanted.file = Some(path);
+    let text = text_at(rt, path)?;
+    read_ldf(rt.alloc(), text, reading, notes)
+}
+
+/// Writes a line for each difference of these classes.
+///
+/// # Errors
+/// `WriteFailed`, where what was written is the beginning of the lines; `Differs` after all lines, if there
+/// is one.
+fn write_found<W: Write>(
+    files: (&str, &str),
+    found: &[Difference<'_>],
+    classes: Classes,
+    writer: &mut W,
+) -> Result<(), Fault>
+    ensures { WritesCompared files.entry.0.now files.entry.1.now classes (differences_data found.now) result
+        (W.contents writer.old) (W.contents writer.new) }
+{
+    write_differences(files.0, files.1, found, classes, writer)?;
+    if is_any_listed(found, classes) {
+        Err(Fault::Differs)
+    } else {
+        Ok(())
+    }
+}
+
+/// Writes a line for each difference of these classes between two LDFs, which are in these files.
+///
+/// # Errors
+/// `OutOfMemory`, after which nothing was written; those of `write_found`.
+fn write_compared<W: Write>(
+    alloc: Global,
+    files: (&str, &str),
+    old: &ReadLdf,
+    new: &ReadLdf,
+    classes: Classes,
+    writer: &mut W,
+) -> Result<(), Fault>
+    ensures { WritesCompared files.entry.0.now files.entry.1.now classes
+        (differences_of (read_data old.now) (read_data new.now)) result
+        (W.contents writer.old) (W.contents writer.new) }
+{
+    let (olds, news) = compared_things(alloc, old.compared(), new.compared())?;
+    let found = differences(alloc, olds.as_slice(), news.as_slice())?;
+    write_found(files, found.as_slice(), classes, writer)
+}
+
+/// Returns levels by which no warning is reported.
+fn all_allowed(alloc: Global) -> Result<Levels, AllocError>
+    ensures { IfOk result (λ l. (n : ℕ) → n ≤ 255 → is_in_ranges l.allowed n ≡ true) }
+{
     let mut allowed = Vec::new(alloc);
     allowed.push(NumberRange {
         first: 0,
@@ -148,13 +261,12 @@ pub fn diff<'a, R: AllocGlobal + Files + Input + Print>(
     notes.levels = all_allowed(alloc)?;
     let old = read(rt, old_path, reading, notes)?;
     let new = read(rt, new_path, reading, notes)?;
-    let (olds, news) = compared_things(alloc, old.compared(), new.compared())?;
-    let found = differences(alloc, olds.as_slice(), news.as_slice())?;
-    let found = found.as_slice();
-    write_differences(old_path, new_path, found, classes, &mut io::writer(rt))?;
-    if is_any_listed(found, classes) {
-        Err(Fault::Differs)
-    } else {
-        Ok(())
-    }
+    write_compared(
+        alloc,
+        (old_path, new_path),
+        &old,
+        &new,
+        classes,
+        &mut io::writer(rt),
+    )
 }
