@@ -29,6 +29,7 @@ pub mod DueFew
 pub mod Few
 pub mod Unders
 pub mod Benches
+pub mod Back
 pub mod Rows
 pub mod Places
 pub mod HeardLinks

@@ -24,6 +24,7 @@ pub mod Making
 pub mod Adding
 pub mod RuleLaws
 pub mod Bench
+pub mod Marks
 pub mod Strict
 pub mod Played
 pub mod Plays

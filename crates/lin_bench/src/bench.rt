@@ -1,8 +1,8 @@
 //! Benches in hand.
 
-ghost use Rattle.std.specs.Prelude.{◌≡◌, [], IfOk, OnOk, count_by, not, option_map};
+ghost use Rattle.std.specs.Prelude.{◌≡◌, ◌≤◌, ◌<◌, [], IfOk, OnOk, count_by, length, not, option_map};
 ghost use Rattle.lin_bench.specs.Bench.{early_end};
-ghost use Rattle.lin_core.specs.Core.{past_of};
+ghost use Rattle.lin_core.specs.Core.{IsAlike, past_of};
 ghost use Rattle.lin_bench.specs.Made.{expected_after, met_or};
 ghost use Rattle.lin_bench.specs.Making.{ending_of};
 ghost use Rattle.lin_bench.specs.RulesInForce.{lines_of_rules};
@@ -16,6 +16,7 @@ use crate::fault::MakeFault;
 use crate::faults::ArmedFault;
 use crate::got::{Pending, Verdict};
 use crate::line::{Disturbance, Extent, ScriptLine, Slots};
+use crate::marks::Mark;
 use crate::ruled::{RuledCore, pending};
 use crate::rules_in_force::lines_of_rules;
 use crate::slot_runs::{Ending, SLOT_LIMIT, slots};
@@ -105,7 +106,8 @@ fn early_end(early: Early, expected: &Option<Expected>) -> Option<Ending<'_>>
 impl Bench {
     ghost use Rattle.lin_bench.specs.Bench.{GivesVerdict, MakesBench, MakesLine, forgotten, new_bench, fresh_under};
     ghost use Rattle.lin_bench.specs.Bench.{made_early};
-    ghost use Rattle.lin_bench.specs.Bench.{with_all_slots};
+    ghost use Rattle.lin_bench.specs.Bench.{state_of, with_all_slots};
+    ghost use Rattle.lin_bench.specs.Marks.{IsMarkOf, state_at};
 
     /// A bench over a core with an empty log, on which no rule is in force. Its lines of slots may
     /// make 1,000,000 slots.
@@ -123,11 +125,7 @@ impl Bench {
     {
         Bench {
             ruled: RuledCore::new(alloc, core, faults),
-            taken: TakenEvents {
-                forgotten: 0,
-                searches: Vec::new(alloc),
-                cleared: Cleared::of(0),
-            },
+            taken: TakenEvents::none(alloc),
             left: SLOT_LIMIT,
         }
     }
@@ -171,6 +169,47 @@ impl Bench {
             ≡ lines_of_rules self.now.core.cluster self.now.rules) }
     {
         lines_of_rules(alloc, self.core().cluster(), self.ruled.rules())
+    }
+
+    /// Returns a mark of the bench as it is. An error means out of memory.
+    pub fn mark(&self, alloc: Global) -> Result<Mark, AllocError>
+        ensures mark { IfOk result (IsMarkOf self.now.core.log) }
+        ensures state { IfOk result (λ mark. state_at self.now.core.log mark ≡ state_of (with_all_slots self.now)) }
+    {
+        Ok(Mark {
+            entries: self.core().log().len(),
+            rules: self.ruled.rules().copy(alloc)?,
+            taken: self.taken.copy(alloc)?,
+        })
+    }
+
+    /// Returns the bench as it was at a mark, of which lines may make 1,000,000 slots. The steps up to the
+    /// mark are made again on the cluster, whose schedule opens with this table. At most `capacity` messages
+    /// of a host wait. An error means out of memory, and the bench is dropped.
+    pub fn back(
+        self,
+        alloc: Global,
+        table: u16,
+        capacity: usize,
+        mark: &Mark,
+    ) -> Result<Bench, AllocError>
+        requires mark { IsMarkOf self.core.log mark.now }
+        requires table { table ≡ self.core.opening }
+        requires capacity { capacity ≡ self.core.capacity }
+        requires tables { table < length self.core.cluster.tables }
+        requires some { 1 ≤ capacity }
+        requires few { capacity ≤ 1024 }
+        ensures state { IfOk result (λ back. state_of back ≡ state_at self.core.log mark.now) }
+        ensures alike { IfOk result (λ back. IsAlike self.core back.core) }
+    {
+        let rules = mark.rules.copy(alloc)?;
+        let taken = mark.taken.copy(alloc)?;
+        let Bench { ruled, .. } = self;
+        Ok(Bench {
+            ruled: ruled.back(alloc, table, capacity, mark.entries, rules)?,
+            taken,
+            left: SLOT_LIMIT,
+        })
     }
 
     /// Lets the lines from now on make 1,000,000 slots, whatever those before made.

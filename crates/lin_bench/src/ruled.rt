@@ -1,10 +1,11 @@
 //! Cores on which rules are in force.
 
-ghost use Rattle.std.specs.Prelude.{◌≡◌, ◌<◌, ◌==◌, ◌++◌, ◌∷◌, [], count_by, false, filter, length, map, not, IfOk, None, OnOk};
+ghost use Rattle.std.specs.Prelude.{◌≡◌, ◌<◌, ◌≤◌, ◌==◌, ◌++◌, ◌∷◌, [], count_by, false, filter, length, map, not, take, IfOk, None, OnOk};
 ghost use Rattle.std.specs.List.{list_any};
 ghost use Rattle.lin_parts.specs.Cluster.{nodes};
-ghost use Rattle.lin_core.specs.Core.{past_of};
+ghost use Rattle.lin_core.specs.Core.{IsAlike, past_of};
 ghost use Rattle.lin_core.specs.History.{open_slot, time};
+ghost use Rattle.lin_core.specs.Runs.{steps_of};
 ghost use Rattle.lin_core.specs.Replies.{link_at};
 ghost use Rattle.lin_core.specs.declared.port.PortId.TheVariants.{Bus};
 ghost use Rattle.lin_core.specs.declared.step.Step.TheVariants.{Finish, Hurt};
@@ -80,6 +81,19 @@ fn slots_after(log: &Log, finishes: bool, before: u64) -> u64
     } else {
         before
     }
+}
+
+/// The steps of the first entries of a log, so many, with their ports. An error means out of memory.
+fn first_steps(alloc: Global, log: &Log, entries: usize) -> Result<Vec<(PortId, Step)>, AllocError>
+    requires { entries ≤ length log.now.entries }
+    ensures { IfOk result (λ steps. steps.items ≡ steps_of (take entries log.now.entries)) }
+{
+    let mut steps = Vec::new(alloc);
+    for index in 0..entries {
+        let entry = log.entry(index);
+        steps.push((entry.port, entry.step.copy(alloc)?))?;
+    }
+    Ok(steps)
 }
 
 /// How many times of what is repeated there are up to a time.
@@ -162,13 +176,8 @@ impl RuledCore {
         RuledCore {
             core,
             rules: Rules {
-                whens: Many::new(Vec::new(alloc)),
-                limit_ms: None,
-                everies: Many::new(Vec::new(alloc)),
-                errors: false,
-                services: false,
-                noted: Many::new(Vec::new(alloc)),
                 faults,
+                ..Rules::none(alloc)
             },
             ends: Ends::new(),
             slots: 0,
@@ -186,6 +195,44 @@ impl RuledCore {
     {
         let RuledCore { core, .. } = self;
         core
+    }
+
+    /// Returns a core with the first entries of the log, so many, and with these rules: the steps of these
+    /// entries are made again. An error means out of memory.
+    pub(crate) fn back(
+        self,
+        alloc: Global,
+        table: u16,
+        capacity: usize,
+        entries: usize,
+        rules: Rules,
+    ) -> Result<RuledCore, AllocError>
+        requires entries { entries ≤ length self.core.log }
+        requires table { table ≡ self.core.opening }
+        requires capacity { capacity ≡ self.core.capacity }
+        requires tables { table < length self.core.cluster.tables }
+        requires some { 1 ≤ capacity }
+        requires few { capacity ≤ 1024 }
+        ensures log { IfOk result (λ back. back.core.log ≡ take entries self.core.log) }
+        ensures alike { IfOk result (λ back. IsAlike self.core back.core) }
+        ensures rules { IfOk result (λ back. back.rules ≡ rules) }
+    {
+        let steps = first_steps(alloc, self.core.log(), entries)?;
+        let cluster = self.into_core().into_cluster();
+        let core = Core::new(alloc, cluster, table, capacity)?;
+        let mut back = RuledCore::new(alloc, core, Many::new(Vec::new(alloc)));
+        match back.make_all(steps) {
+            Ok(()) => Ok(back.with(rules)),
+            // (the log can't be full: it had these entries before)
+            Err(_) => Err(AllocError),
+        }
+    }
+
+    /// Returns the core with these rules in place of its own.
+    fn with(self, rules: Rules) -> RuledCore
+        ensures { result ≡ record { core = self.core; rules = rules } }
+    {
+        RuledCore { rules, ..self }
     }
 
     /// The rules in force.

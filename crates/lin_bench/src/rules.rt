@@ -1,8 +1,12 @@
 //! Rules, which lines say and which are in force for the lines after them.
 
+ghost use Rattle.std.specs.Prelude.{◌≡◌};
+ghost use Rattle.lin_bench.specs.Rules.{no_rules};
+
 use crate::faults::ArmedFault;
 use lin_core::{Payload, PortId, Step};
 use lin_text::Many;
+use std::alloc::Global;
 
 /// Which rows of bytes match: those of these bytes, of which `None` stands for any byte.
 #[derive(Drop)]
@@ -89,4 +93,21 @@ pub struct Rules {
     pub services: bool,
     pub noted: Many<Noted>,
     pub faults: Many<ArmedFault>,
+}
+
+impl Rules {
+    /// Returns rules of which none is in force, without answers and faults.
+    pub(crate) fn none(alloc: Global) -> Rules
+        ensures { result ≡ no_rules }
+    {
+        Rules {
+            whens: Many::new(Vec::new(alloc)),
+            limit_ms: None,
+            everies: Many::new(Vec::new(alloc)),
+            errors: false,
+            services: false,
+            noted: Many::new(Vec::new(alloc)),
+            faults: Many::new(Vec::new(alloc)),
+        }
+    }
 }

@@ -1,13 +1,15 @@
 //! Events that expectations speak of.
 
-ghost use Rattle.std.specs.Prelude.{◌≡◌, ◌≤◌, length, filter, find, option_map, replicate, reverse};
+ghost use Rattle.std.specs.Prelude.{◌≡◌, ◌≤◌, [], IfOk, List, length, filter, find, option_map, replicate, reverse};
 ghost use Rattle.lin_core.specs.History.{events};
 ghost use Rattle.lin_core.specs.declared.event.Event.{Event};
-ghost use Rattle.lin_bench.specs.Searches.{Finds, IsReached, KeepsCleared, Skips, cleared_count};
-ghost use Rattle.lin_bench.specs.Searches.{last_end, last_search, place_before};
+ghost use Rattle.lin_core.specs.declared.log.LogEntry.{LogEntry as Entry};
+ghost use Rattle.lin_bench.specs.Searches.{Finds, IsReached, IsSearchState, KeepsCleared, Skips, cleared_count};
+ghost use Rattle.lin_bench.specs.Searches.{last_end, last_search, place_before, taken_by};
 ghost use Rattle.lin_bench.specs.Verdicts.{all_events, is_of_kind, same_kind};
 
 use lin_core::{Event, Log, LogEntry, Reply};
+use std::alloc::{AllocError, Global};
 
 /// A kind of events that expectations speak of.
 #[derive(Clone, Copy)]
@@ -127,6 +129,34 @@ pub(crate) struct TakenEvents {
     pub(crate) searches: Vec<Search>,
     /// How many entries hold no loss that isn't taken.
     pub(crate) cleared: Cleared,
+}
+
+impl TakenEvents {
+    /// Returns that no event is taken.
+    pub(crate) fn none(alloc: Global) -> TakenEvents
+        ensures { (es : List Entry) → IsSearchState es result × (taken_by es result ≡ []) }
+    {
+        TakenEvents {
+            forgotten: 0,
+            searches: Vec::new(alloc),
+            cleared: Cleared::of(0),
+        }
+    }
+
+    /// Returns equal ones. An error means out of memory.
+    pub(crate) fn copy(&self, alloc: Global) -> Result<TakenEvents, AllocError>
+        ensures { IfOk result (λ copy. (es : List Entry)
+            → (IsSearchState es self.now → IsSearchState es copy)
+            × (taken_by es copy ≡ taken_by es self.now)) }
+    {
+        let mut searches = Vec::new(alloc);
+        searches.extend_from_slice(self.searches.as_slice())?;
+        Ok(TakenEvents {
+            forgotten: self.forgotten,
+            searches,
+            cleared: self.cleared,
+        })
+    }
 }
 
 /// The events of an entry.
