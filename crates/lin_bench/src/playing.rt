@@ -294,7 +294,7 @@ pub fn play_under(
     let armed = arm_all(alloc, faults)?;
     let mut bench = Bench::under(alloc, core, armed);
     let mut judgements = Vec::new(alloc);
-    let mut ends = Vec::new(alloc);
+    let mut ends = Vec::with_capacity(alloc, lines.len())?;
     let played = play_on(
         alloc,
         is_strict,
