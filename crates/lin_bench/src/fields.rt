@@ -130,6 +130,7 @@ pub fn present_node(alloc: Global, cluster: &Cluster, field: &[u8]) -> Result<u8
 /// # Errors
 /// - `Bad`: no signal has the name or the number, or the number is above 65,535;
 /// - `OutOfMemory`.
+#[inline(always)]
 pub fn present_signal(alloc: Global, cluster: &Cluster, field: &[u8]) -> Result<u16, LineFault>
     ensures number { Gives (λ n. n) result (present_signal cluster.now field.now) }
     ensures range { IfOk result (λ n. n < length cluster.now.signals) }

@@ -11,7 +11,7 @@ use Rattle.lin_tool.specs.declared.fault.Fault.TheVariants.{BadFaults}
 
 -- 1 for a fault of the input, 3 for lack of memory, 4 where standard input, a file or standard
 -- output failed, 5 where a run met a limit, 6 where a log isn't the text of its own history, two LDFs
--- differ or expectations of a bench script aren't met
+-- differ, an expectation failed or each fault of a bench script changed no slot
 abbrev pub exit_status : Fault → ℕ
 exit_status (BadLine n) = 1
 exit_status (Ldf f) = 1

@@ -72,8 +72,9 @@ pub enum Fault {
     SlotLimit {
         line: u64,
     },
-    /// Expectations of a bench script aren't met. Which they are was told where it was played, if
-    /// that could be written.
+    /// A bench script or the lines of a session failed: an expectation did, or each fault under which
+    /// the script was played changed no slot. The reasons were reported where it was played, if they
+    /// could be written.
     Unmet {
         told: Result<(), WriteFailed>,
     },
@@ -87,8 +88,8 @@ pub enum Fault {
 impl Fault {
     /// The exit status: 1 for a fault of the input, 3 where memory ran out, 4 for a failed read or
     /// write, 5 where a run met a limit, 6 where a log isn't the text of its own history, two LDFs
-    /// differ or expectations of a bench script aren't met. (0 is for a run without a fault, and 2 for a
-    /// wrong command line.)
+    /// differ, an expectation failed or each fault of a bench script changed no slot. (0 is for a run
+    /// without a fault, and 2 for a wrong command line.)
     pub fn status(&self) -> u8
         ensures { result ≡ exit_status self.now }
     {

@@ -109,7 +109,7 @@ fn bench_lines<E: Write>(
     }
 }
 
-/// Writes a line for each judgement that isn't met; where the script has a name, with the place.
+/// Writes a line for each failed expectation; where the script has a name, with the place.
 ///
 /// # Errors
 /// `WriteFailed`, where what was written is the beginning of the lines.
@@ -151,7 +151,7 @@ fn tell_counts<E: Write>(
     }
 }
 
-/// Writes what is told of a play: its judgements that aren't met, and counts.
+/// Writes the failed expectations of a play and its counts.
 ///
 /// # Errors
 /// `WriteFailed`, where what was written is the beginning of the lines.
@@ -168,7 +168,7 @@ fn tell<E: Write>(
     tell_counts(core, script, judgements, errors)
 }
 
-/// Whether a judgement isn't met, or the script has faults and none of them changed a slot.
+/// Whether an expectation failed, or the script has faults and none of them changed a slot.
 fn fails(script: Script<'_>, judgements: &[Judgement]) -> bool
     ensures { result ≡ fails script.entry.faults script.entry.missed judgements.now }
 {
@@ -181,7 +181,7 @@ fn fails(script: Script<'_>, judgements: &[Judgement]) -> bool
     }
 }
 
-/// Writes to `errors` what is told of a play.
+/// Writes the failed expectations of a play and its counts to `errors`.
 ///
 /// # Errors
 /// `Unmet` if it fails.

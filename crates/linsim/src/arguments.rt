@@ -8,7 +8,7 @@ use lin_tool::{
 use std::alloc::{AllocError, Global};
 
 const STATUS_NOTE: &str =
-    "Exit status: 0 success; 1 invalid input; 2 invalid command line; 3 out of memory; 4 read or write error;\n5 a limit of the run was reached; 6 an expectation failed (play, live), the log differs (replay --same),\nthe LDF files differ (diff) or a denied warning is reported (check --deny).\nEach error is one line on standard error. With --explain, more lines explain it.";
+    "Exit status: 0 success; 1 invalid input; 2 invalid command line; 3 out of memory; 4 read or write error;\n5 a limit of the run was reached; 6 an expectation failed or each fault changed no slot (play, live), the log\ndiffers (replay --same), the LDF files differ (diff) or a denied warning is reported (check --deny).\nEach error is one line on standard error. With --explain, more lines explain it.";
 
 const REPLAY_NOTE: &str =
     "The script is read from standard input. A log is a script too, so this command also converts logs.\n\nThe built-in cluster has the commander cem, the responder door (NAD 1) and the schedule table diag, with a master\nrequest and a slave response of 10 ms each.\n\nExample: linsim replay door.ldf --to csv < door.script > door.csv";
