@@ -6,7 +6,7 @@ use lin_core::Core;
 use lin_ldf::parse;
 use lin_log::replay;
 use lin_parts::Cluster;
-use std::alloc::Global;
+use std::alloc::{AllocError, Global};
 use std::process::Abort;
 use std::test::Fail;
 
@@ -80,6 +80,23 @@ pub fn unmet_of(alloc: Global, ldf: &[u8], text: &[u8]) -> Result<Vec<u8>, Fail>
         &mut written,
     )?;
     Ok(written)
+}
+
+/// Returns a text with each occurrence of some bytes replaced.
+pub fn replaced(alloc: Global, text: &[u8], old: &[u8], new: &[u8]) -> Result<Vec<u8>, AllocError> {
+    let mut made = Vec::new(alloc);
+    let mut skip = 0usize;
+    for place in 0..text.len() {
+        if skip > 0 {
+            skip -= 1;
+        } else if text[place..].starts_with(old) {
+            made.extend_from_slice(new)?;
+            skip = old.len().saturating_sub(1);
+        } else {
+            made.push(text[place])?;
+        }
+    }
+    Ok(made)
 }
 
 /// Compares what was written of a case in a format.

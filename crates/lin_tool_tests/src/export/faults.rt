@@ -3,12 +3,12 @@
 
 ghost use Rattle.std.specs.Prelude.{Some};
 
-use crate::clusters::{expect_bytes, run};
+use crate::clusters::{expect_bytes, replaced, run};
 use crate::samples;
 use lin_core::Core;
 use lin_export::{ExportFault, write_csv, write_first_slots, write_named, write_pcap, write_vcd};
 use lin_tool::{Format, Shown, write_shown};
-use std::alloc::{AllocError, Global};
+use std::alloc::Global;
 use std::io::{Error, ErrorKind, Write};
 use std::process::Abort;
 use std::test::Fail;
@@ -220,23 +220,6 @@ fn empty_log(rt: HostRuntime) -> Result<(), Fail> {
     );
     assert!(rt; first.as_slice().ends_with(b"<th>checksum\n</table>\n"));
     Ok(())
-}
-
-/// The text with each place of some bytes replaced.
-fn replaced(alloc: Global, text: &[u8], old: &[u8], new: &[u8]) -> Result<Vec<u8>, AllocError> {
-    let mut made = Vec::new(alloc);
-    let mut skip = 0usize;
-    for place in 0..text.len() {
-        if skip > 0 {
-            skip -= 1;
-        } else if text[place..].starts_with(old) {
-            made.extend_from_slice(new)?;
-            skip = old.len().saturating_sub(1);
-        } else {
-            made.push(text[place])?;
-        }
-    }
-    Ok(made)
 }
 
 /// A name of 1,000 bytes.
