@@ -26,7 +26,10 @@ const RUNS = {
 function* casesOfExamples() {
 	const names = fs.readdirSync(examples), read = name => fs.readFileSync(`${examples}/${name}`);
 	const one = (words, names, input) => ({name: words.join(' '), words, input, files: Object.fromEntries(names.map(it => [it, read(it)]))});
-	for (const ldf of names.filter(it => it.endsWith('.ldf'))) for (const more of CHECKS) yield one(['check', ldf, ...more], [ldf]);
+	for (const ldf of names.filter(it => it.endsWith('.ldf'))) {
+		for (const more of CHECKS) yield one(['check', ldf, ...more], [ldf]);
+		yield one(['diff', 'lights.ldf', ldf, '--field'], ['lights.ldf', ldf]);
+	}
 	for (const [cluster, runs] of Object.entries(RUNS)) {
 		const ldf = `${cluster}.ldf`;
 		for (const script of runs.flatMap(it => [`${it}.bench`, `${it}.script`, `${it}.log`]).filter(it => names.includes(it))) {
