@@ -30,9 +30,9 @@ use std::alloc::{AllocError, Global};
 use std::fs::Files;
 use std::io::{self, Write};
 
-/// An LDF that describes a cluster.
+/// An LDF that describes a cluster, as it is compared.
 #[derive(Drop)]
-struct ReadLdf {
+pub struct ReadLdf {
     /// Without what `--field` ignores.
     text: Vec<u8>,
     description: Description,
@@ -142,8 +142,9 @@ fn note_fault(
 /// Returns what an LDF says. The notes keep where it has a fault or findings.
 ///
 /// # Errors
-/// Those of `read_cluster`.
-fn read_ldf(
+/// `Ldf` for the first fault of the text; `Findings`, or `Remarks` if it is read as `--field` does, for all
+/// errors in its description; `OutOfMemory`.
+pub fn read_ldf(
     alloc: Global,
     mut text: Vec<u8>,
     reading: Reading,
@@ -209,8 +210,9 @@ fn write_found<W: Write>(
 /// Writes a line for each difference of these classes between two LDFs, which are in these files.
 ///
 /// # Errors
-/// `OutOfMemory`, after which nothing was written; those of `write_found`.
-fn write_compared<W: Write>(
+/// `OutOfMemory`, after which nothing was written; `WriteFailed`, where what was written is the beginning of
+/// the lines; `Differs` after all lines, if there is one.
+pub fn write_compared<W: Write>(
     alloc: Global,
     files: (&str, &str),
     old: &ReadLdf,

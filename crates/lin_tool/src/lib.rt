@@ -54,7 +54,7 @@ pub use describing::{
     BUILT_IN, Reading, cluster_of_file, cluster_of_input, cluster_of_reader, cluster_of_text,
     read_text,
 };
-pub use diffing::diff;
+pub use diffing::{ReadLdf, diff, read_ldf, write_compared};
 pub use fault::{Fault, exit_status};
 pub use fault_lines::write_fault;
 pub use field::field_of_reader;
