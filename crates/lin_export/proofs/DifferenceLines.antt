@@ -5,16 +5,16 @@ use Rattle.std.proofs.lemmas.List.{map-append, take_more}
 use Rattle.std.proofs.lemmas.List.Concat.{flat_map-append}
 use Rattle.std.proofs.lemmas.List.Elements.{filter-append}
 use Rattle.lin_values.specs.Differences.{difference_data, differences_data, DifferenceData}
-use Rattle.lin_values.specs.declared.diff.comparing.Difference.{Difference}
-use Rattle.lin_export.specs.ListedDifferences.{difference_line, difference_lines, is_listed}
+use Rattle.lin_values.specs.declared.diff.difference.Difference.{Difference}
+use Rattle.lin_export.specs.ListedDifferences.{difference_line, difference_lines, lists_class}
 use Rattle.lin_export.specs.declared.listing.differences.Classes.{Classes}
 
 both-lines : (old_file new_file : List ℕ) (classes : Classes) (ds es : List DifferenceData)
     → difference_lines old_file new_file classes (ds ++ es)
     ≡ difference_lines old_file new_file classes ds ++ difference_lines old_file new_file classes es
 both-lines old_file new_file classes ds es =
-    ap (flat_map (difference_line old_file new_file)) (filter-append (λ (d : DifferenceData). is_listed classes d.class) ds es)
-    ∙ flat_map-append (difference_line old_file new_file) (filter (λ d. is_listed classes d.class) ds) (filter (λ d. is_listed classes d.class) es)
+    ap (flat_map (difference_line old_file new_file)) (filter-append (λ (d : DifferenceData). lists_class classes d.class) ds es)
+    ∙ flat_map-append (difference_line old_file new_file) (filter (λ d. lists_class classes d.class) ds) (filter (λ d. lists_class classes d.class) es)
 
 -- the line of one difference more
 pub lines-more : (old_file new_file : List ℕ) (classes : Classes) (ds : List Difference) (i : ℕ) (d : Difference) → i < length ds

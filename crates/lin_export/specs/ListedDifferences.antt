@@ -33,16 +33,16 @@ table_loads c = map (table_load c) (numbers (length c.tables))
 
 -- ---- lines
 
-abbrev pub is_listed : Classes → Class → Bool
-is_listed classes Bytes = classes.bytes
-is_listed classes Timing = classes.timing
-is_listed classes Meaning = classes.meaning
-is_listed classes Compatible = classes.compatible
-is_listed classes Names = classes.names
+abbrev pub lists_class : Classes → Class → Bool
+lists_class classes Bytes = classes.bytes
+lists_class classes Timing = classes.timing
+lists_class classes Meaning = classes.meaning
+lists_class classes Compatible = classes.compatible
+lists_class classes Names = classes.names
 
 -- a place in a file, and `-` for none
-abbrev pub place_word : List ℕ → Option Location → List ℕ
-place_word file place =
+abbrev pub file_place : List ℕ → Option Location → List ℕ
+file_place file place =
     option_map_or (λ p. file ++ 58 ∷ (decimal p.line ++ 58 ∷ decimal p.column)) place (codes "-")
 
 -- a word of a subject, after a space; nothing if it's empty
@@ -51,18 +51,18 @@ part [] = []
 part (b ∷ bs) = spaced_word (b ∷ bs)
 
 -- a value, and `-` for none
-abbrev pub value_word : Option (List ℕ) → List ℕ
-value_word value = option_map_or (λ v. v) value (codes "-")
+abbrev pub fact_value_word : Option (List ℕ) → List ℕ
+fact_value_word value = option_map_or (λ v. v) value (codes "-")
 
 abbrev pub difference_line : List ℕ → List ℕ → DifferenceData → List ℕ
 difference_line old_file new_file d =
     class_word d.class
-    ++ (spaced_word (place_word old_file d.old_place)
-    ++ (spaced_word (place_word new_file d.new_place)
+    ++ (spaced_word (file_place old_file d.old_place)
+    ++ (spaced_word (file_place new_file d.new_place)
     ++ (part (kind_word d.kind) ++ (part d.name ++ (part d.label ++ (part d.entry
-    ++ (58 ∷ (spaced_word (value_word d.old)
-    ++ (codes " ->" ++ (spaced_word (value_word d.new) ++ 10 ∷ []))))))))))
+    ++ (58 ∷ (spaced_word (fact_value_word d.old)
+    ++ (codes " ->" ++ (spaced_word (fact_value_word d.new) ++ 10 ∷ []))))))))))
 
 abbrev pub difference_lines : List ℕ → List ℕ → Classes → List DifferenceData → List ℕ
 difference_lines old_file new_file classes ds =
-    flat_map (difference_line old_file new_file) (filter (λ d. is_listed classes d.class) ds)
+    flat_map (difference_line old_file new_file) (filter (λ d. lists_class classes d.class) ds)

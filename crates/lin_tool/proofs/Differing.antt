@@ -8,7 +8,7 @@ use Rattle.lin_cluster.specs.Findings.{AreFindings, IsFree}
 use Rattle.lin_cluster.specs.declared.finding.Finding.{Finding}
 use Rattle.lin_cluster.proofs.CheckedDescriptions.{free-from-none, some-found}
 use Rattle.lin_cluster.proofs.FindingsOrder.{one_answer}
-use Rattle.lin_export.specs.ListedDifferences.{is_listed}
+use Rattle.lin_export.specs.ListedDifferences.{lists_class}
 use Rattle.lin_export.specs.declared.listing.differences.Classes.{Classes}
 use Rattle.lin_field.specs.declared.normalizing.Normalized.{Normalized}
 use Rattle.lin_values.specs.Differences.{all_differences, difference_data, differences_data, DifferenceData}
@@ -16,7 +16,7 @@ use Rattle.lin_values.specs.NewNames.{no_renames}
 use Rattle.lin_values.specs.Renames.{all_renames}
 use Rattle.lin_values.specs.Things.{all_things, ComparedData}
 use Rattle.lin_values.specs.declared.diff.fact.Thing.{Thing}
-use Rattle.lin_values.specs.declared.diff.comparing.Difference.{Difference}
+use Rattle.lin_values.specs.declared.diff.difference.Difference.{Difference}
 use Rattle.lin_values.proofs.FactSteps.{any-of-map}
 use Rattle.lin_tool.specs.Clusters.{AreTextFindings}
 use Rattle.lin_tool.specs.Diffing.{differences_of, is_any_listed, FieldFaults, WritesCompared}
@@ -47,8 +47,8 @@ unchecked OutOfMemory text s settled h = tt
 unchecked _ text s settled h = absurd h
 
 -- a difference of these classes is in the list exactly if it is among its data
-pub any-listed : (classes : Classes) (ds : List Difference) → list_any (λ d. is_listed classes d.class) ds ≡ is_any_listed classes (differences_data ds)
-any-listed classes ds = sym (any-of-map difference_data (λ d. is_listed classes d.class) ds)
+pub any-listed : (classes : Classes) (ds : List Difference) → list_any (λ d. lists_class classes d.class) ds ≡ is_any_listed classes (differences_data ds)
+any-listed classes ds = sym (any-of-map difference_data (λ d. lists_class classes d.class) ds)
 
 -- the differences between the things of two LDFs are those between the LDFs
 pub compared-of : (o n a b : ComparedData) (xs ys : List (List Thing)) (ds : List DifferenceData) → a ≡ o → b ≡ n → xs ≡ all_things a (all_renames a b) → ys ≡ all_things b no_renames

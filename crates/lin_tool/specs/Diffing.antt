@@ -3,7 +3,7 @@ use Rattle.std.specs.Prelude.{◌≡◌, ℕ, Bool, true, false, List, Option, R
 use Rattle.std.specs.Io.KnownBytes.{Appends, Keeps}
 use Rattle.std.specs.List.{list_any}
 use Rattle.lin_cluster.specs.Described.{parts_of}
-use Rattle.lin_export.specs.ListedDifferences.{difference_lines, is_listed, table_loads}
+use Rattle.lin_export.specs.ListedDifferences.{difference_lines, lists_class, table_loads}
 use Rattle.lin_export.specs.declared.listing.differences.Classes.{Classes}
 use Rattle.lin_field.specs.Checks.{IsFieldFree, IsRefusalOf}
 use Rattle.lin_field.specs.declared.field_check.FieldFault.TheVariants as check
@@ -89,7 +89,7 @@ differences_of old new = all_differences (all_things old (all_renames old new)) 
 
 -- one of these differences is of these classes
 abbrev pub is_any_listed : Classes → List DifferenceData → Bool
-is_any_listed classes ds = list_any (λ d. is_listed classes d.class) ds
+is_any_listed classes ds = list_any (λ d. lists_class classes d.class) ds
 
 -- What is answered where these are the differences between the LDFs in two files, and what the writer took. (The
 -- lines are those of the differences of these classes, so there are none after Ok.)

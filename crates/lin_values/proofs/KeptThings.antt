@@ -13,11 +13,11 @@ use Rattle.lin_values.specs.declared.diff.fact.Class.TheVariants as classes
 use Rattle.lin_values.specs.declared.diff.fact.EntryFact.{EntryFact}
 use Rattle.lin_values.specs.declared.diff.fact.Fact.{Fact}
 use Rattle.lin_values.specs.declared.diff.fact.Thing.{Thing}
-use Rattle.lin_values.specs.Differences.{DifferenceData, all_differences, delay_difference, entry_difference, entry_with, is_moved_in, pair_differences, fact_difference, fact_with, kind_differences, new_entry, new_fact, old_entry, old_fact, old_thing, thing_difference, thing_differences, thing_named}
-use Rattle.lin_values.specs.DiffLaws.{frames_of, step_of, tables_of, AreDistinct, AreShort, AreTold, KeepsFrame, KeepsPlace, KeepsSignal, KeepsTable, SilenceKeepsBytes, SilenceKeepsTimes}
+use Rattle.lin_values.specs.Differences.{DifferenceData, all_differences, delay_difference, entry_difference, entry_with_id, is_moved_in, pair_differences, fact_difference, fact_with, kind_differences, new_entry, new_fact, old_entry, old_fact, old_thing, thing_difference, thing_differences, thing_named}
+use Rattle.lin_values.specs.DiffLaws.{modelled_frames, entry_step, loaded_tables, AreDistinct, HasShortNumbers, HaveDistinctEntries, KeepsFrame, KeepsPlace, KeepsSignal, KeepsTable, SilenceKeepsBytes, SilenceKeepsTimes}
 use Rattle.lin_parts.specs.declared.description.Description.{Description}
 use Rattle.lin_parts.specs.declared.description.Frame.{Frame}
-use Rattle.lin_values.specs.FactTexts.{hex_byte, hex_digit, joined}
+use Rattle.lin_values.specs.FactTexts.{two_hex_digits, capital_hex_digit, with_spaces}
 use Rattle.lin_values.specs.Facts.{class_if_gone, fact, place_of_name, place_of_number}
 use Rattle.lin_parts.specs.declared.description.Init.{Init}
 use Rattle.lin_parts.specs.declared.description.Init.TheVariants.{Scalar, Array}
@@ -33,7 +33,7 @@ use Rattle.lin_values.specs.Renames.{all_renames}
 use Rattle.lin_parts.specs.declared.description.Signal.{Signal}
 use Rattle.lin_frame.specs.declared.sums.SumKind.{SumKind}
 use Rattle.lin_frame.specs.declared.sums.SumKind.TheVariants.{Classic, Enhanced}
-use Rattle.lin_values.specs.Things.{all_things, encoding_facts, encoding_of, entries_of, frame_facts, frame_thing, frame_things, id_fact, initial_fact, is_subscriber, lines_in, model_text, number_fact, own_facts, placed_fact, signal_facts, signal_thing, size_text, table_thing, table_thing_of, table_things, value_facts, with_subscriber, ComparedData}
+use Rattle.lin_values.specs.Things.{all_things, encoding_facts, encoding_of, table_entries, facts_of_frame, frame_thing, frame_things, id_fact, initial_fact, is_subscriber, lines_in, model_text, number_fact, own_facts, placed_fact, facts_of_signal, signal_thing, size_text, table_thing, table_thing_of, table_things, value_facts, with_subscriber, ComparedData}
 use Rattle.lin_values.proofs.FoundTexts.{apart, contained-at, contained-later, find_by, found-is, holds-of}
 use Rattle.lin_values.proofs.Silence.{entries-same, old-value}
 
@@ -106,19 +106,19 @@ kept-fact class o n f silent c of_class =
 some-same : {X : Type 0} (x y : X) → Some x ≡ Some y → x ≡ y
 some-same x y e = cc
 
-digit-same : (a b : ℕ) → a < 16 → b < 16 → hex_digit a ≡ hex_digit b → a ≡ b
+digit-same : (a b : ℕ) → a < 16 → b < 16 → capital_hex_digit a ≡ capital_hex_digit b → a ≡ b
 digit-same a b p q e = grind (arith, nat_tests)
 
-byte-same : (a b : ℕ) → a < 256 → b < 256 → hex_byte (a % 256) ≡ hex_byte (b % 256) → a ≡ b
+byte-same : (a b : ℕ) → a < 256 → b < 256 → two_hex_digits (a % 256) ≡ two_hex_digits (b % 256) → a ≡ b
 byte-same a b p q e =
-    let high : hex_digit (a % 256 / 16) ≡ hex_digit (b % 256 / 16) = cc in
-    let low : hex_digit (a % 256 % 16) ≡ hex_digit (b % 256 % 16) = cc in
+    let high : capital_hex_digit (a % 256 / 16) ≡ capital_hex_digit (b % 256 / 16) = cc in
+    let low : capital_hex_digit (a % 256 % 16) ≡ capital_hex_digit (b % 256 % 16) = cc in
     let first : a % 256 / 16 ≡ b % 256 / 16 = digit-same (a % 256 / 16) (b % 256 / 16) (omega arith) (omega arith) high in
     let second : a % 256 % 16 ≡ b % 256 % 16 = digit-same (a % 256 % 16) (b % 256 % 16) (omega arith) (omega arith) low in
     omega arith
 
 pub id-same : (a b : Number) → a.value < 256 → b.value < 256 → (id_fact a).value ≡ (id_fact b).value → a.value ≡ b.value
-id-same a b p q e = byte-same a.value b.value p q (let bytes : hex_byte (a.value % 256) ≡ hex_byte (b.value % 256) = cc in bytes)
+id-same a b p q e = byte-same a.value b.value p q (let bytes : two_hex_digits (a.value % 256) ≡ two_hex_digits (b.value % 256) = cc in bytes)
 
 model-same : (a b : SumKind) → model_text a ≡ model_text b → a ≡ b
 model-same Classic Classic e = refl
@@ -126,29 +126,29 @@ model-same Classic Enhanced e = absurd cc
 model-same Enhanced Classic e = absurd cc
 model-same Enhanced Enhanced e = refl
 
-place-key : (a b : List ℕ) → joined (codes "place" ∷ a ∷ []) ≡ joined (codes "place" ∷ b ∷ []) → a ≡ b
+place-key : (a b : List ℕ) → with_spaces (codes "place" ∷ a ∷ []) ≡ with_spaces (codes "place" ∷ b ∷ []) → a ≡ b
 place-key a b e = cc
 
 -- ---- frames
 
 -- the place of a signal isn't one of the frame's own facts
 placed-found : (d : Description) (r : RenamesData) (g : Frame) (m : SumKind) (name : List ℕ)
-    → fact_with (joined (codes "place" ∷ name ∷ [])) (frame_facts d r g m) ≡ find_by (λ (f : Fact). f.key) (joined (codes "place" ∷ name ∷ [])) (map (placed_fact d r) g.placed)
+    → fact_with (with_spaces (codes "place" ∷ name ∷ [])) (facts_of_frame d r g m) ≡ find_by (λ (f : Fact). f.key) (with_spaces (codes "place" ∷ name ∷ [])) (map (placed_fact d r) g.placed)
 placed-found d r g m name = refl
 
 place-kept : (old new : ComparedData) (f g : Frame × SumKind) (p : PlacedSignal) → Contains f.0.placed p
     → p.offset.value < 2 ^ 32 → All (λ p. p.offset.value < 2 ^ 32) g.0.placed
-    → ((x : Fact) → Contains (frame_facts old.description (all_renames old new) f.0 f.1) x → x.class ≡ classes.Bytes
-    → (y : Fact) × (fact_with x.key (frame_facts new.description no_renames g.0 g.1) ≡ Some y) × (x.value ≡ y.value))
+    → ((x : Fact) → Contains (facts_of_frame old.description (all_renames old new) f.0 f.1) x → x.class ≡ classes.Bytes
+    → (y : Fact) × (fact_with x.key (facts_of_frame new.description no_renames g.0 g.1) ≡ Some y) × (x.value ≡ y.value))
     → KeepsPlace (all_renames old new) g.0 p
 place-kept old new f g p c short g_offsets kept =
     let r : RenamesData = all_renames old new in
     let name : List ℕ = name_in r.signals p.signal.text in
-    let found : (y : Fact) × (fact_with (joined (codes "place" ∷ name ∷ [])) (frame_facts new.description no_renames g.0 g.1) ≡ Some y) × (decimal p.offset.value ≡ y.value) =
+    let found : (y : Fact) × (fact_with (with_spaces (codes "place" ∷ name ∷ [])) (facts_of_frame new.description no_renames g.0 g.1) ≡ Some y) × (decimal p.offset.value ≡ y.value) =
     kept (placed_fact old.description r p) (contained-right (own_facts f.0 (name_in r.nodes f.0.publisher.text) f.1) (map (placed_fact old.description r) f.0.placed) (placed_fact old.description r p)
     (contained-mapped (placed_fact old.description r) f.0.placed p c)) refl in
-    let there : Contains (map (placed_fact new.description no_renames) g.0.placed) found.0 × (found.0.key ≡ joined (codes "place" ∷ name ∷ [])) =
-    found-is (λ (x : Fact). x.key) (joined (codes "place" ∷ name ∷ [])) (map (placed_fact new.description no_renames) g.0.placed) found.0
+    let there : Contains (map (placed_fact new.description no_renames) g.0.placed) found.0 × (found.0.key ≡ with_spaces (codes "place" ∷ name ∷ [])) =
+    found-is (λ (x : Fact). x.key) (with_spaces (codes "place" ∷ name ∷ [])) (map (placed_fact new.description no_renames) g.0.placed) found.0
     (sym (placed-found new.description no_renames g.0 g.1 name) ∙ found.1) in
     let other : (q : PlacedSignal) × Contains g.0.placed q × (placed_fact new.description no_renames q ≡ found.0) = mapped-from (placed_fact new.description no_renames) g.0.placed found.0 there.0 in
     let q : PlacedSignal = other.0 in
@@ -163,8 +163,8 @@ frame-kept : (old new : ComparedData) (f g : Frame × SumKind)
     → f.0.id.value < 256 → g.0.id.value < 256 → f.0.size.value < 2 ^ 32 → g.0.size.value < 2 ^ 32
     → All (λ p. p.offset.value < 2 ^ 32) f.0.placed → All (λ p. p.offset.value < 2 ^ 32) g.0.placed
     → g.0.name.text ≡ name_in (all_renames old new).frames f.0.name.text
-    → ((x : Fact) → Contains (frame_facts old.description (all_renames old new) f.0 f.1) x → x.class ≡ classes.Bytes
-    → (y : Fact) × (fact_with x.key (frame_facts new.description no_renames g.0 g.1) ≡ Some y) × (x.value ≡ y.value))
+    → ((x : Fact) → Contains (facts_of_frame old.description (all_renames old new) f.0 f.1) x → x.class ≡ classes.Bytes
+    → (y : Fact) × (fact_with x.key (facts_of_frame new.description no_renames g.0 g.1) ≡ Some y) × (x.value ≡ y.value))
     → KeepsFrame (all_renames old new) f g
 frame-kept old new f g f_id g_id f_size g_size f_offsets g_offsets name kept =
     let r : RenamesData = all_renames old new in
@@ -195,14 +195,14 @@ zip-first (x ∷ xs) (y ∷ ys) p (suc k, lt, e) = contained-later x xs p.0 (zip
 abbrev frame_of : ComparedData → RenamesData → Frame × SumKind → Thing
 frame_of d r f = frame_thing d.description r f.0 f.1
 
-frames-kept : (old new : ComparedData) → AreShort old → AreShort new → Silent classes.Bytes (kind_differences (frame_things old (all_renames old new)) (frame_things new no_renames))
-    → (f : Frame × SumKind) → Contains (frames_of old) f → (g : Frame × SumKind) × Contains (frames_of new) g × KeepsFrame (all_renames old new) f g
+frames-kept : (old new : ComparedData) → HasShortNumbers old → HasShortNumbers new → Silent classes.Bytes (kind_differences (frame_things old (all_renames old new)) (frame_things new no_renames))
+    → (f : Frame × SumKind) → Contains (modelled_frames old) f → (g : Frame × SumKind) × Contains (modelled_frames new) g × KeepsFrame (all_renames old new) f g
 frames-kept old new old_short new_short silent f c =
     let r : RenamesData = all_renames old new in
     let o : Thing = frame_of old r f in
     let kept : (n : Thing) × Contains (frame_things new no_renames) n × (n.new_name ≡ o.new_name) × Silent classes.Bytes (thing_differences o n) =
-    kept-thing classes.Bytes (frame_things old r) (frame_things new no_renames) o silent (contained-mapped (frame_of old r) (frames_of old) f c) refl in
-    let other : (g : Frame × SumKind) × Contains (frames_of new) g × (frame_of new no_renames g ≡ kept.0) = mapped-from (frame_of new no_renames) (frames_of new) kept.0 kept.1 in
+    kept-thing classes.Bytes (frame_things old r) (frame_things new no_renames) o silent (contained-mapped (frame_of old r) (modelled_frames old) f c) refl in
+    let other : (g : Frame × SumKind) × Contains (modelled_frames new) g × (frame_of new no_renames g ≡ kept.0) = mapped-from (frame_of new no_renames) (modelled_frames new) kept.0 kept.1 in
     let g : Frame × SumKind = other.0 in
     let silent_here : Silent classes.Bytes (thing_differences o (frame_of new no_renames g)) = subst (λ (n : Thing). Silent classes.Bytes (thing_differences o n)) (sym other.2) kept.3 in
     let in_old : Contains old.description.frames f.0 = zip-first old.description.frames (map (λ f. f.model) old.cluster.frames) f c in
@@ -247,9 +247,9 @@ subscribers-found r key fs [] f e = e
 subscribers-found r key fs (n ∷ ns) f e =
     let name : List ℕ = name_in r.nodes n.text in
     subscribers-found r key (with_subscriber r fs n) ns f
-    (one-more-found (list_any (is_subscriber name) fs) key fs (fact (joined (codes "subscriber" ∷ name ∷ [])) name (place_of_name n) classes.Compatible ∷ []) f e)
+    (one-more-found (list_any (is_subscriber name) fs) key fs (fact (with_spaces (codes "subscriber" ∷ name ∷ [])) name (place_of_name n) classes.Compatible ∷ []) f e)
 
-value-found : (d : ComparedData) (r : RenamesData) (s : Signal) (key : List ℕ) (f : Fact) → fact_with key (value_facts r s) ≡ Some f → fact_with key (signal_facts d r s) ≡ Some f
+value-found : (d : ComparedData) (r : RenamesData) (s : Signal) (key : List ℕ) (f : Fact) → fact_with key (value_facts r s) ≡ Some f → fact_with key (facts_of_signal d r s) ≡ Some f
 value-found d r s key f e =
     found-behind key (fold (with_subscriber r) (value_facts r s) s.subscribers) (encoding_facts r s (encoding_of d.codings s)) f (subscribers-found r key (value_facts r s) s.subscribers f e)
 
@@ -268,18 +268,18 @@ signals-kept old new silent s c =
     let silent_here : Silent classes.Bytes (thing_differences o (signal_thing new no_renames t)) = subst (λ (n : Thing). Silent classes.Bytes (thing_differences o n)) (sym other.2) kept.3 in
     let old_size : Fact = fact (codes "size") (size_text s) (place_of_number s.size) classes.Bytes in
     let new_size : Fact = fact (codes "size") (size_text t) (place_of_number t.size) classes.Bytes in
-    let size : (y : Fact) × (fact_with (codes "size") (signal_facts new no_renames t) ≡ Some y) × (size_text s ≡ y.value) =
-    kept-fact classes.Bytes o (signal_thing new no_renames t) old_size silent_here (found-is (λ (f : Fact). f.key) (codes "size") (signal_facts old r s) old_size (value-found old r s (codes "size") old_size refl)).0 refl in
-    let initial : (y : Fact) × (fact_with (initial_fact s.init).key (signal_facts new no_renames t) ≡ Some y) × ((initial_fact s.init).value ≡ y.value) =
+    let size : (y : Fact) × (fact_with (codes "size") (facts_of_signal new no_renames t) ≡ Some y) × (size_text s ≡ y.value) =
+    kept-fact classes.Bytes o (signal_thing new no_renames t) old_size silent_here (found-is (λ (f : Fact). f.key) (codes "size") (facts_of_signal old r s) old_size (value-found old r s (codes "size") old_size refl)).0 refl in
+    let initial : (y : Fact) × (fact_with (initial_fact s.init).key (facts_of_signal new no_renames t) ≡ Some y) × ((initial_fact s.init).value ≡ y.value) =
     kept-fact classes.Bytes o (signal_thing new no_renames t) (initial_fact s.init) silent_here
-    (found-is (λ (f : Fact). f.key) (codes "initial") (signal_facts old r s) (initial_fact s.init) (value-found old r s (codes "initial") (initial_fact s.init) (initial-found r s))).0 (initial-class s.init) in (
+    (found-is (λ (f : Fact). f.key) (codes "initial") (facts_of_signal old r s) (initial_fact s.init) (value-found old r s (codes "initial") (initial_fact s.init) (initial-found r s))).0 (initial-class s.init) in (
       t,
       other.1,
       record {
         name = ap (λ (n : Thing). n.new_name) other.2 ∙ kept.2;
         size = ap (λ (y : Fact). y.value) (some-same new_size size.0 (sym (value-found new no_renames t (codes "size") new_size refl) ∙ size.1)) ∙ sym size.2;
         initial = ap (λ (y : Fact). y.value) (some-same (initial_fact t.init) initial.0
-            (sym (value-found new no_renames t (codes "initial") (initial_fact t.init) (initial-found no_renames t)) ∙ ap (λ k. fact_with k (signal_facts new no_renames t)) (sym (initial-key s.init)) ∙ initial.1)) ∙ sym initial.2;
+            (sym (value-found new no_renames t (codes "initial") (initial_fact t.init) (initial-found no_renames t)) ∙ ap (λ k. fact_with k (facts_of_signal new no_renames t)) (sym (initial-key s.init)) ∙ initial.1)) ∙ sym initial.2;
       },
     )
 
@@ -291,7 +291,7 @@ silence-keeps-bytes old new old_short new_short silent =
     let all : Silent classes.Bytes (all_differences olds news) = silent-here classes.Bytes (all_differences olds news) silent in (
       λ k d lt. frames-kept old new old_short new_short
           (silent-kind classes.Bytes olds news (frame_things old r) (frame_things new no_renames) all (3, omega arith, refl))
-          (get_or (frames_of old) k d) (contained-at (frames_of old) k d lt),
+          (get_or (modelled_frames old) k d) (contained-at (modelled_frames old) k d lt),
       λ k d lt. signals-kept old new
           (silent-kind classes.Bytes olds news (map (signal_thing old r) old.description.signals) (map (signal_thing new no_renames) new.description.signals) all (2, omega arith, refl))
           (get_or old.description.signals k d) (contained-at old.description.signals k d lt),
@@ -341,7 +341,7 @@ no-times (d ∷ ds) silent all = absurd (silent d (0, omega arith, refl) (all d 
 
 old-entry-times : (o n : Thing) (e : EntryFact) (d : DifferenceData) → Contains (old_entry o n e) d → d.class ≡ classes.Timing
 old-entry-times o n e d c =
-    elim (entry_with (entry_id e) n.entries) as (λ p. Contains (option_map_or (pair_differences o n (is_moved_in o.entries n.entries e) e) p (entry_difference o n e (Some e) None ∷ [])) d → d.class ≡ classes.Timing) [
+    elim (entry_with_id (entry_id e) n.entries) as (λ p. Contains (option_map_or (pair_differences o n (is_moved_in o.entries n.entries e) e) p (entry_difference o n e (Some e) None ∷ [])) d → d.class ≡ classes.Timing) [
       | Some f ↦ λ c. elim (append-from (cond (is_moved_in o.entries n.entries e) (entry_difference o n e (Some e) (Some f) ∷ []) []) (cond (bytes_eq e.delay f.delay) [] (delay_difference o n e f ∷ [])) d c) as (λ _. d.class ≡ classes.Timing) [
         | inl here ↦ one-time (is_moved_in o.entries n.entries e) (entry_difference o n e (Some e) (Some f)) d refl here
         | inr there ↦ no-time (bytes_eq e.delay f.delay) (delay_difference o n e f) d refl there
@@ -349,37 +349,37 @@ old-entry-times o n e d c =
       | None ↦ λ c. one-time true (entry_difference o n e (Some e) None) d refl c
     ] c
 
-tables-kept : (old new : ComparedData) → AreTold (table_things old (all_renames old new)) → AreTold (table_things new no_renames)
+tables-kept : (old new : ComparedData) → HaveDistinctEntries (table_things old (all_renames old new)) → HaveDistinctEntries (table_things new no_renames)
     → Silent classes.Timing (kind_differences (table_things old (all_renames old new)) (table_things new no_renames))
-    → (t : Table × TableLoad) → Contains (tables_of old) t → has_dot t.0.name.text ≡ false
-    → (u : Table × TableLoad) × Contains (tables_of new) u × KeepsTable old new t.0 u.0
+    → (t : Table × TableLoad) → Contains (loaded_tables old) t → has_dot t.0.name.text ≡ false
+    → (u : Table × TableLoad) × Contains (loaded_tables new) u × KeepsTable old new t.0 u.0
 tables-kept old new old_told new_told silent t c dotless =
     let r : RenamesData = all_renames old new in
-    let o : Thing = table_thing (name_in r.tables t.0.name.text) t.0 t.1 (entries_of old r t.0) in
-    let in_old : Contains (table_things old r) o = contained-flat (λ (t : Table × TableLoad). table_thing_of (lines_in old) r t.0 t.1) (tables_of old) t o c (table-listed (has_dot t.0.name.text) o dotless) in
+    let o : Thing = table_thing (name_in r.tables t.0.name.text) t.0 t.1 (table_entries old r t.0) in
+    let in_old : Contains (table_things old r) o = contained-flat (λ (t : Table × TableLoad). table_thing_of (lines_in old) r t.0 t.1) (loaded_tables old) t o c (table-listed (has_dot t.0.name.text) o dotless) in
     let kept : (n : Thing) × Contains (table_things new no_renames) n × (n.new_name ≡ o.new_name) × Silent classes.Timing (thing_differences o n) =
     kept-thing classes.Timing (table_things old r) (table_things new no_renames) o silent in_old refl in
     let n : Thing = kept.0 in
-    let other : (u : Table × TableLoad) × Contains (tables_of new) u × Contains (table_thing_of (lines_in new) no_renames u.0 u.1) n =
-    flat-from (λ (u : Table × TableLoad). table_thing_of (lines_in new) no_renames u.0 u.1) (tables_of new) n kept.1 in
+    let other : (u : Table × TableLoad) × Contains (loaded_tables new) u × Contains (table_thing_of (lines_in new) no_renames u.0 u.1) n =
+    flat-from (λ (u : Table × TableLoad). table_thing_of (lines_in new) no_renames u.0 u.1) (loaded_tables new) n kept.1 in
     let u : Table × TableLoad = other.0 in
-    let is : table_thing (name_in no_renames.tables u.0.name.text) u.0 u.1 (entries_of new no_renames u.0) ≡ n =
-    listed-table (has_dot u.0.name.text) (table_thing (name_in no_renames.tables u.0.name.text) u.0 u.1 (entries_of new no_renames u.0)) n other.2 in
+    let is : table_thing (name_in no_renames.tables u.0.name.text) u.0 u.1 (table_entries new no_renames u.0) ≡ n =
+    listed-table (has_dot u.0.name.text) (table_thing (name_in no_renames.tables u.0.name.text) u.0 u.1 (table_entries new no_renames u.0)) n other.2 in
     let names : List DifferenceData = cond (bytes_eq o.name n.name) [] (thing_difference classes.Names o.kind (Some o) (Some n) ∷ []) in
     let olds : List DifferenceData = flat_map (old_entry o n) o.entries in
     let news : List DifferenceData = flat_map (new_entry o n) n.entries in
     let old_silent : Silent classes.Timing olds = λ d i. kept.3 d (contained-right names _ d (contained-right (flat_map (old_fact o n) o.facts) _ d (contained-right (flat_map (new_fact o n) n.facts) _ d (contained-left olds news d i)))) in
     let new_silent : Silent classes.Timing news = λ d i. kept.3 d (contained-right names _ d (contained-right (flat_map (old_fact o n) o.facts) _ d (contained-right (flat_map (new_fact o n) n.facts) _ d (contained-right olds news d i)))) in
     let no_olds : olds ≡ [] = no-times olds old_silent (λ d i. let e : (e : EntryFact) × Contains o.entries e × Contains (old_entry o n e) d = flat-from (old_entry o n) o.entries d i in old-entry-times o n e.0 d e.2) in
-    let no_news : news ≡ [] = no-times news new_silent (λ d i. let e : (e : EntryFact) × Contains n.entries e × Contains (new_entry o n e) d = flat-from (new_entry o n) n.entries d i in no-time (is_some (entry_with (entry_id e.0) o.entries)) (entry_difference o n e.0 None (Some e.0)) d refl e.2) in
-    let steps : map step_of o.entries ≡ map step_of n.entries = entries-same o n
+    let no_news : news ≡ [] = no-times news new_silent (λ d i. let e : (e : EntryFact) × Contains n.entries e × Contains (new_entry o n e) d = flat-from (new_entry o n) n.entries d i in no-time (is_some (entry_with_id (entry_id e.0) o.entries)) (entry_difference o n e.0 None (Some e.0)) d refl e.2) in
+    let steps : map entry_step o.entries ≡ map entry_step n.entries = entries-same o n
     (apart (map entry_id o.entries) (holds-of (λ t. AreDistinct (map entry_id t.entries)) (table_things old r) o old_told in_old))
     (apart (map entry_id n.entries) (holds-of (λ t. AreDistinct (map entry_id t.entries)) (table_things new no_renames) n new_told kept.1)) no_olds no_news in (
       u,
       other.1,
       record {
         name = ap (λ (t : Thing). t.new_name) is ∙ kept.2;
-        entries = steps ∙ ap (λ (t : Thing). map step_of t.entries) (sym is);
+        entries = steps ∙ ap (λ (t : Thing). map entry_step t.entries) (sym is);
       },
     )
 
@@ -391,4 +391,4 @@ silence-keeps-times old new old_told new_told silent =
     let all : Silent classes.Timing (all_differences olds news) = silent-here classes.Timing (all_differences olds news) silent in
     λ k d lt dotless. tables-kept old new old_told new_told
     (silent-kind classes.Timing olds news (table_things old r) (table_things new no_renames) all (6, omega arith, refl))
-    (get_or (tables_of old) k d) (contained-at (tables_of old) k d lt) dotless
+    (get_or (loaded_tables old) k d) (contained-at (loaded_tables old) k d lt) dotless

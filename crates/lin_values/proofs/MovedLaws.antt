@@ -7,7 +7,7 @@ use Rattle.std.proofs.lemmas.Bool.Decides.{nat_tests}
 use Rattle.std.proofs.lemmas.List.{get_or-set_other}
 use Rattle.std.proofs.lemmas.List.FromFn.{get_or-range_with_len, length-range_with_len}
 use Rattle.std.proofs.lemmas.List.Quantifiers.{position-Some}
-use Rattle.lin_values.specs.Moved.{chain, chain_lengths, is_below, link, longest_before, moved, unmarked, with_length}
+use Rattle.lin_values.specs.Moved.{chain, chain_lengths, is_below, link, longest_before, moved_flags, without_marks, with_length}
 use Rattle.lin_values.proofs.MovedChains.{longest-none, number-found}
 
 -- places that rise, from one on
@@ -54,7 +54,7 @@ and-both true true d = refl
 and-both true false d = refl
 and-both false c d = refl
 
-pub unmarked-at : (flags : List Bool) (cs : List ℕ) (i : ℕ) → get_or (unmarked flags cs) i false ≡ (get_or flags i false && not (has i cs))
+pub unmarked-at : (flags : List Bool) (cs : List ℕ) (i : ℕ) → get_or (without_marks flags cs) i false ≡ (get_or flags i false && not (has i cs))
 unmarked-at flags [] i = sym (and-true (get_or flags i false))
 unmarked-at flags (c ∷ cs) i =
     unmarked-at (set flags c false) cs i
@@ -180,7 +180,7 @@ not-not true e = refl
 not-not false e = absurd cc
 
 -- entries of which none was moved rise
-pub none-moved : (ps : List ℕ) → ((i : ℕ) → i < length ps → get_or (moved ps) i false ≡ false) → Rising 0 ps
+pub none-moved : (ps : List ℕ) → ((i : ℕ) → i < length ps → get_or (moved_flags ps) i false ≡ false) → Rising 0 ps
 none-moved ps none =
     let ns : List ℕ = chain_lengths ps in
     let cs : List ℕ = chain ps ns (fold max 0 ns) (length ps) None in
@@ -254,7 +254,7 @@ range-linked n (suc c) end le below i lt =
     ] refl
 
 -- entries that kept their places weren't moved
-pub kept-places : (n i : ℕ) → i < n → get_or (moved (range_with_len 0 n)) i false ≡ false
+pub kept-places : (n i : ℕ) → i < n → get_or (moved_flags (range_with_len 0 n)) i false ≡ false
 kept-places n i lt =
     let ps : List ℕ = range_with_len 0 n in
     let size : length ps ≡ n = length-range_with_len 0 n in

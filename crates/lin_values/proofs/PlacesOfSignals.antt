@@ -10,7 +10,7 @@ use Rattle.lin_cluster.proofs.NamesFound.{any-within, one-text, same-text, text-
 use Rattle.lin_parts.specs.declared.description.Signal.{Signal}
 use Rattle.lin_values.specs.NewNames.{alone, is_among}
 use Rattle.lin_values.specs.Renames.{signal_key}
-use Rattle.lin_values.specs.SignalPlaces.{number_of, places_under, with_place}
+use Rattle.lin_values.specs.SignalPlaces.{number_among, places_under, with_place}
 use Rattle.lin_values.specs.SortedTexts.{insert_text}
 
 pub no-places : (k n : ℕ) → get_or {A = List (List ℕ)} (replicate k []) n [] ≡ []
@@ -20,38 +20,38 @@ no-places (suc k) (suc n) = no-places k n
 
 -- a place more of a signal that has a number
 pub place-added : (names : List (List ℕ)) (all : List (List (List ℕ))) (places : List ℕ → List (List ℕ)) (signal place : List ℕ) (n : ℕ)
-    → n ≡ number_of names signal → length all ≡ length names → n < length names
+    → n ≡ number_among names signal → length all ≡ length names → n < length names
     → ((q : List ℕ) → is_among names q ≡ true → places_under names all q ≡ places q)
     → (q : List ℕ) → is_among names q ≡ true
     → places_under names (set all n (insert_text (get_or all n []) place)) q ≡ with_place places signal place q
 place-added names all places signal place n is size lt each q among =
     elim (bytes_eq signal q) as (λ b. (bytes_eq signal q ≡ b) → places_under names (set all n (insert_text (get_or all n []) place)) q ≡ cond b (insert_text (places q) place) (places q)) [
       | true ↦ λ e.
-          let at : number_of names q ≡ n = sym (is ∙ ap (number_of names) (same-text signal q e)) in
+          let at : number_among names q ≡ n = sym (is ∙ ap (number_among names) (same-text signal q e)) in
           let here : n < length all = omega arith in
           ap (λ k. get_or (set all n (insert_text (get_or all n []) place)) k []) at
           ∙ get_or-set_same all n (insert_text (get_or all n []) place) [] here
           ∙ ap (λ k. insert_text (get_or all k []) place) (sym at)
           ∙ ap (λ ps. insert_text ps place) (each q among)
       | false ↦ λ e.
-          let other : number_of names q ≢ n = λ same.
-          let within : number_of names q < length names = any-within (λ t. bytes_eq t q) names among in
+          let other : number_among names q ≢ n = λ same.
+          let within : number_among names q < length names = any-within (λ t. bytes_eq t q) names among in
           let texts : q ≡ signal = one-text (λ t. t) names q signal within (same ∙ is) in
           let twice : bytes_eq signal q ≡ true = text-same signal q (sym texts) in
           absurd cc in
-          get_or-set_other all n (number_of names q) (insert_text (get_or all n []) place) [] other ∙ each q among
+          get_or-set_other all n (number_among names q) (insert_text (get_or all n []) place) [] other ∙ each q among
     ] refl
 
 -- a place of a signal that isn't among the names
 pub place-left : (names : List (List ℕ)) (all : List (List (List ℕ))) (places : List ℕ → List (List ℕ)) (signal place : List ℕ)
-    → length names ≤ number_of names signal
+    → length names ≤ number_among names signal
     → ((q : List ℕ) → is_among names q ≡ true → places_under names all q ≡ places q)
     → (q : List ℕ) → is_among names q ≡ true → places_under names all q ≡ with_place places signal place q
 place-left names all places signal place past each q among =
     elim (bytes_eq signal q) as (λ b. (bytes_eq signal q ≡ b) → places_under names all q ≡ cond b (insert_text (places q) place) (places q)) [
       | true ↦ λ e.
-          let at : number_of names signal ≡ number_of names q = ap (number_of names) (same-text signal q e) in
-          let within : number_of names q < length names = any-within (λ t. bytes_eq t q) names among in
+          let at : number_among names signal ≡ number_among names q = ap (number_among names) (same-text signal q e) in
+          let within : number_among names q < length names = any-within (λ t. bytes_eq t q) names among in
           absurd (omega arith)
       | false ↦ λ e. each q among
     ] refl

@@ -10,9 +10,9 @@ use Rattle.lin_values.specs.declared.diff.fact.Thing.{Thing}
 use Rattle.std.proofs.lemmas.List.FromFn.{length-range_with_len}
 use Rattle.lin_values.specs.declared.diff.fact.Class.TheVariants as classes
 use Rattle.lin_values.specs.Facts.{class_if_gone, class_if_new}
-use Rattle.lin_values.specs.Differences.{DifferenceData, class_of_new, delay_difference, entry_difference, entry_with, fact_difference, fact_with, is_moved_in, kind_differences, new_entry, new_fact, new_thing, old_entry, old_fact, old_places, old_thing, pair_differences, place_of_entry, thing_differences, thing_difference, thing_named, was_moved}
-use Rattle.lin_values.specs.DiffLaws.{step_of, value_of, AreDistinct, AreFound, AreSame, SaysSame, SaySame, SilenceIsSameness}
-use Rattle.lin_values.specs.Moved.{moved}
+use Rattle.lin_values.specs.Differences.{DifferenceData, class_of_new, delay_difference, entry_difference, entry_with_id, fact_difference, fact_with, is_moved_in, kind_differences, new_entry, new_fact, new_thing, old_entry, old_fact, old_places, old_thing, pair_differences, place_of_entry, thing_differences, thing_difference, thing_named, was_moved}
+use Rattle.lin_values.specs.DiffLaws.{entry_step, value_of, AreDistinct, AreFound, AreSame, SaysSame, SaySame, SilenceIsSameness}
+use Rattle.lin_values.specs.Moved.{moved_flags}
 use Rattle.lin_values.specs.Numbering.{entry_id}
 use Rattle.lin_values.proofs.EntryOrder.{flag-unset, listed-is, mapped-listed, no-flags, own-places, place_in, places, listed, same-order}
 use Rattle.lin_cluster.proofs.NamesFound.{same-text, text-same}
@@ -110,9 +110,9 @@ kept-pair : (o n : Thing) (b : Bool) (e f : EntryFact) → b ≡ false → e.del
 kept-pair o n b e f still same =
     (λ j. cond (still j) (entry_difference o n e (Some e) (Some f) ∷ []) [] ++ cond (text-same e.delay f.delay same j) [] (delay_difference o n e f ∷ []))
 
-entry-kept : (o n : Thing) (e : EntryFact) → old_entry o n e ≡ [] → (f : EntryFact) × (entry_with (entry_id e) n.entries ≡ Some f) × KeepsEntry o.entries n.entries e f
+entry-kept : (o n : Thing) (e : EntryFact) → old_entry o n e ≡ [] → (f : EntryFact) × (entry_with_id (entry_id e) n.entries ≡ Some f) × KeepsEntry o.entries n.entries e f
 entry-kept o n e none =
-    elim (entry_with (entry_id e) n.entries) as (λ p. option_map_or (pair_differences o n (is_moved_in o.entries n.entries e) e) p (entry_difference o n e (Some e) None ∷ []) ≡ []
+    elim (entry_with_id (entry_id e) n.entries) as (λ p. option_map_or (pair_differences o n (is_moved_in o.entries n.entries e) e) p (entry_difference o n e (Some e) None ∷ []) ≡ []
     → (f : EntryFact) × (p ≡ Some f) × KeepsEntry o.entries n.entries e f) [
       | Some f ↦ λ h. (f, refl, pair-kept o n (is_moved_in o.entries n.entries e) e f h)
       | None ↦ λ h. absurd cc
@@ -133,14 +133,14 @@ entry-placed (u ∷ texts) k t p e =
 
 -- no entry was moved
 unmoved : (es fs : List EntryFact) → ((e : EntryFact) → Contains es e → is_moved_in es fs e ≡ false)
-    → (i : ℕ) → i < length (old_places es fs) → get_or (moved (old_places es fs)) i false ≡ false
+    → (i : ℕ) → i < length (old_places es fs) → get_or (moved_flags (old_places es fs)) i false ≡ false
 unmoved es fs still i lt =
     let found : (f : EntryFact) × Contains fs f × (place_of_entry es f ≡ Some (get_or (old_places es fs) i 0)) = listed-is (place_of_entry es) fs i lt in
     let p : ℕ = get_or (old_places es fs) i 0 in
     let entry : (e : EntryFact) × Contains es e × (entry_id e ≡ entry_id found.0) =
     contained-among entry_id (entry_id found.0) es (entry-placed (ids es) 0 (entry_id found.0) p found.2) in
     let at : place_of_entry es entry.0 ≡ Some p = ap (place_in 0 (ids es)) entry.2 ∙ found.2 in
-    flag-unset (old_places es fs) (moved (old_places es fs)) i lt
+    flag-unset (old_places es fs) (moved_flags (old_places es fs)) i lt
     (sym (ap (λ q. option_map_or (was_moved (old_places es fs)) q false) at) ∙ still entry.0 entry.1)
 
 first-same : {X : Type 0} (x y : X) (xs ys : List X) → x ∷ xs ≡ y ∷ ys → x ≡ y
@@ -149,30 +149,30 @@ first-same x y xs ys e = cc
 rest-same : {X : Type 0} (x y : X) (xs ys : List X) → x ∷ xs ≡ y ∷ ys → xs ≡ ys
 rest-same x y xs ys e = cc
 
-steps-same : (es fs : List EntryFact) → ids es ≡ ids fs → ((i : ℕ) (d : EntryFact) → i < length es → (get_or es i d).delay ≡ (get_or fs i d).delay) → map step_of es ≡ map step_of fs
+steps-same : (es fs : List EntryFact) → ids es ≡ ids fs → ((i : ℕ) (d : EntryFact) → i < length es → (get_or es i d).delay ≡ (get_or fs i d).delay) → map entry_step es ≡ map entry_step fs
 steps-same [] [] same delays = refl
 steps-same [] (f ∷ fs) same delays = absurd cc
 steps-same (e ∷ es) [] same delays = absurd cc
 steps-same (e ∷ es) (f ∷ fs) same delays =
     let first : entry_id e ≡ entry_id f = first-same (entry_id e) (entry_id f) (ids es) (ids fs) same in
     let rest : ids es ≡ ids fs = rest-same (entry_id e) (entry_id f) (ids es) (ids fs) same in
-    let others : map step_of es ≡ map step_of fs = steps-same es fs rest (λ i d lt. delays (suc i) d (omega arith)) in
+    let others : map entry_step es ≡ map entry_step fs = steps-same es fs rest (λ i d lt. delays (suc i) d (omega arith)) in
     let delay : e.delay ≡ f.delay = delays 0 e (omega arith) in
     (λ j. (first j, delay j) ∷ others j)
 
-step-ids : (es fs : List EntryFact) → map step_of es ≡ map step_of fs → ids es ≡ ids fs
+step-ids : (es fs : List EntryFact) → map entry_step es ≡ map entry_step fs → ids es ≡ ids fs
 step-ids [] [] same = refl
 step-ids [] (f ∷ fs) same = absurd cc
 step-ids (e ∷ es) [] same = absurd cc
 step-ids (e ∷ es) (f ∷ fs) same =
-    (λ j. (first-same (step_of e) (step_of f) (map step_of es) (map step_of fs) same j).0
-    ∷ step-ids es fs (rest-same (step_of e) (step_of f) (map step_of es) (map step_of fs) same) j)
+    (λ j. (first-same (entry_step e) (entry_step f) (map entry_step es) (map entry_step fs) same j).0
+    ∷ step-ids es fs (rest-same (entry_step e) (entry_step f) (map entry_step es) (map entry_step fs) same) j)
 
-step-delays : (es fs : List EntryFact) → map step_of es ≡ map step_of fs → (i : ℕ) (d : EntryFact) → i < length es → (get_or es i d).delay ≡ (get_or fs i d).delay
+step-delays : (es fs : List EntryFact) → map entry_step es ≡ map entry_step fs → (i : ℕ) (d : EntryFact) → i < length es → (get_or es i d).delay ≡ (get_or fs i d).delay
 step-delays [] fs same i d lt = absurd (omega arith)
 step-delays (e ∷ es) [] same i d lt = absurd cc
-step-delays (e ∷ es) (f ∷ fs) same zero d lt = (λ j. (first-same (step_of e) (step_of f) (map step_of es) (map step_of fs) same j).1)
-step-delays (e ∷ es) (f ∷ fs) same (suc i) d lt = step-delays es fs (rest-same (step_of e) (step_of f) (map step_of es) (map step_of fs) same) i d (omega arith)
+step-delays (e ∷ es) (f ∷ fs) same zero d lt = (λ j. (first-same (entry_step e) (entry_step f) (map entry_step es) (map entry_step fs) same j).1)
+step-delays (e ∷ es) (f ∷ fs) same (suc i) d lt = step-delays es fs (rest-same (entry_step e) (entry_step f) (map entry_step es) (map entry_step fs) same) i d (omega arith)
 
 id-at : (es fs : List EntryFact) → ids es ≡ ids fs → (i : ℕ) (d : EntryFact) → i < length es → entry_id (get_or es i d) ≡ entry_id (get_or fs i d)
 id-at [] fs same i d lt = absurd (omega arith)
@@ -187,9 +187,9 @@ as-many (e ∷ es) [] same = absurd cc
 as-many (e ∷ es) (f ∷ fs) same = ap (λ n. suc n) (as-many es fs (rest-same (entry_id e) (entry_id f) (ids es) (ids fs) same))
 
 -- the other entry with the word and the number of one
-other-at : (es fs : List EntryFact) → Apart (ids fs) → ids es ≡ ids fs → (i : ℕ) (d : EntryFact) → i < length es → entry_with (entry_id (get_or es i d)) fs ≡ Some (get_or fs i d)
+other-at : (es fs : List EntryFact) → Apart (ids fs) → ids es ≡ ids fs → (i : ℕ) (d : EntryFact) → i < length es → entry_with_id (entry_id (get_or es i d)) fs ≡ Some (get_or fs i d)
 other-at es fs all same i d lt =
-    ap (λ t. entry_with t fs) (id-at es fs same i d lt)
+    ap (λ t. entry_with_id t fs) (id-at es fs same i d lt)
     ∙ only-found entry_id fs (get_or fs i d) all (contained-at fs i d (let size : length es ≡ length fs = as-many es fs same in omega arith))
 
 some-same : {X : Type 0} (x y : X) → Some x ≡ Some y → x ≡ y
@@ -198,30 +198,30 @@ some-same x y e = cc
 none-at : (n : ℕ) (o : Option ℕ) → option_map_or (was_moved (range_with_len 0 n)) o false ≡ false
 none-at n None = refl
 none-at n (Some p) =
-    no-flags p (range_with_len 0 n) (moved (range_with_len 0 n)) (λ i lt. kept-places n i (let size : length (range_with_len 0 n) ≡ n = length-range_with_len 0 n in omega arith))
+    no-flags p (range_with_len 0 n) (moved_flags (range_with_len 0 n)) (λ i lt. kept-places n i (let size : length (range_with_len 0 n) ≡ n = length-range_with_len 0 n in omega arith))
 
 pub entries-same : (o n : Thing) → Apart (ids o.entries) → Apart (ids n.entries) → flat_map (old_entry o n) o.entries ≡ [] → flat_map (new_entry o n) n.entries ≡ []
-    → map step_of o.entries ≡ map step_of n.entries
+    → map entry_step o.entries ≡ map entry_step n.entries
 entries-same o n old_apart new_apart olds news =
     let es : List EntryFact = o.entries in
     let fs : List EntryFact = n.entries in
-    let kept : (e : EntryFact) → Contains es e → (f : EntryFact) × (entry_with (entry_id e) fs ≡ Some f) × KeepsEntry es fs e f = λ e c. entry-kept o n e (flat-none (old_entry o n) es e olds c) in
+    let kept : (e : EntryFact) → Contains es e → (f : EntryFact) × (entry_with_id (entry_id e) fs ≡ Some f) × KeepsEntry es fs e f = λ e c. entry-kept o n e (flat-none (old_entry o n) es e olds c) in
     let there : (q : List ℕ) → is_among (ids es) q ≡ true → is_among (ids fs) q ≡ true = λ q h.
     let entry : (e : EntryFact) × Contains es e × (entry_id e ≡ q) = contained-among entry_id q es h in
-    let found : (f : EntryFact) × (entry_with (entry_id entry.0) fs ≡ Some f) × KeepsEntry es fs entry.0 f = kept entry.0 entry.1 in
+    let found : (f : EntryFact) × (entry_with_id (entry_id entry.0) fs ≡ Some f) × KeepsEntry es fs entry.0 f = kept entry.0 entry.1 in
     ap (is_among (ids fs)) (sym entry.2) ∙ sym (found-among entry_id (entry_id entry.0) fs) ∙ ap is_some found.1 in
     let here : (q : List ℕ) → is_among (ids fs) q ≡ true → is_among (ids es) q ≡ true = λ q h.
     let entry : (f : EntryFact) × Contains fs f × (entry_id f ≡ q) = contained-among entry_id q fs h in
-    let found : is_some (entry_with (entry_id entry.0) es) ≡ true = unlisted (is_some (entry_with (entry_id entry.0) es)) (entry_difference o n entry.0 None (Some entry.0)) (flat-none (new_entry o n) fs entry.0 news entry.1) in
+    let found : is_some (entry_with_id (entry_id entry.0) es) ≡ true = unlisted (is_some (entry_with_id (entry_id entry.0) es)) (entry_difference o n entry.0 None (Some entry.0)) (flat-none (new_entry o n) fs entry.0 news entry.1) in
     ap (is_among (ids es)) (sym entry.2) ∙ sym (found-among entry_id (entry_id entry.0) es) ∙ found in
     let rises : Rising 0 (old_places es fs) = none-moved (old_places es fs) (unmoved es fs (λ e c. (kept e c).2.0)) in
     let same : ids es ≡ ids fs = same-order 0 (ids es) (ids fs) old_apart there here (subst (Rising 0) (places-are es fs) rises) in
     steps-same es fs same (λ i d lt.
-    let found : (f : EntryFact) × (entry_with (entry_id (get_or es i d)) fs ≡ Some f) × KeepsEntry es fs (get_or es i d) f = kept (get_or es i d) (contained-at es i d lt) in
+    let found : (f : EntryFact) × (entry_with_id (entry_id (get_or es i d)) fs ≡ Some f) × KeepsEntry es fs (get_or es i d) f = kept (get_or es i d) (contained-at es i d lt) in
     let at : found.0 ≡ get_or fs i d = some-same found.0 (get_or fs i d) (sym found.1 ∙ other-at es fs new_apart same i d lt) in
     found.2.1 ∙ ap (λ (f : EntryFact). f.delay) at)
 
-same-entries : (o n : Thing) → Apart (ids o.entries) → Apart (ids n.entries) → map step_of o.entries ≡ map step_of n.entries
+same-entries : (o n : Thing) → Apart (ids o.entries) → Apart (ids n.entries) → map entry_step o.entries ≡ map entry_step n.entries
     → (flat_map (old_entry o n) o.entries ≡ []) × (flat_map (new_entry o n) n.entries ≡ [])
 same-entries o n old_apart new_apart steps =
     let es : List EntryFact = o.entries in
@@ -232,7 +232,7 @@ same-entries o n old_apart new_apart steps =
     ap (λ ps. option_map_or (was_moved ps) (place_of_entry es e) false) all ∙ none-at (length (ids es)) (place_of_entry es e) in (
       none-flat (old_entry o n) es (λ e (i, lt, at).
           let here : get_or es i e ≡ e = at in
-          let found : entry_with (entry_id e) fs ≡ Some (get_or fs i e) = ap (λ (x : EntryFact). entry_with (entry_id x) fs) (sym here) ∙ other-at es fs new_apart same i e lt in
+          let found : entry_with_id (entry_id e) fs ≡ Some (get_or fs i e) = ap (λ (x : EntryFact). entry_with_id (entry_id x) fs) (sym here) ∙ other-at es fs new_apart same i e lt in
           let delays : e.delay ≡ (get_or fs i e).delay = ap (λ (x : EntryFact). x.delay) (sym here) ∙ step-delays es fs steps i e lt in
           ap (λ p. option_map_or (pair_differences o n (is_moved_in es fs e) e) p (entry_difference o n e (Some e) None ∷ [])) found
           ∙ kept-pair o n (is_moved_in es fs e) e (get_or fs i e) (still e) delays),

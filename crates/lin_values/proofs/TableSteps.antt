@@ -7,25 +7,25 @@ use Rattle.lin_ldf.specs.Symbols.{Symbol}
 use Rattle.lin_parts.specs.declared.description.TableEntry.{TableEntry}
 use Rattle.lin_values.specs.NewNames.{RenamesData}
 use Rattle.lin_values.specs.Passed.{behind_line}
-use Rattle.lin_values.specs.Things.{entries_from, entry_fact, entry_word}
+use Rattle.lin_values.specs.Things.{entry_facts, entry_fact, entry_word}
 use Rattle.lin_values.specs.declared.diff.fact.EntryFact.{EntryFact}
 use Rattle.lin_values.proofs.FactSteps.{pair-more}
 
 -- an entry more, whose line was passed
 pub entries-more : (r : RenamesData) (es : List TableEntry) (i : ℕ) (e : TableEntry) (line next : List Symbol) (x : EntryFact) (old new total : List EntryFact)
     → i < length es → e ≡ get_or es i e → next ≡ behind_line 0 line → x ≡ entry_fact (entry_word r e line) i e → new ≡ old ++ x ∷ []
-    → old ++ entries_from r i line (drop i es) ≡ total → new ++ entries_from r (i + 1) next (drop (i + 1) es) ≡ total
+    → old ++ entry_facts r i line (drop i es) ≡ total → new ++ entry_facts r (i + 1) next (drop (i + 1) es) ≡ total
 entries-more r es i e line next x old new total lt is passed made added so_far =
-    let rest : List EntryFact = entries_from r (i + 1) (behind_line 0 line) (drop (i + 1) es) in
-    let first : entries_from r i line (drop i es) ≡ x ∷ rest =
-    ap (entries_from r i line) (drop-cons es i e lt ∙ (λ j. sym is j ∷ drop (sym (add-one i) j) es)) ∙ ap (λ (f : EntryFact). f ∷ rest) (sym made) in
-    (λ j. added j ++ entries_from r (i + 1) (passed j) (drop (i + 1) es))
+    let rest : List EntryFact = entry_facts r (i + 1) (behind_line 0 line) (drop (i + 1) es) in
+    let first : entry_facts r i line (drop i es) ≡ x ∷ rest =
+    ap (entry_facts r i line) (drop-cons es i e lt ∙ (λ j. sym is j ∷ drop (sym (add-one i) j) es)) ∙ ap (λ (f : EntryFact). f ∷ rest) (sym made) in
+    (λ j. added j ++ entry_facts r (i + 1) (passed j) (drop (i + 1) es))
     ∙ append_assoc old (x ∷ []) rest ∙ ap (λ fs. old ++ fs) (sym first) ∙ so_far
 
 pub entries-all : (r : RenamesData) (es : List TableEntry) (i : ℕ) (line : List Symbol) (found total : List EntryFact) → length es ≤ i
-    → found ++ entries_from r i line (drop i es) ≡ total → found ≡ total
+    → found ++ entry_facts r i line (drop i es) ≡ total → found ≡ total
 entries-all r es i line found total past so_far =
-    sym (append-nil found) ∙ ap (λ xs. found ++ entries_from r i line xs) (sym (drop_all i es past)) ∙ so_far
+    sym (append-nil found) ∙ ap (λ xs. found ++ entry_facts r i line xs) (sym (drop_all i es past)) ∙ so_far
 
 -- what is made of a pair more
 pub pairs-more : {X Y Z : Type 0} (f : X × Y → List Z) (xs : List X) (ys : List Y) (i : ℕ) (x : X) (y : Y) (old new : List Z) → i < length xs → i < length ys

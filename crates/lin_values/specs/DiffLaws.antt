@@ -11,7 +11,7 @@ use Rattle.lin_values.specs.Differences.{all_differences, fact_with, kind_differ
 use Rattle.lin_values.specs.NewNames.{name_in, no_renames, RenamesData}
 use Rattle.lin_values.specs.Numbering.{entry_id}
 use Rattle.lin_values.specs.Renames.{all_renames}
-use Rattle.lin_values.specs.Things.{all_things, entries_of, initial_fact, size_text, table_things, ComparedData}
+use Rattle.lin_values.specs.Things.{all_things, table_entries, initial_fact, size_text, table_things, ComparedData}
 use Rattle.lin_values.specs.declared.diff.compared.TableLoad.{TableLoad}
 use Rattle.lin_values.specs.declared.diff.fact.Class.{Class}
 use Rattle.lin_values.specs.declared.diff.fact.Class.TheVariants as classes
@@ -25,14 +25,14 @@ abbrev pub value_of : List ℕ → List Fact → Option (List ℕ)
 value_of key fs = option_map (λ f. f.value) (fact_with key fs)
 
 -- what an entry is for, with its number among the entries for the same, and its delay
-abbrev pub step_of : EntryFact → List ℕ × List ℕ
-step_of e = (entry_id e, e.delay)
+abbrev pub entry_step : EntryFact → List ℕ × List ℕ
+entry_step e = (entry_id e, e.delay)
 
 -- the same name, the same value of each key, and the same entries with the same delays in the same order
 pub record SaysSame (o n : Thing) : Type 0 where
   pub name : o.name ≡ n.name
   pub facts : (key : List ℕ) → value_of key o.facts ≡ value_of key n.facts
-  pub entries : map step_of o.entries ≡ map step_of n.entries
+  pub entries : map entry_step o.entries ≡ map entry_step n.entries
 
 abbrev pub AreSame : Option Thing → Option Thing → Type 0
 AreSame None None = Unit {0}
@@ -66,14 +66,14 @@ IsSilentOn class old new =
     (all_differences (all_things old (all_renames old new)) (all_things new no_renames))
 
 -- identifiers of one byte, and numbers of 32 bits
-pub record AreShort (d : ComparedData) : Type 0 where
+pub record HasShortNumbers (d : ComparedData) : Type 0 where
   pub ids : All (λ f. f.id.value < 256) d.description.frames
   pub sizes : All (λ f. f.size.value < 2 ^ 32) d.description.frames
   pub offsets : All (λ f. All (λ p. p.offset.value < 2 ^ 32) f.placed) d.description.frames
 
 -- the frames that have a checksum model
-abbrev pub frames_of : ComparedData → List (Frame × SumKind)
-frames_of d = zip d.description.frames (map (λ f. f.model) d.cluster.frames)
+abbrev pub modelled_frames : ComparedData → List (Frame × SumKind)
+modelled_frames d = zip d.description.frames (map (λ f. f.model) d.cluster.frames)
 
 -- a signal of a frame is on the same bits of the other frame
 abbrev pub KeepsPlace : RenamesData → Frame → PlacedSignal → Type 0
@@ -99,29 +99,29 @@ pub record KeepsSignal (r : RenamesData) (s t : Signal) : Type 0 where
 -- without a line `bytes` each frame and each signal of the old LDF is in the new one
 abbrev pub SilenceKeepsBytes : Type 0
 SilenceKeepsBytes =
-    (old new : ComparedData) → AreShort old → AreShort new → IsSilentOn classes.Bytes old new
-    → All (λ f. (g : Frame × SumKind) × Contains (frames_of new) g × KeepsFrame (all_renames old new) f g) (frames_of old)
+    (old new : ComparedData) → HasShortNumbers old → HasShortNumbers new → IsSilentOn classes.Bytes old new
+    → All (λ f. (g : Frame × SumKind) × Contains (modelled_frames new) g × KeepsFrame (all_renames old new) f g) (modelled_frames old)
     × All (λ s. (t : Signal) × Contains new.description.signals t × KeepsSignal (all_renames old new) s t) old.description.signals
 
 -- each entry of a table has another word, or another number
-abbrev pub AreTold : List Thing → Type 0
-AreTold ts = All (λ t. AreDistinct (map entry_id t.entries)) ts
+abbrev pub HaveDistinctEntries : List Thing → Type 0
+HaveDistinctEntries ts = All (λ t. AreDistinct (map entry_id t.entries)) ts
 
 -- the tables that have a load
-abbrev pub tables_of : ComparedData → List (Table × TableLoad)
-tables_of d = zip d.description.tables d.loads
+abbrev pub loaded_tables : ComparedData → List (Table × TableLoad)
+loaded_tables d = zip d.description.tables d.loads
 
 -- a table with the same entries and delays
 pub record KeepsTable (old new : ComparedData) (t u : Table) : Type 0 where
   pub name : u.name.text ≡ name_in (all_renames old new).tables t.name.text
-  pub entries : map step_of (entries_of old (all_renames old new) t) ≡ map step_of (entries_of new no_renames u)
+  pub entries : map entry_step (table_entries old (all_renames old new) t) ≡ map entry_step (table_entries new no_renames u)
 
 -- without a line `timing` each table of the old LDF is in the new one (a table with a dot in its name isn't one of
 -- the LDF)
 abbrev pub SilenceKeepsTimes : Type 0
 SilenceKeepsTimes =
-    (old new : ComparedData) → AreTold (table_things old (all_renames old new)) → AreTold (table_things new no_renames)
+    (old new : ComparedData) → HaveDistinctEntries (table_things old (all_renames old new)) → HaveDistinctEntries (table_things new no_renames)
     → IsSilentOn classes.Timing old new
     → All
-    (λ t. has_dot t.0.name.text ≡ false → (u : Table × TableLoad) × Contains (tables_of new) u × KeepsTable old new t.0 u.0)
-    (tables_of old)
+    (λ t. has_dot t.0.name.text ≡ false → (u : Table × TableLoad) × Contains (loaded_tables new) u × KeepsTable old new t.0 u.0)
+    (loaded_tables old)

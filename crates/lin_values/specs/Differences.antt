@@ -1,6 +1,6 @@
 -- The differences between two LDFs: kind by kind, of each first the things of the old LDF in their order, each with
 -- its facts and entries, then those that the new LDF alone has.
-use Rattle.std.specs.Prelude.{ℕ, ◌&&◌, ◌++◌, ◌==◌, Bool, false, List, [], ◌∷◌, codes, find, flat_map}
+use Rattle.std.specs.Prelude.{◌≡◌, ℕ, ◌&&◌, ◌++◌, ◌==◌, Bool, false, List, [], ◌∷◌, codes, find, flat_map}
 use Rattle.std.specs.Prelude.{if◌then◌else◌, is_some, length, map, not, option_map, zip, Option}
 use Rattle.std.specs.Prelude.{Some, None}
 use Rattle.std.specs.List.{list_any, position_from, range_with_len}
@@ -8,20 +8,20 @@ use Rattle.std.specs.Option.{option_map_or}
 use Rattle.std.specs.Str.{bytes_eq}
 use Rattle.lin_parts.specs.declared.place.Location.{Location}
 use Rattle.lin_values.specs.Facts.{class_if_gone, class_if_new, label, overlap}
-use Rattle.lin_values.specs.Moved.{moved}
+use Rattle.lin_values.specs.Moved.{moved_flags}
 use Rattle.lin_values.specs.Numbering.{entry_id}
-use Rattle.lin_values.specs.declared.diff.comparing.Difference.{Difference}
+use Rattle.lin_values.specs.declared.diff.difference.Difference.{Difference}
 use Rattle.lin_values.specs.declared.diff.fact.Class.{Class}
 use Rattle.lin_values.specs.declared.diff.fact.Class.TheVariants as classes
 use Rattle.lin_values.specs.declared.diff.fact.EntryFact.{EntryFact}
 use Rattle.lin_values.specs.declared.diff.fact.Fact.{Fact}
-use Rattle.lin_values.specs.declared.diff.fact.Kind.{Kind}
+use Rattle.lin_values.specs.declared.diff.fact.ThingKind.{ThingKind}
 use Rattle.lin_values.specs.declared.diff.fact.Thing.{Thing}
 
 -- a difference, as its line has it: words that are empty aren't written
 pub record DifferenceData : Type 0 where
   pub class : Class
-  pub kind : Kind
+  pub kind : ThingKind
   pub old_place : Option Location
   pub new_place : Option Location
   pub name : List ℕ
@@ -95,8 +95,8 @@ delay_difference o n old new = record {
   new = Some new.delay;
 }
 
-abbrev pub entry_with : List ℕ → List EntryFact → Option EntryFact
-entry_with id es = find (λ e. bytes_eq (entry_id e) id) es
+abbrev pub entry_with_id : List ℕ → List EntryFact → Option EntryFact
+entry_with_id id es = find (λ e. bytes_eq (entry_id e) id) es
 
 abbrev pub place_of_entry : List EntryFact → EntryFact → Option ℕ
 place_of_entry es e = position_from (λ id. bytes_eq id (entry_id e)) 0 (map entry_id es)
@@ -107,14 +107,18 @@ old_places olds news = flat_map (λ e. option_map_or (λ p. p ∷ []) (place_of_
 
 -- whether an entry of the old table was moved
 abbrev pub was_moved : List ℕ → ℕ → Bool
-was_moved places p = list_any (λ (pair : ℕ × Bool). pair.1 && pair.0 == p) (zip places (moved places))
+was_moved places p = list_any (λ (pair : ℕ × Bool). pair.1 && pair.0 == p) (zip places (moved_flags places))
 
 -- of each entry of the old table
 abbrev pub moved_entries : List EntryFact → List ℕ → List Bool
 moved_entries olds places = map (was_moved places) (range_with_len 0 (length olds))
 
+-- whether an entry of the old table was moved, by the places of the pairs
+abbrev pub is_moved_by : List ℕ → List EntryFact → EntryFact → Bool
+is_moved_by places olds e = option_map_or (was_moved places) (place_of_entry olds e) false
+
 abbrev pub is_moved_in : List EntryFact → List EntryFact → EntryFact → Bool
-is_moved_in olds news e = option_map_or (was_moved (old_places olds news)) (place_of_entry olds e) false
+is_moved_in olds news e = is_moved_by (old_places olds news) olds e
 
 abbrev pub pair_differences : Thing → Thing → Bool → EntryFact → EntryFact → List DifferenceData
 pair_differences o n is_moved old new =
@@ -124,15 +128,19 @@ pair_differences o n is_moved old new =
 abbrev pub old_entry : Thing → Thing → EntryFact → List DifferenceData
 old_entry o n e =
     option_map_or (pair_differences o n (is_moved_in o.entries n.entries e) e)
-    (entry_with (entry_id e) n.entries) (entry_difference o n e (Some e) None ∷ [])
+    (entry_with_id (entry_id e) n.entries) (entry_difference o n e (Some e) None ∷ [])
 
 abbrev pub new_entry : Thing → Thing → EntryFact → List DifferenceData
 new_entry o n e =
-    if is_some (entry_with (entry_id e) o.entries) then [] else entry_difference o n e None (Some e) ∷ []
+    if is_some (entry_with_id (entry_id e) o.entries) then [] else entry_difference o n e None (Some e) ∷ []
+
+-- of two tables
+abbrev pub entry_differences : Thing → Thing → List DifferenceData
+entry_differences o n = flat_map (old_entry o n) o.entries ++ flat_map (new_entry o n) n.entries
 
 -- ---- things
 
-abbrev pub named_difference : Class → Kind → Option Location → Option Location → Option (List ℕ)
+abbrev pub named_difference : Class → ThingKind → Option Location → Option Location → Option (List ℕ)
     → Option (List ℕ) → DifferenceData
 named_difference class kind old_place new_place old new = record {
   class = class;
@@ -146,7 +154,7 @@ named_difference class kind old_place new_place old new = record {
   new = new;
 }
 
-abbrev pub thing_difference : Class → Kind → Option Thing → Option Thing → DifferenceData
+abbrev pub thing_difference : Class → ThingKind → Option Thing → Option Thing → DifferenceData
 thing_difference class kind old new =
     named_difference class kind (option_map (λ t. t.place) old) (option_map (λ t. t.place) new)
     (option_map (λ t. t.name) old) (option_map (λ t. t.name) new)
@@ -156,8 +164,7 @@ abbrev pub thing_differences : Thing → Thing → List DifferenceData
 thing_differences o n =
     (if bytes_eq o.name n.name then [] else thing_difference classes.Names o.kind (Some o) (Some n) ∷ [])
     ++ (flat_map (old_fact o n) o.facts
-    ++ (flat_map (new_fact o n) n.facts
-    ++ (flat_map (old_entry o n) o.entries ++ flat_map (new_entry o n) n.entries)))
+    ++ (flat_map (new_fact o n) n.facts ++ entry_differences o n))
 
 abbrev pub thing_named : List ℕ → List Thing → Option Thing
 thing_named name ts = find (λ t. bytes_eq t.new_name name) ts
@@ -196,3 +203,11 @@ difference_data d = record {
 
 abbrev pub differences_data : List Difference → List DifferenceData
 differences_data ds = map difference_data ds
+
+-- so many flags, each by its place
+abbrev pub AreFlags : ℕ → (ℕ → Bool) → List Bool → Type 0
+AreFlags count f flags = flags ≡ map f (range_with_len 0 count)
+
+-- a list of differences got these at its end
+abbrev pub AddsDifferences : List Difference → List Difference → List DifferenceData → Type 0
+AddsDifferences before after more = differences_data after ≡ differences_data before ++ more

@@ -8,8 +8,8 @@ use Rattle.lin_values.specs.declared.diff.fact.Bits.{Bits}
 use Rattle.lin_values.specs.declared.diff.fact.Class.{Class}
 use Rattle.lin_values.specs.declared.diff.fact.Class.TheVariants as classes
 use Rattle.lin_values.specs.declared.diff.fact.Fact.{Fact}
-use Rattle.lin_values.specs.declared.diff.fact.Kind.{Kind}
-use Rattle.lin_values.specs.declared.diff.fact.Kind.TheVariants as kinds
+use Rattle.lin_values.specs.declared.diff.fact.ThingKind.{ThingKind}
+use Rattle.lin_values.specs.declared.diff.fact.ThingKind.TheVariants as kinds
 use Rattle.lin_values.specs.declared.diff.fact.Thing.{Thing}
 
 -- ---- classes and kinds
@@ -22,7 +22,7 @@ class_word classes.Compatible = codes "compatible"
 class_word classes.Names = codes "names"
 
 -- the header has no word
-abbrev pub kind_word : Kind → List ℕ
+abbrev pub kind_word : ThingKind → List ℕ
 kind_word kinds.Header = []
 kind_word kinds.Node = codes "node"
 kind_word kinds.Signal = codes "signal"
@@ -33,7 +33,7 @@ kind_word kinds.Table = codes "table"
 kind_word kinds.Encoding = codes "encoding"
 
 -- of a thing that is gone: a node that knew it misses it
-abbrev pub class_if_gone : Kind → Class
+abbrev pub class_if_gone : ThingKind → Class
 class_if_gone kinds.Header = classes.Bytes
 class_if_gone kinds.Node = classes.Bytes
 class_if_gone kinds.Signal = classes.Bytes
@@ -44,7 +44,7 @@ class_if_gone kinds.Table = classes.Timing
 class_if_gone kinds.Encoding = classes.Names
 
 -- of a thing that is new: no node of the old LDF looks at it. A sporadic frame changes when others are sent
-abbrev pub class_if_new : Kind → Class
+abbrev pub class_if_new : ThingKind → Class
 class_if_new kinds.Header = classes.Compatible
 class_if_new kinds.Node = classes.Compatible
 class_if_new kinds.Signal = classes.Compatible
@@ -78,7 +78,7 @@ abbrev pub overlap : Bits → Bits → Bool
 overlap a b = nat_lt a.from b.end && nat_lt b.from a.end
 
 -- a thing that has no entries, and of which no bits are taken
-abbrev pub thing : Kind → List ℕ → List ℕ → Location → List Fact → Thing
+abbrev pub thing : ThingKind → List ℕ → List ℕ → Location → List Fact → Thing
 thing kind name new_name place facts = record {
   kind = kind;
   name = name;

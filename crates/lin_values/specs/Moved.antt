@@ -40,11 +40,11 @@ chain places lengths (suc n) count end =
     option_map_or (λ i. i ∷ chain places lengths n i (Some (slice_index places i)))
     (link places lengths (suc n) count end) []
 
-abbrev pub unmarked : List Bool → List ℕ → List Bool
-unmarked flags chain = fold (λ all i. set all i false) flags chain
+abbrev pub without_marks : List Bool → List ℕ → List Bool
+without_marks flags chain = fold (λ all i. set all i false) flags chain
 
 -- whether each pair was moved
-abbrev pub moved : List ℕ → List Bool
-moved places =
-    unmarked (replicate (length places) true)
+abbrev pub moved_flags : List ℕ → List Bool
+moved_flags places =
+    without_marks (replicate (length places) true)
     (chain places (chain_lengths places) (fold max 0 (chain_lengths places)) (length places) None)

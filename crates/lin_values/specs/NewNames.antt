@@ -1,12 +1,14 @@
 -- The names that the new LDF has for the things of the old one. Two names are one thing if each is in one LDF
 -- alone, and no other such thing of either LDF has their key.
-use Rattle.std.specs.Prelude.{ℕ, Bool, List, [], ◌∷◌, Option, Some, None, filter, find, if◌then◌else◌, is_some}
-use Rattle.std.specs.Prelude.{not, option_and_then, option_map}
+use Rattle.std.specs.Prelude.{◌≡◌, ◌++◌, ℕ, Bool, List, [], ◌∷◌, Option, Some, None, filter, find, if◌then◌else◌, is_some}
+use Rattle.std.specs.Prelude.{map, not, option_and_then, option_map}
 use Rattle.std.specs.Option.{option_map_or, option_or}
 use Rattle.std.specs.List.{list_any}
 use Rattle.std.specs.Str.{bytes_eq}
 use Rattle.indexmap.specs.IndexMap.{IndexMap, get_by}
 use Rattle.lin_values.specs.declared.diff.new_names.Keyed.{Keyed}
+use Rattle.lin_values.specs.declared.diff.new_names.KeyNames.{KeyNames}
+use Rattle.lin_values.specs.declared.diff.new_names.KnownNames.{KnownNames}
 use Rattle.lin_values.specs.declared.diff.new_names.NewNames.{NewNames}
 use Rattle.lin_values.specs.declared.diff.renames.Renames.{Renames}
 use denote.Ref.{Bor}
@@ -38,12 +40,12 @@ the_only (k ∷ l ∷ ks) = None
 abbrev pub only_with : List KeyedName → List ℕ → Option (List ℕ)
 only_with things key = the_only (filter (λ k. bytes_eq k.key key) things)
 
-abbrev pub renamed : List KeyedName → List KeyedName → KeyedName → Option (List ℕ)
-renamed olds news old = if is_some (only_with olds old.key) then only_with news old.key else None
+abbrev pub renamed_to : List KeyedName → List KeyedName → KeyedName → Option (List ℕ)
+renamed_to olds news old = if is_some (only_with olds old.key) then only_with news old.key else None
 
 -- the new name of a thing of which the old LDF alone has the name; its own if it is gone
 abbrev pub new_name_of : List KeyedName → List KeyedName → KeyedName → List ℕ
-new_name_of olds news old = option_map_or (λ n. n) (renamed olds news old) old.name
+new_name_of olds news old = option_map_or (λ n. n) (renamed_to olds news old) old.name
 
 abbrev pub renamed_in : List KeyedName → List KeyedName → NameMap
 renamed_in olds news name = option_map (new_name_of olds news) (find (λ k. bytes_eq k.name name) olds)
@@ -111,3 +113,25 @@ renames_data r = record {
   tables = known_by r.tables;
   encodings = known_by r.encodings;
 }
+
+-- keys were added: those of the things that aren't among other names
+abbrev pub AddsKeys : KnownNames → List Keyed → List Keyed → List KeyedName → Type 0
+AddsKeys others before after things =
+    map keyed_name after ≡ map keyed_name before ++ alone (has_in others.map) things
+
+-- the keys of the things that aren't among other names
+abbrev pub AreKeys : KnownNames → List Keyed → List KeyedName → Type 0
+AreKeys others keys things = map keyed_name keys ≡ alone (has_in others.map) things
+
+-- the names of things with a key, as a list of things has them
+abbrev pub HasOnly : KeyNames → List KeyedName → List ℕ → Type 0
+HasOnly names things key = only_in names.map key ≡ only_with things key
+
+-- the same, after one thing more
+abbrev pub only_after : {S : Type 0} → IndexMap (Bor (List ℕ)) (Option (Bor (List ℕ))) S → Keyed → List ℕ → Option (List ℕ)
+only_after m k key =
+    if bytes_eq k.key key then (if has_in m k.key then None else Some k.name.now) else only_in m key
+
+-- names were added, of which those that were there keep their new names
+abbrev pub AddsNames : NewNames → NewNames → NameMap → Type 0
+AddsNames before after more = (q : List ℕ) → known_by after q ≡ option_or (known_by before q) (more q)

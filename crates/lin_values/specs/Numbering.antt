@@ -30,8 +30,8 @@ abbrev pub numbered_fact : ℕ → Fact → Fact
 numbered_fact count f = if count == 0 then f else record f { key = again_text f.key count }
 
 -- each key of a fact once
-abbrev pub numbered : List Fact → List Fact
-numbered fs = map (λ p. numbered_fact p.0 p.1) (zip (repeats (map (λ f. f.key) fs)) fs)
+abbrev pub numbered_facts : List Fact → List Fact
+numbered_facts fs = map (λ p. numbered_fact p.0 p.1) (zip (repeats (map (λ f. f.key) fs)) fs)
 
 abbrev pub numbered_entry : ℕ → EntryFact → EntryFact
 numbered_entry count e = if count == 0 then e else record e { again = Some (again_text e.word count) }
@@ -44,8 +44,8 @@ abbrev pub entry_id : EntryFact → List ℕ
 entry_id e = option_map_or (λ again. again) e.again e.word
 
 -- under each text, how many of some texts are this one
-abbrev pub AreCounts : {S : Type 0} → List (List ℕ) → IndexMap (Bor (List ℕ)) ℕ S → Type 0
-AreCounts texts m = (q : List ℕ) → unwrap_or (get_by (λ k. bytes_eq q k.now) m) 0 ≡ count_of texts q
+abbrev pub AreTextCounts : {S : Type 0} → List (List ℕ) → IndexMap (Bor (List ℕ)) ℕ S → Type 0
+AreTextCounts texts m = (q : List ℕ) → unwrap_or (get_by (λ k. bytes_eq q k.now) m) 0 ≡ count_of texts q
 
 -- under each text, the place of the first of some texts that is this one
 abbrev pub ArePlaces : {S : Type 0} → List (List ℕ) → IndexMap (Bor (List ℕ)) ℕ S → Type 0

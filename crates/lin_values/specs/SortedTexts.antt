@@ -11,5 +11,5 @@ abbrev pub insert_text : List (List ℕ) → List ℕ → List (List ℕ)
 insert_text [] text = text ∷ []
 insert_text (t ∷ ts) text = if is_at_most t text then t ∷ insert_text ts text else text ∷ t ∷ ts
 
-abbrev pub sorted : List (List ℕ) → List (List ℕ)
-sorted texts = fold insert_text [] texts
+abbrev pub sorted_texts : List (List ℕ) → List (List ℕ)
+sorted_texts texts = fold insert_text [] texts

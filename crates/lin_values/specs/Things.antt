@@ -38,18 +38,18 @@ use Rattle.lin_parts.specs.declared.place.Location.{Location}
 use Rattle.lin_values.specs.AttributeValues.{is_one_word, is_timing, milliseconds_in}
 use Rattle.lin_values.specs.Attributes.{node_attributes}
 use Rattle.lin_values.specs.Coded.{is_named, named_in}
-use Rattle.lin_values.specs.FactTexts.{hex_byte, joined}
+use Rattle.lin_values.specs.FactTexts.{two_hex_digits, with_spaces}
 use Rattle.lin_values.specs.Gathered.{AreNamed}
 use Rattle.lin_values.specs.Facts.{fact, is_compatible, place_of_name, place_of_number, thing}
 use Rattle.lin_values.specs.NewNames.{is_among, name_in, RenamesData}
-use Rattle.lin_values.specs.Numbering.{numbered, numbered_entries}
+use Rattle.lin_values.specs.Numbering.{numbered_facts, numbered_entries}
 use Rattle.lin_values.specs.Passed.{behind_line, has_line}
 use Rattle.lin_values.specs.Shown.{decimal_shown}
-use Rattle.lin_values.specs.SortedTexts.{sorted}
+use Rattle.lin_values.specs.SortedTexts.{sorted_texts}
 use Rattle.lin_values.specs.Statements.{inside, is_group, statements}
 use Rattle.lin_values.specs.Texts.{shown_text}
-use Rattle.lin_values.specs.TokenTexts.{as_they_are, command_text, header_lines, numbers, of_frames, of_signals}
-use Rattle.lin_values.specs.TokenTexts.{quoted, value_text, without_equals}
+use Rattle.lin_values.specs.TokenTexts.{as_they_are, command_text, lines_of_header, with_decimals, with_frame_names_of, with_signal_names_of}
+use Rattle.lin_values.specs.TokenTexts.{value_text, without_equals}
 use Rattle.lin_values.specs.declared.attribute_blocks.NodeAttributes.{NodeAttributes}
 use Rattle.lin_values.specs.declared.codings.CodingType.{CodingType}
 use Rattle.lin_values.specs.declared.codings.Codings.{Codings}
@@ -64,7 +64,7 @@ use Rattle.lin_values.specs.declared.diff.fact.Class.{Class}
 use Rattle.lin_values.specs.declared.diff.fact.Class.TheVariants as classes
 use Rattle.lin_values.specs.declared.diff.fact.EntryFact.{EntryFact}
 use Rattle.lin_values.specs.declared.diff.fact.Fact.{Fact}
-use Rattle.lin_values.specs.declared.diff.fact.Kind.TheVariants as things
+use Rattle.lin_values.specs.declared.diff.fact.ThingKind.TheVariants as things
 use Rattle.lin_values.specs.declared.diff.tables.TableLines.{TableLines}
 use Rattle.lin_values.specs.declared.diff.fact.Thing.{Thing}
 
@@ -83,14 +83,14 @@ number_fact key n class = fact key (decimal n.value) (place_of_number n) class
 -- ---- the header
 
 -- a text in quotes, or a number as it is written
-abbrev pub version_text : List Symbol → List ℕ
-version_text ts =
+abbrev pub version_value : List Symbol → List ℕ
+version_value ts =
     if is_next kinds.Text ts then shown_text (without_quotes (front ts).text) else (front ts).text
 
 abbrev pub version_fact : List ℕ → List Symbol → List Fact
 version_fact key ts =
     let value = without_equals (tail ts)
-    in if has_front value then fact key (version_text value) (place_of (front value)) classes.Names ∷ [] else []
+    in if has_front value then fact key (version_value value) (place_of (front value)) classes.Names ∷ [] else []
 
 -- the first line with a word
 abbrev pub version_facts : List ℕ → List ℕ → List (List Symbol) → List Fact
@@ -103,12 +103,12 @@ is_other_line ts =
 
 abbrev pub line_fact : List Symbol → Fact
 line_fact ts =
-    fact (joined (codes "header" ∷ (front ts).text ∷ [])) (value_text as_they_are (tail ts))
+    fact (with_spaces (codes "header" ∷ (front ts).text ∷ [])) (value_text as_they_are (tail ts))
     (place_of (front ts)) classes.Names
 
 abbrev pub header_facts : ComparedData → List Fact
 header_facts d =
-    let lines = header_lines d.tokens
+    let lines = lines_of_header d.tokens
     in number_fact (codes "speed") d.description.speed classes.Bytes
     ∷ number_fact (codes "time_base") d.description.time_base classes.Timing
     ∷ number_fact (codes "jitter") d.description.jitter classes.Timing
@@ -117,9 +117,13 @@ header_facts d =
     ++ map line_fact (filter is_other_line lines)))
 
 abbrev pub header_thing : ComparedData → Thing
-header_thing d = thing things.Header [] [] (record { line = 1; column = 1 }) (numbered (header_facts d))
+header_thing d = thing things.Header [] [] (record { line = 1; column = 1 }) (numbered_facts (header_facts d))
 
 -- ---- nodes
+
+-- the fact of an attribute with a value
+abbrev pub fact_of : List Symbol → List ℕ → Class → Fact
+fact_of ts value class = fact (front ts).text value (place_of (front ts)) class
 
 -- a response_error that isn't one word has its tokens as value, and so has a time that isn't one
 abbrev pub attribute_fact : RenamesData → List Symbol → Fact
@@ -128,11 +132,11 @@ attribute_fact r ts =
     in let place = place_of (front ts)
     in let value = tail ts
     in if is_word_next (codes "product_id") ts || is_word_next (codes "initial_NAD") ts
-    then fact word (value_text numbers value) place classes.Bytes
+    then fact word (value_text with_decimals value) place classes.Bytes
     else if is_word_next (codes "configurable_frames") ts
-    then fact word (value_text (of_frames r) value) place classes.Bytes
+    then fact word (value_text (with_frame_names_of r) value) place classes.Bytes
     else if is_word_next (codes "response_error") ts
-    then fact word (value_text (if is_one_word value then of_signals r else as_they_are) value) place classes.Meaning
+    then fact word (value_text (if is_one_word value then with_signal_names_of r else as_they_are) value) place classes.Meaning
     else if is_timing ts
     then fact word (option_map_or decimal (milliseconds_in ts) (value_text as_they_are value)) place classes.Timing
     else fact word (value_text as_they_are value) place classes.Names
@@ -141,6 +145,10 @@ attribute_fact r ts =
 abbrev pub is_other_attribute : List Symbol → Bool
 is_other_attribute ts =
     not (is_word_next (codes "LIN_protocol") ts || is_word_next (codes "configured_NAD") ts)
+
+-- a fact, unless it is one of the node
+abbrev pub other_attribute : RenamesData → List Symbol → List Fact
+other_attribute r ts = if is_other_attribute ts then attribute_fact r ts ∷ [] else []
 
 abbrev pub attribute_facts : RenamesData → Option NodeAttributes → List Fact
 attribute_facts r block =
@@ -168,7 +176,7 @@ node_facts d r name =
 
 abbrev pub node_thing : RenamesData → Name → List Fact → Thing
 node_thing r name facts =
-    thing things.Node name.text (name_in r.nodes name.text) (place_of_name name) (numbered facts)
+    thing things.Node name.text (name_in r.nodes name.text) (place_of_name name) (numbered_facts facts)
 
 abbrev pub commander_thing : ComparedData → RenamesData → Thing
 commander_thing d r =
@@ -194,7 +202,7 @@ abbrev pub size_text : Signal → List ℕ
 size_text s = size_by s.init (decimal s.size.value)
 
 abbrev pub array_text : List Number → List ℕ
-array_text values = codes "x" ++ flat_map (λ n. hex_byte (n.value % 256)) values
+array_text values = codes "x" ++ flat_map (λ n. two_hex_digits (n.value % 256)) values
 
 -- as in scripts
 abbrev pub initial_fact : Init → Fact
@@ -210,7 +218,7 @@ abbrev pub with_subscriber : RenamesData → List Fact → Name → List Fact
 with_subscriber r facts subscriber =
     let name = name_in r.nodes subscriber.text
     in if list_any (is_subscriber name) facts then facts
-    else facts ++ fact (joined (codes "subscriber" ∷ name ∷ [])) name (place_of_name subscriber) classes.Compatible ∷ []
+    else facts ++ fact (with_spaces (codes "subscriber" ∷ name ∷ [])) name (place_of_name subscriber) classes.Compatible ∷ []
 
 -- the first line of a signal, and the first type of a name
 abbrev pub encoding_of : Codings → Signal → Option CodingType
@@ -230,36 +238,36 @@ value_facts r s =
     ∷ fact (codes "publisher") (name_in r.nodes s.publisher.text) (place_of_name s.publisher) classes.Bytes
     ∷ []
 
-abbrev pub signal_facts : ComparedData → RenamesData → Signal → List Fact
-signal_facts d r s =
+abbrev pub facts_of_signal : ComparedData → RenamesData → Signal → List Fact
+facts_of_signal d r s =
     fold (with_subscriber r) (value_facts r s) s.subscribers ++ encoding_facts r s (encoding_of d.codings s)
 
 abbrev pub signal_thing : ComparedData → RenamesData → Signal → Thing
 signal_thing d r s =
-    thing things.Signal s.name.text (name_in r.signals s.name.text) (place_of_name s.name) (signal_facts d r s)
+    thing things.Signal s.name.text (name_in r.signals s.name.text) (place_of_name s.name) (facts_of_signal d r s)
 
 -- ---- unconditional frames
 
 abbrev pub id_fact : Number → Fact
-id_fact id = fact (codes "id") (codes "0x" ++ hex_byte (id.value % 256)) (place_of_number id) classes.Bytes
+id_fact id = fact (codes "id") (codes "0x" ++ two_hex_digits (id.value % 256)) (place_of_number id) classes.Bytes
 
 abbrev pub model_text : SumKind → List ℕ
 model_text Classic = codes "classic"
 model_text Enhanced = codes "enhanced"
 
 -- the bits of a signal of this declaration
-abbrev pub bits_of : PlacedSignal → Option Signal → Bits
-bits_of p signal = record {
+abbrev pub signal_bits : PlacedSignal → Option Signal → Bits
+signal_bits p signal = record {
   from = p.offset.value;
   end = p.offset.value + option_map_or (λ s. s.size.value) signal 0;
 }
 
 abbrev pub bits_in : Description → PlacedSignal → Bits
-bits_in d p = bits_of p (signal_named d p.signal)
+bits_in d p = signal_bits p (signal_named d p.signal)
 
 abbrev pub place_fact : List ℕ → PlacedSignal → Bits → Fact
 place_fact name p bits =
-    record (fact (joined (codes "place" ∷ name ∷ [])) (decimal p.offset.value) (place_of_number p.offset)
+    record (fact (with_spaces (codes "place" ∷ name ∷ [])) (decimal p.offset.value) (place_of_number p.offset)
     classes.Bytes) { bits = Some bits }
 
 abbrev pub placed_fact : Description → RenamesData → PlacedSignal → Fact
@@ -273,25 +281,25 @@ own_facts f publisher model =
     ∷ fact (codes "model") (model_text model) (place_of_name f.name) classes.Bytes
     ∷ []
 
-abbrev pub frame_facts : Description → RenamesData → Frame → SumKind → List Fact
-frame_facts d r f model =
+abbrev pub facts_of_frame : Description → RenamesData → Frame → SumKind → List Fact
+facts_of_frame d r f model =
     own_facts f (name_in r.nodes f.publisher.text) model ++ map (placed_fact d r) f.placed
 
 -- whether an event-triggered frame lists the name of a frame: then the frame's first byte has an identifier
-abbrev pub is_listed : List EventFrame → List ℕ → Bool
-is_listed events name = list_any (λ e. is_among (map (λ m. m.text) e.members) name) events
+abbrev pub is_event_member : List EventFrame → List ℕ → Bool
+is_event_member events name = list_any (λ e. is_among (map (λ m. m.text) e.members) name) events
 
-abbrev pub is_member : Description → Frame → Bool
-is_member d f = is_listed d.events f.name.text
+abbrev pub is_in_an_event : Description → Frame → Bool
+is_in_an_event d f = is_event_member d.events f.name.text
 
 abbrev pub taken_bits : Description → Frame → List Bits
 taken_bits d f =
-    (if is_member d f then record { from = 0; end = 8 } ∷ [] else []) ++ map (bits_in d) f.placed
+    (if is_in_an_event d f then record { from = 0; end = 8 } ∷ [] else []) ++ map (bits_in d) f.placed
 
 abbrev pub frame_thing : Description → RenamesData → Frame → SumKind → Thing
 frame_thing d r f model =
     record (thing things.Frame f.name.text (name_in r.frames f.name.text) (place_of_name f.name)
-    (frame_facts d r f model)) { taken = taken_bits d f }
+    (facts_of_frame d r f model)) { taken = taken_bits d f }
 
 abbrev pub frame_things : ComparedData → RenamesData → List Thing
 frame_things d r =
@@ -309,7 +317,7 @@ place_of_first members name = place_of_name (option_map_or (λ m. m) (slice_get 
 abbrev pub sporadic_thing : RenamesData → Sporadic → Thing
 sporadic_thing r s =
     thing things.Sporadic s.name.text (name_in r.frames s.name.text) (place_of_name s.name)
-    (fact (codes "members") (joined (member_names r s.members)) (place_of_first s.members s.name) classes.Timing ∷ [])
+    (fact (codes "members") (with_spaces (member_names r s.members)) (place_of_first s.members s.name) classes.Timing ∷ [])
 
 -- a table that `--field` adds isn't one of the LDF
 abbrev pub table_facts : RenamesData → Name → List Fact
@@ -322,19 +330,19 @@ event_thing r e =
     thing things.Event e.name.text (name_in r.frames e.name.text) (place_of_name e.name)
     (id_fact e.id
     ∷ (table_facts r e.table
-    ++ fact (codes "members") (joined (sorted (member_names r e.members))) (place_of_first e.members e.name)
+    ++ fact (codes "members") (with_spaces (sorted_texts (member_names r e.members))) (place_of_first e.members e.name)
     classes.Bytes ∷ []))
 
 -- ---- schedule tables
 
 -- a table, and the lines of its group
-abbrev pub table_of : List Symbol → List TableLines
-table_of ts = if is_group ts then record { name = name_of (front ts); inside = inside ts } ∷ [] else []
+abbrev pub named_lines : List Symbol → List TableLines
+named_lines ts = if is_group ts then record { name = name_of (front ts); inside = inside ts } ∷ [] else []
 
 abbrev pub section_tables : List Symbol → List TableLines
 section_tables ts =
     if is_group ts && is_word_next (codes "Schedule_tables") ts
-    then flat_map table_of (statements (inside ts)) else []
+    then flat_map named_lines (statements (inside ts)) else []
 
 abbrev pub has_command : Table → Bool
 has_command t = list_any (λ e. e.has_group) t.entries
@@ -363,20 +371,20 @@ entry_fact word position e = record {
 }
 
 -- entries, each in a line
-abbrev pub entries_from : RenamesData → ℕ → List Symbol → List TableEntry → List EntryFact
-entries_from r position lines [] = []
-entries_from r position lines (e ∷ es) =
-    entry_fact (entry_word r e lines) position e ∷ entries_from r (position + 1) (behind_line 0 lines) es
+abbrev pub entry_facts : RenamesData → ℕ → List Symbol → List TableEntry → List EntryFact
+entry_facts r position lines [] = []
+entry_facts r position lines (e ∷ es) =
+    entry_fact (entry_word r e lines) position e ∷ entry_facts r (position + 1) (behind_line 0 lines) es
 
 -- the entries of a table, by the tables of the text
 abbrev pub entries_in : List TableLines → RenamesData → Table → List EntryFact
-entries_in lines r t = numbered_entries (entries_from r 0 (lines_of_table lines t.name) t.entries)
+entries_in lines r t = numbered_entries (entry_facts r 0 (lines_of_table lines t.name) t.entries)
 
 abbrev pub lines_in : ComparedData → List TableLines
 lines_in d = text_tables d.tokens d.description.tables
 
-abbrev pub entries_of : ComparedData → RenamesData → Table → List EntryFact
-entries_of d r t = entries_in (lines_in d) r t
+abbrev pub table_entries : ComparedData → RenamesData → Table → List EntryFact
+table_entries d r t = entries_in (lines_in d) r t
 
 -- what a slot leaves of its delay, or what is missing after `-`
 abbrev pub slack_text : TableLoad → List ℕ
@@ -417,14 +425,14 @@ item_key Ascii = codes "ascii"
 -- a text in quotes, if there is one
 abbrev pub quoted_words : List ℕ → List (List ℕ)
 quoted_words [] = []
-quoted_words (b ∷ bs) = quoted (b ∷ bs) ∷ []
+quoted_words (b ∷ bs) = quoted_text (b ∷ bs) ∷ []
 
 abbrev pub logical_value : List ℕ → List ℕ
 logical_value [] = codes "-"
-logical_value (b ∷ bs) = quoted (b ∷ bs)
+logical_value (b ∷ bs) = quoted_text (b ∷ bs)
 
 abbrev pub physical_value : Decimal → Decimal → List ℕ → List ℕ
-physical_value scale offset unit = joined (decimal_shown scale ∷ decimal_shown offset ∷ quoted_words unit)
+physical_value scale offset unit = with_spaces (decimal_shown scale ∷ decimal_shown offset ∷ quoted_words unit)
 
 abbrev pub item_value : Item → List ℕ
 item_value (Logical value text) = logical_value text
@@ -436,7 +444,7 @@ abbrev pub item_fact : Location → Item → Fact
 item_fact place item = fact (item_key item) (item_value item) place classes.Meaning
 
 abbrev pub encoding_items : CodingType → List Fact
-encoding_items t = numbered (map (λ p. item_fact (place_of_name t.name) p.item) t.items)
+encoding_items t = numbered_facts (map (λ p. item_fact (place_of_name t.name) p.item) t.items)
 
 abbrev pub encoding_thing : RenamesData → CodingType → Thing
 encoding_thing r t =
@@ -477,7 +485,7 @@ compared_data ldf = record {
 }
 
 -- what the text of an LDF says besides the description
-pub record AreRead (f : LdfFacts) : Type 0 where
-  pub lines : f.lines.items ≡ header_lines (compared_data f.ldf).tokens
+pub record IsReadOf (f : LdfFacts) : Type 0 where
+  pub lines : f.lines.items ≡ lines_of_header (compared_data f.ldf).tokens
   pub blocks : f.blocks ≡ node_attributes (compared_data f.ldf).tokens
   pub codings : AreNamed f.ldf.codings.now.types (named_in f.ldf.codings.now.lines) f.codings.map

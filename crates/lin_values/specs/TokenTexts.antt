@@ -10,9 +10,10 @@ use Rattle.lin_ldf.specs.Grammar.{without_quotes}
 use Rattle.lin_ldf.specs.Symbols.{Symbol, is_kind}
 use Rattle.lin_ldf.specs.Words.{int}
 use Rattle.lin_ldf.specs.declared.token.TokenKind.TheVariants as kinds
-use Rattle.lin_values.specs.FactTexts.{joined}
+use Rattle.lin_values.specs.FactTexts.{with_spaces}
 use Rattle.lin_values.specs.NewNames.{any_name, name_in, renames_data, RenamesData}
 use Rattle.lin_values.specs.Passed.{brace_depth}
+use Rattle.lin_values.specs.Shown.{quoted_text}
 use Rattle.lin_values.specs.Statements.{is_group, statements}
 use Rattle.lin_values.specs.Texts.{shown_text}
 use Rattle.lin_values.specs.declared.diff.tokens.Spelling.{Spelling}
@@ -26,22 +27,19 @@ pub record Spelled : Type 0 where
 abbrev pub as_they_are : Spelled
 as_they_are = record { word = λ w. w; has_decimals = false }
 
-abbrev pub numbers : Spelled
-numbers = record { word = λ w. w; has_decimals = true }
+abbrev pub with_decimals : Spelled
+with_decimals = record { word = λ w. w; has_decimals = true }
 
-abbrev pub of_frames : RenamesData → Spelled
-of_frames r = record { word = name_in r.frames; has_decimals = false }
+abbrev pub with_frame_names_of : RenamesData → Spelled
+with_frame_names_of r = record { word = name_in r.frames; has_decimals = false }
 
-abbrev pub of_signals : RenamesData → Spelled
-of_signals r = record { word = name_in r.signals; has_decimals = false }
+abbrev pub with_signal_names_of : RenamesData → Spelled
+with_signal_names_of r = record { word = name_in r.signals; has_decimals = false }
 
-abbrev pub of_all : RenamesData → Spelled
-of_all r = record { word = any_name r; has_decimals = false }
+abbrev pub with_names_of : RenamesData → Spelled
+with_names_of r = record { word = any_name r; has_decimals = false }
 
 -- ---- a token: a text in its quotes as it is shown, a word as it is written
-
-abbrev pub quoted : List ℕ → List ℕ
-quoted shown = 34 ∷ (shown ++ 34 ∷ [])
 
 -- an integer of up to 32 bits is decimal
 abbrev pub number_token : List Symbol → List ℕ
@@ -49,7 +47,7 @@ number_token ts = option_map_or (λ r. decimal r.0.value) (int.read ts) (front t
 
 abbrev pub token_text : Spelled → Symbol → List ℕ
 token_text s t =
-    if is_kind kinds.Text t.kind then quoted (shown_text (without_quotes t.text))
+    if is_kind kinds.Text t.kind then quoted_text (shown_text (without_quotes t.text))
     else if is_kind kinds.Word t.kind then s.word t.text
     else if s.has_decimals && is_kind kinds.Number t.kind then number_token (t ∷ [])
     else t.text
@@ -84,23 +82,23 @@ or_yes (b ∷ bs) = b ∷ bs
 -- the value of an attribute or a line, from behind its word on
 abbrev pub value_text : Spelled → List Symbol → List ℕ
 value_text s ts =
-    if is_next kinds.OpenBrace ts then joined (group_words s ts)
-    else or_yes (joined (tokens_words s (tokens_until true 0 (without_equals ts))))
+    if is_next kinds.OpenBrace ts then with_spaces (group_words s ts)
+    else or_yes (with_spaces (tokens_words s (tokens_until true 0 (without_equals ts))))
 
 -- a configuration entry, from its word on
 abbrev pub command_text : RenamesData → List Symbol → List ℕ
-command_text r ts = joined ((front ts).text ∷ group_words (of_all r) (tail ts))
+command_text r ts = with_spaces ((front ts).text ∷ group_words (with_names_of r) (tail ts))
 
 -- ---- what contracts see of the code's type
 
-abbrev pub spelled : Spelling → Spelled
-spelled spellings.AsTheyAre = as_they_are
-spelled spellings.Numbers = numbers
-spelled (spellings.Frames r) = of_frames (renames_data r.now)
-spelled (spellings.Signals r) = of_signals (renames_data r.now)
-spelled (spellings.Names r) = of_all (renames_data r.now)
+abbrev pub spelling_of : Spelling → Spelled
+spelling_of spellings.AsTheyAre = as_they_are
+spelling_of spellings.Numbers = with_decimals
+spelling_of (spellings.Frames r) = with_frame_names_of (renames_data r.now)
+spelling_of (spellings.Signals r) = with_signal_names_of (renames_data r.now)
+spelling_of (spellings.Names r) = with_names_of (renames_data r.now)
 
 -- ---- the lines of the header: the statements before the first section
 
-abbrev pub header_lines : List Symbol → List (List Symbol)
-header_lines ts = take_while (λ us. not (is_group us)) (statements ts)
+abbrev pub lines_of_header : List Symbol → List (List Symbol)
+lines_of_header ts = take_while (λ us. not (is_group us)) (statements ts)

@@ -3,13 +3,15 @@
 ghost use Rattle.std.specs.Prelude.{◌≡◌, IfOk};
 ghost use Rattle.lin_values.specs.NewNames.{no_renames, renames_data};
 ghost use Rattle.lin_values.specs.Renames.{all_renames};
-ghost use Rattle.lin_values.specs.Things.{all_things, compared_data, AreRead};
+ghost use Rattle.lin_values.specs.Things.{all_things, compared_data, IsReadOf};
 
 mod chain;
 mod compared;
-mod comparing;
+mod difference;
 mod encodings;
+mod entry_pairs;
 mod fact;
+mod fact_pairs;
 mod fact_text;
 mod frames;
 mod header;
@@ -21,16 +23,18 @@ mod renames;
 mod signals;
 mod sorted;
 mod tables;
+mod thing_pairs;
 mod tokens;
 
 use crate::diff::compared::LdfFacts;
 use crate::diff::renames::Renames;
 pub use compared::{ComparedLdf, TableLoad};
-pub use comparing::{Difference, differences};
-pub use fact::{Bits, Class, EntryFact, Fact, Kind, Thing};
+pub use difference::Difference;
+pub use fact::{Bits, Class, EntryFact, Fact, Thing, ThingKind};
 pub use fact_text::FactText;
 use lin_text::Many;
 use std::alloc::{AllocError, Global};
+pub use thing_pairs::differences;
 
 /// Returns the things of an LDF, of each kind in their order. `renames` has their new names.
 fn things_of<'a>(
@@ -38,7 +42,7 @@ fn things_of<'a>(
     facts: &LdfFacts<'a>,
     renames: &Renames<'a>,
 ) -> Result<Vec<Many<Thing<'a>>>, AllocError>
-    requires { AreRead facts.now }
+    requires { IsReadOf facts.now }
     ensures { IfOk result (λ v. v.items
         ≡ all_things (compared_data facts.now.ldf) (renames_data renames.now)) }
 {

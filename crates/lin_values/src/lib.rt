@@ -57,7 +57,7 @@ pub use configuring::configure;
 pub use decimal_limits::{Coefficient, PhysicalValue};
 pub use decimals::{Decimal, is_small, physical, put_decimal, units};
 pub use diff::{
-    Bits, Class, ComparedLdf, Difference, EntryFact, Fact, FactText, Kind, TableLoad, Thing,
+    Bits, Class, ComparedLdf, Difference, EntryFact, Fact, FactText, TableLoad, Thing, ThingKind,
     compared_things, differences,
 };
 pub use encoding::{Coding, Encoding, Range, Traits};

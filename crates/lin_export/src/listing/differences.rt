@@ -5,8 +5,8 @@ ghost use Rattle.std.specs.List.{list_any};
 ghost use Rattle.lin_log.specs.Words.{spaced_word};
 ghost use Rattle.lin_text.specs.Written.{Grows, WritesText};
 ghost use Rattle.lin_values.specs.Differences.{difference_data, differences_data};
-ghost use Rattle.lin_export.specs.ListedDifferences.{difference_line, difference_lines, is_listed, part};
-ghost use Rattle.lin_export.specs.ListedDifferences.{place_word, table_load, table_loads, value_word};
+ghost use Rattle.lin_export.specs.ListedDifferences.{difference_line, difference_lines, lists_class, part};
+ghost use Rattle.lin_export.specs.ListedDifferences.{file_place, table_load, table_loads, fact_value_word};
 
 use crate::listing::slot_times::{bits_of, permille};
 use crate::listing::timing::tightest_slot;
@@ -57,7 +57,7 @@ pub struct Classes {
 
 impl Classes {
     fn has(self, class: Class) -> bool
-        ensures { result ≡ is_listed self class }
+        ensures { result ≡ lists_class self class }
     {
         match class {
             Class::Bytes => self.bytes,
@@ -71,7 +71,7 @@ impl Classes {
 
 /// Whether one of these differences is listed: its class is one of these.
 pub fn is_any_listed(differences: &[Difference<'_>], classes: Classes) -> bool
-    ensures { result ≡ list_any (λ d. is_listed classes d.class) differences.now }
+    ensures { result ≡ list_any (λ d. lists_class classes d.class) differences.now }
 {
     differences
         .iter()
@@ -80,7 +80,7 @@ pub fn is_any_listed(differences: &[Difference<'_>], classes: Classes) -> bool
 
 /// A place in a file after a space, and `-` for none.
 fn put_place<W: Write>(out: &mut TextWriter<'_, W>, file: &str, place: Option<Location>)
-    ensures { Grows W.contents out.old out.new (spaced_word (place_word file.now place)) }
+    ensures { Grows W.contents out.old out.new (spaced_word (file_place file.now place)) }
 {
     out.put_byte(b' ');
     match place {
@@ -106,7 +106,7 @@ fn put_part<W: Write>(out: &mut TextWriter<'_, W>, word: &[u8])
 /// A value after a space, and `-` for none.
 fn put_value<W: Write>(out: &mut TextWriter<'_, W>, value: Option<&[u8]>)
     ensures { Grows W.contents out.old out.new
-        (spaced_word (value_word (option_map (λ v. v.now) value.entry))) }
+        (spaced_word (fact_value_word (option_map (λ v. v.now) value.entry))) }
 {
     out.put_byte(b' ');
     match value {

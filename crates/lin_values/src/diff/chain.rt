@@ -2,7 +2,7 @@
 //! order is the same in both tables.
 
 ghost use Rattle.std.specs.Prelude.{◌≡◌, ◌+◌, ◌<◌, ◌≤◌, ℕ, All, IfOk, IfSome, fold, length, max, slice_index};
-ghost use Rattle.lin_values.specs.Moved.{chain_lengths, is_below, link, longest_before, moved};
+ghost use Rattle.lin_values.specs.Moved.{chain_lengths, is_below, link, longest_before, moved_flags};
 
 use std::alloc::{AllocError, Global};
 
@@ -88,7 +88,7 @@ fn link(
 /// Returns whether each pair of entries was moved. `places` has their places in the old table, in the order
 /// of the new one. As few as possible were.
 pub(crate) fn moved(alloc: Global, places: &[usize]) -> Result<Vec<bool>, AllocError>
-    ensures { IfOk result (λ all. all.items ≡ moved places.now) }
+    ensures { IfOk result (λ all. all.items ≡ moved_flags places.now) }
 {
     let lengths = chain_lengths(alloc, places)?;
     let mut moved = Vec::with_capacity(alloc, places.len())?;

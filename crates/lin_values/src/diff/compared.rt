@@ -4,7 +4,7 @@ ghost use Rattle.std.specs.Prelude.{◌≡◌, IfOk};
 ghost use Rattle.lin_ldf.specs.Stream.{start_of};
 ghost use Rattle.lin_ldf.specs.Symbols.{symbols_in};
 ghost use Rattle.lin_values.specs.Attributes.{node_attributes};
-ghost use Rattle.lin_values.specs.Things.{AreRead};
+ghost use Rattle.lin_values.specs.Things.{IsReadOf};
 
 use crate::attribute_blocks::{Attribute, NodeAttributes, read_attributes};
 use crate::coded::NamedSignals;
@@ -72,7 +72,7 @@ fn attribute_blocks<'a>(
 impl<'a> LdfFacts<'a> {
     /// Reads what the text says besides the description.
     pub(crate) fn new(alloc: Global, ldf: ComparedLdf<'a>) -> Result<LdfFacts<'a>, AllocError>
-        ensures read { IfOk result (λ f. AreRead f) }
+        ensures read { IfOk result (λ f. IsReadOf f) }
         ensures same { IfOk result (λ f. f.ldf ≡ ldf.entry) }
     {
         let types = ldf.codings.types.as_slice();

@@ -8,14 +8,15 @@ ghost use Rattle.lin_values.specs.Renames.{encoding_key, encoding_keys, with_ite
 ghost use Rattle.lin_values.specs.Shown.{decimal_shown};
 ghost use Rattle.lin_values.specs.Things.{compared_data, encoding_items, encoding_thing, first_type, first_types};
 ghost use Rattle.lin_values.specs.Things.{item_fact, item_key, item_value, physical_value, quoted_words};
+ghost use Rattle.lin_values.specs.NewNames.{AddsKeys, AreKeys};
 
 use crate::codings::{CodingType, Item};
 use crate::decimal_limits::Coefficient;
 use crate::decimals::put_decimal;
 use crate::diff::compared::LdfFacts;
-use crate::diff::fact::{Class, Fact, Kind, Thing};
+use crate::diff::fact::{Class, Fact, Thing, ThingKind};
 use crate::diff::fact_text::{FactText, put_number, put_word};
-use crate::diff::new_names::{Keyed, NameSet};
+use crate::diff::new_names::{Keyed, KnownNames};
 use crate::diff::nodes::place_of;
 use crate::diff::numbering::numbered;
 use crate::diff::renames::Renames;
@@ -162,7 +163,13 @@ fn thing<'a>(
     let found = facts_of(alloc, buffer, coding)?;
     let name = coding.name.text.as_slice();
     let names = (name, renames.encodings.of(name));
-    Ok(Thing::new(alloc, Kind::Encoding, names, place_of(&coding.name), found))
+    Ok(Thing::new(
+        alloc,
+        ThingKind::Encoding,
+        names,
+        place_of(&coding.name),
+        found,
+    ))
 }
 
 /// Adds a type, if none of the first so many types has its name. `numbers` are those of all types.
@@ -249,10 +256,9 @@ fn add_key<'a>(
     keys: &mut Vec<Keyed<'a>>,
     buffer: &mut TextBuffer,
     coding: &'a CodingType,
-    others: &NameSet<'_>,
+    others: &KnownNames<'_>,
 ) -> Result<(), AllocError>
-    ensures { OnOk result (map keyed_name keys.new.items ≡ map keyed_name keys.old.items
-        ++ alone (has_in others.now.map) (encoding_key coding.now ∷ [])) }
+    ensures { OnOk result (AddsKeys others.now keys.old.items keys.new.items (encoding_key coding.now ∷ [])) }
 {
     let name = coding.name.text.as_slice();
     if others.has(name) {
@@ -268,10 +274,9 @@ fn add_key<'a>(
 pub(crate) fn keys<'a>(
     alloc: Global,
     facts: &LdfFacts<'a>,
-    others: &NameSet<'_>,
+    others: &KnownNames<'_>,
 ) -> Result<Vec<Keyed<'a>>, AllocError>
-    ensures { IfOk result (λ v. map keyed_name v.items
-        ≡ alone (has_in others.now.map) (encoding_keys (compared_data facts.now.ldf))) }
+    ensures { IfOk result (λ v. AreKeys others.now v.items (encoding_keys (compared_data facts.now.ldf))) }
 {
     let types = first_types(alloc, facts.ldf.codings.types.as_slice())?;
     let mut buffer = TextBuffer::empty();

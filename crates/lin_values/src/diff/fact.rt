@@ -28,7 +28,7 @@ pub enum Class {
 
 /// The kinds of things, in the order in which differences are listed.
 #[derive(Clone, Copy, Debug, PartialEq, Eq)]
-pub enum Kind {
+pub enum ThingKind {
     Header,
     Node,
     Signal,
@@ -76,7 +76,7 @@ pub struct EntryFact<'a> {
 /// A thing that an LDF declares, with its facts.
 #[derive(Debug, Drop)]
 pub struct Thing<'a> {
-    pub kind: Kind,
+    pub kind: ThingKind,
     pub name: FactText<'a>,
     /// The name that the new LDF has for it.
     pub new_name: FactText<'a>,
@@ -112,20 +112,20 @@ impl Class {
     }
 }
 
-impl Kind {
+impl ThingKind {
     /// Returns its word; the header has none.
     pub fn word(self) -> &'static [u8]
         ensures { result.now ≡ kind_word self }
     {
         match self {
-            Kind::Header => b"",
-            Kind::Node => b"node",
-            Kind::Signal => b"signal",
-            Kind::Frame => b"frame",
-            Kind::Sporadic => b"sporadic",
-            Kind::Event => b"event",
-            Kind::Table => b"table",
-            Kind::Encoding => b"encoding",
+            ThingKind::Header => b"",
+            ThingKind::Node => b"node",
+            ThingKind::Signal => b"signal",
+            ThingKind::Frame => b"frame",
+            ThingKind::Sporadic => b"sporadic",
+            ThingKind::Event => b"event",
+            ThingKind::Table => b"table",
+            ThingKind::Encoding => b"encoding",
         }
     }
 
@@ -134,9 +134,13 @@ impl Kind {
         ensures { result ≡ class_if_gone self }
     {
         match self {
-            Kind::Header | Kind::Node | Kind::Signal | Kind::Frame | Kind::Event => Class::Bytes,
-            Kind::Sporadic | Kind::Table => Class::Timing,
-            Kind::Encoding => Class::Names,
+            ThingKind::Header
+            | ThingKind::Node
+            | ThingKind::Signal
+            | ThingKind::Frame
+            | ThingKind::Event => Class::Bytes,
+            ThingKind::Sporadic | ThingKind::Table => Class::Timing,
+            ThingKind::Encoding => Class::Names,
         }
     }
 
@@ -145,8 +149,8 @@ impl Kind {
         ensures { result ≡ class_if_new self }
     {
         match self {
-            Kind::Sporadic => Class::Timing,
-            Kind::Encoding => Class::Names,
+            ThingKind::Sporadic => Class::Timing,
+            ThingKind::Encoding => Class::Names,
             _ => Class::Compatible,
         }
     }
@@ -207,7 +211,7 @@ impl<'a> Thing<'a> {
     /// Makes a thing that has no entries and no bits.
     pub(crate) fn new(
         alloc: Global,
-        kind: Kind,
+        kind: ThingKind,
         names: (&'a [u8], &'a [u8]),
         place: Location,
         facts: Vec<Fact<'a>>,

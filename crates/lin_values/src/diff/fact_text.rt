@@ -2,7 +2,7 @@
 
 ghost use Rattle.std.specs.Prelude.{◌≡◌, ◌++◌, ◌<◌, IfOk, OnOk};
 ghost use Rattle.std.specs.Fmt.{decimal};
-ghost use Rattle.lin_values.specs.FactTexts.{hex_byte, hex_digit, with_word};
+ghost use Rattle.lin_values.specs.FactTexts.{two_hex_digits, capital_hex_digit, with_word};
 
 use itoa::Buffer;
 use lin_text::Text;
@@ -11,7 +11,7 @@ use std::marker::Model;
 
 /// Where the bytes of a text lie.
 #[derive(Debug, Drop)]
-enum Kept<'a> {
+enum TextBytes<'a> {
     Lent(&'a [u8]),
     Made(Text),
 }
@@ -19,16 +19,16 @@ enum Kept<'a> {
 /// The text of a fact. Contracts see its bytes.
 #[derive(Debug, Drop)]
 pub struct FactText<'a> {
-    kept: Kept<'a>,
+    kept: TextBytes<'a>,
 }
 
 impl<'a> Model for FactText<'a> {
     ghost use Rattle.std.specs.Prelude.{List, ℕ};
-    ghost use Rattle.lin_values.specs.FactTexts.{bytes_in};
+    ghost use Rattle.lin_values.specs.FactTexts.{fact_bytes};
 
     ghost Value = { List ℕ };
 
-    ghost view = { λ t. bytes_in t.kept };
+    ghost view = { λ t. fact_bytes t.kept };
 }
 
 impl<'a> FactText<'a> {
@@ -37,7 +37,7 @@ impl<'a> FactText<'a> {
         ensures { result ≡ bytes.now }
     {
         FactText {
-            kept: Kept::Lent(bytes),
+            kept: TextBytes::Lent(bytes),
         }
     }
 
@@ -46,7 +46,7 @@ impl<'a> FactText<'a> {
         ensures { result ≡ text }
     {
         FactText {
-            kept: Kept::Made(text),
+            kept: TextBytes::Made(text),
         }
     }
 
@@ -69,8 +69,8 @@ impl<'a> FactText<'a> {
         ensures { result.now ≡ self.now }
     {
         match &self.kept {
-            Kept::Lent(bytes) => *bytes,
-            Kept::Made(text) => text.as_slice(),
+            TextBytes::Lent(bytes) => *bytes,
+            TextBytes::Made(text) => text.as_slice(),
         }
     }
 }
@@ -105,7 +105,7 @@ pub(crate) fn put_word(text: &mut Vec<u8>, word: &[u8]) -> Result<(), AllocError
 
 fn hex_digit(four: u8) -> u8
     requires { four < 16 }
-    ensures { result ≡ hex_digit four }
+    ensures { result ≡ capital_hex_digit four }
 {
     if four < 10 {
         b'0' + four
@@ -116,7 +116,7 @@ fn hex_digit(four: u8) -> u8
 
 /// Puts two hexadecimal digits.
 pub(crate) fn put_hex(text: &mut Vec<u8>, byte: u8) -> Result<(), AllocError>
-    ensures { OnOk result (text.new.items ≡ text.old.items ++ hex_byte byte) }
+    ensures { OnOk result (text.new.items ≡ text.old.items ++ two_hex_digits byte) }
 {
     text.push(hex_digit(byte / 16))?;
     text.push(hex_digit(byte % 16))?;

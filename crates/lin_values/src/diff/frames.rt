@@ -3,20 +3,21 @@
 ghost use Rattle.std.specs.Prelude.{◌≡◌, ◌++◌, ◌∷◌, [], IfOk, OnOk, List, ℕ, if◌then◌else◌, map, option_map};
 ghost use Rattle.lin_cluster.specs.FindingsNames.{signal_named};
 ghost use Rattle.lin_cluster.specs.LintNames.{has_dot};
-ghost use Rattle.lin_values.specs.FactTexts.{joined};
-ghost use Rattle.lin_values.specs.Lookups.{AreFrameFacts};
+ghost use Rattle.lin_values.specs.FactTexts.{with_spaces};
+ghost use Rattle.lin_values.specs.Lookups.{AreFrameLookups};
 ghost use Rattle.lin_values.specs.NewNames.{alone, has_in, keyed_name, renames_data};
 ghost use Rattle.lin_values.specs.Renames.{event_keys, frame_keys, number_key, sporadic_keys, sporadic_key};
-ghost use Rattle.lin_values.specs.SortedTexts.{sorted};
-ghost use Rattle.lin_values.specs.Things.{bits_in, bits_of, compared_data, event_thing, frame_thing, id_fact};
-ghost use Rattle.lin_values.specs.Things.{frame_things, is_listed, is_member, member_names, model_text, own_facts, place_fact};
+ghost use Rattle.lin_values.specs.SortedTexts.{sorted_texts};
+ghost use Rattle.lin_values.specs.Things.{bits_in, signal_bits, compared_data, event_thing, frame_thing, id_fact};
+ghost use Rattle.lin_values.specs.Things.{frame_things, is_event_member, is_in_an_event, member_names, model_text, own_facts, place_fact};
 ghost use Rattle.lin_values.specs.Things.{place_of_first, placed_fact, sporadic_thing, table_facts, taken_bits};
+ghost use Rattle.lin_values.specs.NewNames.{AddsKeys, AreKeys};
 
 use crate::diff::compared::LdfFacts;
-use crate::diff::fact::{Bits, Class, Fact, Kind, Thing};
+use crate::diff::fact::{Bits, Class, Fact, Thing, ThingKind};
 use crate::diff::fact_text::{FactText, put_hex, put_word, two_words};
 use crate::diff::header::{add_number, place_of as place_of_number};
-use crate::diff::new_names::{Keyed, NameSet};
+use crate::diff::new_names::{Keyed, KnownNames};
 use crate::diff::nodes::place_of;
 use crate::diff::renames::Renames;
 use crate::diff::sorted::{insert_sorted, joined};
@@ -64,7 +65,7 @@ fn add_id<'a>(alloc: Global, facts: &mut Vec<Fact<'a>>, id: Number) -> Result<()
 
 /// Returns the bits of a signal in a frame. `signal` is its declaration.
 fn bits_of(placed: &PlacedSignal, signal: Option<&Signal>) -> Bits
-    ensures { result ≡ bits_of placed.now (option_map (λ s. s.now) signal.entry) }
+    ensures { result ≡ signal_bits placed.now (option_map (λ s. s.now) signal.entry) }
 {
     let from = u64::from(placed.offset.value);
     let size = match signal {
@@ -116,17 +117,17 @@ fn own_facts<'a>(
 }
 
 /// What the frames of an LDF are looked up by.
-struct FrameFacts<'b, 'a> {
+struct FrameLookups<'b, 'a> {
     facts: &'b LdfFacts<'a>,
     renames: &'b Renames<'a>,
     signals: Numbers<'a>,
-    members: NameSet<'a>,
+    members: KnownNames<'a>,
 }
 
 // Written out, so that what owns one lets it go in one step.
-impl<'b, 'a> Drop for FrameFacts<'b, 'a> {
+impl<'b, 'a> Drop for FrameLookups<'b, 'a> {
     fn drop(self) {
-        let FrameFacts {
+        let FrameLookups {
             facts: _,
             renames: _,
             signals: _signals,
@@ -136,27 +137,27 @@ impl<'b, 'a> Drop for FrameFacts<'b, 'a> {
 }
 
 /// Returns the names of the frames that event-triggered frames list.
-fn members<'a>(alloc: Global, events: &'a [EventFrame]) -> Result<NameSet<'a>, AllocError>
-    ensures { IfOk result (λ s. (q : List ℕ) → has_in s.map q ≡ is_listed events.now q) }
+fn members<'a>(alloc: Global, events: &'a [EventFrame]) -> Result<KnownNames<'a>, AllocError>
+    ensures { IfOk result (λ s. (q : List ℕ) → has_in s.map q ≡ is_event_member events.now q) }
 {
-    let mut members = NameSet::new(alloc)?;
+    let mut members = KnownNames::new(alloc)?;
     for event in events {
         members.add_all(event.members.as_slice())?;
     }
     Ok(members)
 }
 
-impl<'b, 'a> FrameFacts<'b, 'a> {
+impl<'b, 'a> FrameLookups<'b, 'a> {
     fn new(
         alloc: Global,
         facts: &'b LdfFacts<'a>,
         renames: &'b Renames<'a>,
-    ) -> Result<FrameFacts<'b, 'a>, AllocError>
-        ensures found { IfOk result (λ f. AreFrameFacts f) }
+    ) -> Result<FrameLookups<'b, 'a>, AllocError>
+        ensures found { IfOk result (λ f. AreFrameLookups f) }
         ensures facts { IfOk result (λ f. f.facts.now ≡ facts.now) }
         ensures renames { IfOk result (λ f. f.renames.now ≡ renames.now) }
     {
-        Ok(FrameFacts {
+        Ok(FrameLookups {
             facts,
             renames,
             signals: numbers_of(alloc, facts.ldf.description.signals())?,
@@ -166,8 +167,8 @@ impl<'b, 'a> FrameFacts<'b, 'a> {
 
     /// Returns the bits of a signal in a frame.
     fn bits_of(&self, placed: &PlacedSignal) -> Bits
-        requires { AreFrameFacts self.now }
-        ensures { result ≡ bits_of placed.now
+        requires { AreFrameLookups self.now }
+        ensures { result ≡ signal_bits placed.now
             (signal_named self.now.facts.now.ldf.description.now placed.now.signal) }
     {
         let facts = self.facts;
@@ -182,7 +183,7 @@ impl<'b, 'a> FrameFacts<'b, 'a> {
         found: &mut Vec<Fact<'a>>,
         all: &[PlacedSignal],
     ) -> Result<(), AllocError>
-        requires { AreFrameFacts self.now }
+        requires { AreFrameLookups self.now }
         ensures { OnOk result (found.new.items ≡ found.old.items ++ map
             (placed_fact self.now.facts.now.ldf.description.now (renames_data self.now.renames.now)) all.now) }
     {
@@ -195,9 +196,9 @@ impl<'b, 'a> FrameFacts<'b, 'a> {
 
     /// Returns the bits of a frame that its identifier has, if an event-triggered frame lists it.
     fn identifier_bits(&self, alloc: Global, frame: &Frame) -> Result<Vec<Bits>, AllocError>
-        requires { AreFrameFacts self.now }
+        requires { AreFrameLookups self.now }
         ensures { IfOk result (λ v. v.items
-            ≡ (if is_member self.now.facts.now.ldf.description.now frame.now
+            ≡ (if is_in_an_event self.now.facts.now.ldf.description.now frame.now
             then record { from = 0; end = 8 } ∷ [] else [])) }
     {
         let mut taken = Vec::new(alloc);
@@ -209,7 +210,7 @@ impl<'b, 'a> FrameFacts<'b, 'a> {
 
     /// Adds the bits of signals.
     fn add_bits(&self, taken: &mut Vec<Bits>, all: &[PlacedSignal]) -> Result<(), AllocError>
-        requires { AreFrameFacts self.now }
+        requires { AreFrameLookups self.now }
         ensures { OnOk result (taken.new.items
             ≡ taken.old.items ++ map (bits_in self.now.facts.now.ldf.description.now) all.now) }
     {
@@ -221,7 +222,7 @@ impl<'b, 'a> FrameFacts<'b, 'a> {
 
     /// Returns the bits of a frame that a signal or its identifier has.
     fn taken(&self, alloc: Global, frame: &Frame) -> Result<Vec<Bits>, AllocError>
-        requires { AreFrameFacts self.now }
+        requires { AreFrameLookups self.now }
         ensures { IfOk result (λ v. v.items
             ≡ taken_bits self.now.facts.now.ldf.description.now frame.now) }
     {
@@ -237,7 +238,7 @@ impl<'b, 'a> FrameFacts<'b, 'a> {
         frame: &'a Frame,
         model: SumKind,
     ) -> Result<Thing<'a>, AllocError>
-        requires { AreFrameFacts self.now }
+        requires { AreFrameLookups self.now }
         ensures { IfOk result (λ t. t ≡ frame_thing self.now.facts.now.ldf.description.now
             (renames_data self.now.renames.now) frame.now model) }
     {
@@ -246,7 +247,7 @@ impl<'b, 'a> FrameFacts<'b, 'a> {
         self.add_places(alloc, &mut found, frame.placed.as_slice())?;
         let name = frame.name.text.as_slice();
         let names = (name, self.renames.frames.of(name));
-        let mut thing = Thing::new(alloc, Kind::Frame, names, place_of(&frame.name), found);
+        let mut thing = Thing::new(alloc, ThingKind::Frame, names, place_of(&frame.name), found);
         thing.taken = Many::new(self.taken(alloc, frame)?);
         Ok(thing)
     }
@@ -273,7 +274,7 @@ pub(crate) fn things<'a>(
     ensures { IfOk result (λ v. v.items
         ≡ frame_things (compared_data facts.now.ldf) (renames_data renames.now)) }
 {
-    let looked_up = FrameFacts::new(alloc, facts, renames)?;
+    let looked_up = FrameLookups::new(alloc, facts, renames)?;
     let frames = facts.ldf.description.frames();
     let models = models(alloc, facts.ldf.cluster)?;
     let mut things = Vec::new(alloc);
@@ -289,7 +290,7 @@ fn member_names<'a>(
     members: &'a [Name],
     renames: &Renames<'a>,
 ) -> Result<FactText<'a>, AllocError>
-    ensures { IfOk result (λ t. t ≡ joined (member_names (renames_data renames.now) members.now)) }
+    ensures { IfOk result (λ t. t ≡ with_spaces (member_names (renames_data renames.now) members.now)) }
 {
     let mut text = Vec::new(alloc);
     for member in members {
@@ -323,7 +324,7 @@ fn sporadic_thing<'a>(
     let name = sporadic.name.text.as_slice();
     let names = (name, renames.frames.of(name));
     let place = place_of(&sporadic.name);
-    Ok(Thing::new(alloc, Kind::Sporadic, names, place, found))
+    Ok(Thing::new(alloc, ThingKind::Sporadic, names, place, found))
 }
 
 /// Returns the sporadic frames.
@@ -349,7 +350,7 @@ fn sorted_names<'a>(
     renames: &Renames<'a>,
 ) -> Result<FactText<'a>, AllocError>
     ensures { IfOk result
-        (λ t. t ≡ joined (sorted (member_names (renames_data renames.now) members.now))) }
+        (λ t. t ≡ with_spaces (sorted_texts (member_names (renames_data renames.now) members.now))) }
 {
     let mut names = Many::new(Vec::new(alloc));
     for member in members {
@@ -398,7 +399,7 @@ fn event_thing<'a>(
     found.push(Fact::new(FactText::lent(b"members"), value, place, Class::Bytes))?;
     let name = event.name.text.as_slice();
     let names = (name, renames.frames.of(name));
-    Ok(Thing::new(alloc, Kind::Event, names, place_of(&event.name), found))
+    Ok(Thing::new(alloc, ThingKind::Event, names, place_of(&event.name), found))
 }
 
 /// Returns the event-triggered frames.
@@ -424,10 +425,9 @@ pub(crate) fn add_number_key<'a>(
     keys: &mut Vec<Keyed<'a>>,
     name: &'a Name,
     number: Number,
-    others: &NameSet<'_>,
+    others: &KnownNames<'_>,
 ) -> Result<(), AllocError>
-    ensures { OnOk result (map keyed_name keys.new.items ≡ map keyed_name keys.old.items
-        ++ alone (has_in others.now.map) (number_key name.now number ∷ [])) }
+    ensures { OnOk result (AddsKeys others.now keys.old.items keys.new.items (number_key name.now number ∷ [])) }
 {
     let name = name.text.as_slice();
     if others.has(name) {
@@ -442,10 +442,9 @@ pub(crate) fn add_number_key<'a>(
 pub(crate) fn keys<'a>(
     alloc: Global,
     facts: &LdfFacts<'a>,
-    others: &NameSet<'_>,
+    others: &KnownNames<'_>,
 ) -> Result<Vec<Keyed<'a>>, AllocError>
-    ensures { IfOk result (λ v. map keyed_name v.items
-        ≡ alone (has_in others.now.map) (frame_keys (compared_data facts.now.ldf))) }
+    ensures { IfOk result (λ v. AreKeys others.now v.items (frame_keys (compared_data facts.now.ldf))) }
 {
     let mut keys = Vec::new(alloc);
     for frame in facts.ldf.description.frames() {
@@ -458,10 +457,9 @@ pub(crate) fn keys<'a>(
 pub(crate) fn event_keys<'a>(
     alloc: Global,
     facts: &LdfFacts<'a>,
-    others: &NameSet<'_>,
+    others: &KnownNames<'_>,
 ) -> Result<Vec<Keyed<'a>>, AllocError>
-    ensures { IfOk result (λ v. map keyed_name v.items
-        ≡ alone (has_in others.now.map) (event_keys (compared_data facts.now.ldf))) }
+    ensures { IfOk result (λ v. AreKeys others.now v.items (event_keys (compared_data facts.now.ldf))) }
 {
     let mut keys = Vec::new(alloc);
     for event in facts.ldf.description.events() {
@@ -476,11 +474,10 @@ fn add_sporadic_key<'a>(
     alloc: Global,
     keys: &mut Vec<Keyed<'a>>,
     sporadic: &'a Sporadic,
-    others: &NameSet<'_>,
+    others: &KnownNames<'_>,
     renames: &Renames<'a>,
 ) -> Result<(), AllocError>
-    ensures { OnOk result (map keyed_name keys.new.items ≡ map keyed_name keys.old.items
-        ++ alone (has_in others.now.map) (sporadic_key (renames_data renames.now) sporadic.now ∷ [])) }
+    ensures { OnOk result (AddsKeys others.now keys.old.items keys.new.items (sporadic_key (renames_data renames.now) sporadic.now ∷ [])) }
 {
     let name = sporadic.name.text.as_slice();
     if others.has(name) {
@@ -495,11 +492,10 @@ fn add_sporadic_key<'a>(
 pub(crate) fn sporadic_keys<'a>(
     alloc: Global,
     facts: &LdfFacts<'a>,
-    others: &NameSet<'_>,
+    others: &KnownNames<'_>,
     renames: &Renames<'a>,
 ) -> Result<Vec<Keyed<'a>>, AllocError>
-    ensures { IfOk result (λ v. map keyed_name v.items ≡ alone (has_in others.now.map)
-        (sporadic_keys (compared_data facts.now.ldf) (renames_data renames.now))) }
+    ensures { IfOk result (λ v. AreKeys others.now v.items (sporadic_keys (compared_data facts.now.ldf) (renames_data renames.now))) }
 {
     let mut keys = Vec::new(alloc);
     for sporadic in facts.ldf.description.sporadic() {

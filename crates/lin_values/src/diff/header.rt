@@ -7,11 +7,11 @@ ghost use Rattle.lin_ldf.specs.Words.{is_word_next};
 ghost use Rattle.lin_values.specs.Facts.{place_of_number};
 ghost use Rattle.lin_values.specs.Things.{compared_data, header_facts, header_thing, is_other_line};
 ghost use Rattle.lin_values.specs.Things.{line_fact, number_fact, version_fact, version_facts};
-ghost use Rattle.lin_values.specs.Things.{version_text, AreRead};
+ghost use Rattle.lin_values.specs.Things.{version_value, IsReadOf};
 
 use crate::attribute_blocks::Attribute;
 use crate::diff::compared::LdfFacts;
-use crate::diff::fact::{Class, Fact, Kind, Thing};
+use crate::diff::fact::{Class, Fact, Thing, ThingKind};
 use crate::diff::fact_text::{FactText, two_words};
 use crate::diff::numbering::numbered;
 use crate::diff::tokens::{Spelling, between_quotes, value_text};
@@ -49,7 +49,7 @@ pub(crate) fn add_number<'a>(
 
 /// Returns a version without its quotes.
 fn version_text<'a>(alloc: Global, parser: &Parser<'a>) -> Result<FactText<'a>, AllocError>
-    ensures { IfOk result (λ t. t ≡ version_text parser.now) }
+    ensures { IfOk result (λ t. t ≡ version_value parser.now) }
 {
     if parser.is_at(TokenKind::Text) {
         return Ok(FactText::made(shown_text(alloc, between_quotes(parser.text()))?));
@@ -155,7 +155,7 @@ fn add_lines<'a>(
 
 /// Returns the facts of a header.
 fn facts_of<'a>(alloc: Global, facts: &LdfFacts<'a>) -> Result<Vec<Fact<'a>>, AllocError>
-    requires { AreRead facts.now }
+    requires { IsReadOf facts.now }
     ensures { IfOk result (λ found. found.items ≡ header_facts (compared_data facts.now.ldf)) }
 {
     let description = facts.ldf.description;
@@ -191,11 +191,11 @@ fn facts_of<'a>(alloc: Global, facts: &LdfFacts<'a>) -> Result<Vec<Fact<'a>>, Al
 
 /// Returns the header of an LDF.
 pub(crate) fn thing<'a>(alloc: Global, facts: &LdfFacts<'a>) -> Result<Thing<'a>, AllocError>
-    requires { AreRead facts.now }
+    requires { IsReadOf facts.now }
     ensures { IfOk result (λ t. t ≡ header_thing (compared_data facts.now.ldf)) }
 {
     let start = Location { line: 1, column: 1 };
     let found = numbered(alloc, facts_of(alloc, facts)?)?;
     let none: &'static [u8] = &[];
-    Ok(Thing::new(alloc, Kind::Header, (none, none), start, found))
+    Ok(Thing::new(alloc, ThingKind::Header, (none, none), start, found))
 }

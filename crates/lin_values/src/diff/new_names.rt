@@ -5,6 +5,7 @@ ghost use Rattle.std.specs.Option.{option_or};
 ghost use Rattle.std.specs.Str.{bytes_eq};
 ghost use Rattle.lin_values.specs.NewNames.{has_in, is_among, keyed_name, known_by, name_in, new_name_of};
 ghost use Rattle.lin_values.specs.NewNames.{only_in, only_with, renamed_in, stays, KeyedName};
+ghost use Rattle.lin_values.specs.NewNames.{HasOnly, only_after, AddsNames};
 
 use crate::coded::put_first;
 use crate::diff::fact_text::FactText;
@@ -13,33 +14,33 @@ use lin_cluster::Named;
 use std::alloc::{AllocError, Global};
 
 /// Names of things of a kind.
-pub(crate) struct NameSet<'a> {
+pub(crate) struct KnownNames<'a> {
     map: IndexMap<&'a [u8], ()>,
 }
 
 // Written out, so that what owns one lets it go in one step.
-impl<'a> Drop for NameSet<'a> {
+impl<'a> Drop for KnownNames<'a> {
     fn drop(self) {
-        let NameSet { map: _map } = self;
+        let KnownNames { map: _map } = self;
     }
 }
 
-impl<'a> NameSet<'a> {
+impl<'a> KnownNames<'a> {
     /// No names.
-    pub(crate) fn new(alloc: Global) -> Result<NameSet<'a>, AllocError>
+    pub(crate) fn new(alloc: Global) -> Result<KnownNames<'a>, AllocError>
         ensures { IfOk result (λ s. (q : List ℕ) → has_in s.map q ≡ false) }
     {
-        Ok(NameSet {
+        Ok(KnownNames {
             map: IndexMap::with_capacity(alloc, 0)?,
         })
     }
 
     /// The names of these.
-    pub(crate) fn of<T: Named>(alloc: Global, all: &'a [T]) -> Result<NameSet<'a>, AllocError>
+    pub(crate) fn of<T: Named>(alloc: Global, all: &'a [T]) -> Result<KnownNames<'a>, AllocError>
         ensures { IfOk result (λ s. (q : List ℕ)
             → has_in s.map q ≡ is_among (map (λ x. (T.name_of x).text) all.now) q) }
     {
-        let mut names = NameSet::new(alloc)?;
+        let mut names = KnownNames::new(alloc)?;
         names.add_all(all)?;
         Ok(names)
     }
@@ -80,7 +81,7 @@ pub(crate) struct Keyed<'a> {
 /// The name that the new LDF has for each name of the old one.
 pub(crate) struct NewNames<'a> {
     /// The names that stay.
-    pub(crate) kept: NameSet<'a>,
+    pub(crate) kept: KnownNames<'a>,
     /// The new names of others.
     pub(crate) renamed: IndexMap<&'a [u8], &'a [u8]>,
 }
@@ -109,8 +110,7 @@ impl<'k, 'a> Drop for KeyNames<'k, 'a> {
 
 /// Looks at each key once.
 fn key_names<'k, 'a>(alloc: Global, things: &'k [Keyed<'a>]) -> Result<KeyNames<'k, 'a>, AllocError>
-    ensures { IfOk result (λ n. (q : List ℕ)
-        → only_in n.map q ≡ only_with (map keyed_name things.now) q) }
+    ensures { IfOk result (λ n. (q : List ℕ) → HasOnly n (map keyed_name things.now) q) }
 {
     let mut names = KeyNames {
         map: IndexMap::with_capacity(alloc, 0)?,
@@ -136,10 +136,8 @@ impl<'k, 'a> KeyNames<'k, 'a> {
 
     /// Adds a thing: its key has no name if it is there.
     fn add(&mut self, thing: &'k Keyed<'a>) -> Result<(), AllocError>
-        ensures only { OnOk result ((q : List ℕ) → only_in self.new.map q
-            ≡ (if bytes_eq thing.now.key q
-            then (if has_in self.old.map thing.now.key then None else Some thing.now.name.now)
-            else only_in self.old.map q)) }
+        ensures only { OnOk result ((q : List ℕ)
+            → only_in self.new.map q ≡ only_after self.old.map thing.now q) }
         ensures known { OnOk result ((q : List ℕ)
             → has_in self.new.map q ≡ (has_in self.old.map q || bytes_eq thing.now.key q)) }
     {
@@ -164,8 +162,7 @@ impl<'k, 'a> KeyNames<'k, 'a> {
 /// the old LDF has the key, and else its own.
 fn new_name<'a>(olds: &KeyNames<'_, 'a>, news: &KeyNames<'_, 'a>, old: &Keyed<'a>) -> &'a [u8]
     ensures { (os ns : List KeyedName)
-        → only_in olds.now.map old.now.key ≡ only_with os old.now.key
-        → only_in news.now.map old.now.key ≡ only_with ns old.now.key
+        → HasOnly olds.now os old.now.key → HasOnly news.now ns old.now.key
         → result.now ≡ new_name_of os ns (keyed_name old.now) }
 {
     let key = old.key.as_slice();
@@ -181,7 +178,7 @@ impl<'a> NewNames<'a> {
         ensures { IfOk result (λ n. (q : List ℕ) → known_by n q ≡ None) }
     {
         Ok(NewNames {
-            kept: NameSet::new(alloc)?,
+            kept: KnownNames::new(alloc)?,
             renamed: IndexMap::with_capacity(alloc, 0)?,
         })
     }
@@ -212,24 +209,24 @@ impl<'a> NewNames<'a> {
 
     /// Adds a name that stays, if it isn't there.
     pub(crate) fn add(&mut self, name: &'a [u8]) -> Result<(), AllocError>
-        ensures { OnOk result ((q : List ℕ) → known_by self.new q
-            ≡ option_or (known_by self.old q) (if bytes_eq name.now q then Some q else None)) }
+        ensures { OnOk result
+            (AddsNames self.old self.new (λ q. if bytes_eq name.now q then Some q else None)) }
     {
         self.kept.add(name)
     }
 
     /// Adds the names of things that aren't there: each stays.
     pub(crate) fn add_all<T: Named>(&mut self, all: &'a [T]) -> Result<(), AllocError>
-        ensures { OnOk result ((q : List ℕ) → known_by self.new q
-            ≡ option_or (known_by self.old q) (stays (map (λ x. (T.name_of x).text) all.now) q)) }
+        ensures { OnOk result
+            (AddsNames self.old self.new (stays (map (λ x. (T.name_of x).text) all.now))) }
     {
         self.kept.add_all(all)
     }
 
     /// Adds a name with its new name, if it isn't there.
     fn put(&mut self, name: &'a [u8], new: &'a [u8]) -> Result<(), AllocError>
-        ensures { OnOk result ((q : List ℕ) → known_by self.new q
-            ≡ option_or (known_by self.old q) (if bytes_eq name.now q then Some new.now else None)) }
+        ensures { OnOk result
+            (AddsNames self.old self.new (λ q. if bytes_eq name.now q then Some new.now else None)) }
     {
         if new == name {
             return self.kept.add(name);
@@ -248,9 +245,8 @@ impl<'a> NewNames<'a> {
         olds: &[Keyed<'a>],
         news: &[Keyed<'a>],
     ) -> Result<(), AllocError>
-        ensures { OnOk result ((q : List ℕ) → known_by self.new q
-            ≡ option_or (known_by self.old q)
-            (renamed_in (map keyed_name olds.now) (map keyed_name news.now) q)) }
+        ensures { OnOk result (AddsNames self.old self.new
+            (renamed_in (map keyed_name olds.now) (map keyed_name news.now))) }
     {
         let old_names = key_names(alloc, olds)?;
         let new_names = key_names(alloc, news)?;

@@ -10,19 +10,22 @@ ghost use Rattle.lin_values.specs.Attributes.{node_attributes};
 ghost use Rattle.lin_values.specs.Facts.{fact, place_of_name};
 ghost use Rattle.lin_values.specs.Lookups.{AreBlocks};
 ghost use Rattle.lin_values.specs.NewNames.{alone, has_in, is_among, keyed_name, renames_data};
-ghost use Rattle.lin_values.specs.Renames.{commander_key, node_keys, node_names, responder_keys};
+ghost use Rattle.lin_values.specs.Renames.{commander_key, node_keys, all_node_names, responder_keys};
 ghost use Rattle.lin_values.specs.Things.{attribute_fact, attribute_facts, commander_thing, compared_data};
 ghost use Rattle.lin_values.specs.Things.{is_other_attribute, nad_facts, nad_of, node_facts, node_thing};
 ghost use Rattle.lin_values.specs.Things.{node_things, protocol_facts, responder_thing, role_fact};
-ghost use Rattle.lin_values.specs.Things.{AreRead};
+ghost use Rattle.lin_values.specs.Things.{IsReadOf};
+ghost use Rattle.lin_values.specs.NewNames.{AddsKeys, AreKeys};
+ghost use Rattle.lin_values.specs.Renames.{all_responder_keys};
+ghost use Rattle.lin_values.specs.Things.{other_attribute, fact_of};
 
 use crate::attribute_blocks::{Attribute, NodeAttributes};
 use crate::diff::compared::LdfFacts;
-use crate::diff::fact::{Class, Fact, Kind, Thing};
+use crate::diff::fact::{Class, Fact, Thing, ThingKind};
 use crate::diff::fact_text::FactText;
 use crate::diff::frames::add_number_key;
 use crate::diff::header::add_number;
-use crate::diff::new_names::{Keyed, NameSet};
+use crate::diff::new_names::{Keyed, KnownNames};
 use crate::diff::numbering::numbered;
 use crate::diff::renames::Renames;
 use crate::diff::tokens::{Spelling, value_text};
@@ -43,12 +46,12 @@ pub(crate) fn place_of(name: &Name) -> Location
 }
 
 /// Returns the names of the nodes.
-pub(crate) fn names<'a>(alloc: Global, facts: &LdfFacts<'a>) -> Result<NameSet<'a>, AllocError>
+pub(crate) fn names<'a>(alloc: Global, facts: &LdfFacts<'a>) -> Result<KnownNames<'a>, AllocError>
     ensures { IfOk result (λ s. (q : List ℕ)
-        → has_in s.map q ≡ is_among (node_names facts.now.ldf.description.now) q) }
+        → has_in s.map q ≡ is_among (all_node_names facts.now.ldf.description.now) q) }
 {
     let description = facts.ldf.description;
-    let mut names = NameSet::new(alloc)?;
+    let mut names = KnownNames::new(alloc)?;
     names.add(description.master().text.as_slice())?;
     names.add_all(description.slaves())?;
     Ok(names)
@@ -68,13 +71,11 @@ fn nad_of(block: Option<&Attributes>) -> Option<Number>
 fn add_key<'a>(
     alloc: Global,
     keys: &mut Vec<Keyed<'a>>,
-    others: &NameSet<'_>,
+    others: &KnownNames<'_>,
     name: &'a Name,
     block: Option<&Attributes>,
 ) -> Result<(), AllocError>
-    ensures { OnOk result (map keyed_name keys.new.items ≡ map keyed_name keys.old.items
-        ++ alone (has_in others.now.map)
-        (responder_keys name.now (option_map (λ b. b.now) block.entry))) }
+    ensures { OnOk result (AddsKeys others.now keys.old.items keys.new.items (responder_keys name.now (option_map (λ b. b.now) block.entry))) }
 {
     match nad_of(block) {
         Some(nad) => add_number_key(alloc, keys, name, nad, others),
@@ -86,10 +87,9 @@ fn add_key<'a>(
 fn commander_keys<'a>(
     alloc: Global,
     description: &'a Description,
-    others: &NameSet<'_>,
+    others: &KnownNames<'_>,
 ) -> Result<Vec<Keyed<'a>>, AllocError>
-    ensures { IfOk result (λ v. map keyed_name v.items
-        ≡ alone (has_in others.now.map) (commander_key description.now ∷ [])) }
+    ensures { IfOk result (λ v. AreKeys others.now v.items (commander_key description.now ∷ [])) }
 {
     let mut keys = Vec::new(alloc);
     let name = description.master().text.as_slice();
@@ -104,13 +104,11 @@ fn commander_keys<'a>(
 fn add_responder_keys<'a>(
     alloc: Global,
     keys: &mut Vec<Keyed<'a>>,
-    others: &NameSet<'_>,
+    others: &KnownNames<'_>,
     slaves: &'a [Name],
     attributes: &[Attributes],
 ) -> Result<(), AllocError>
-    ensures { OnOk result (map keyed_name keys.new.items ≡ map keyed_name keys.old.items
-        ++ alone (has_in others.now.map)
-        (flat_map (λ n. responder_keys n (find (λ a. same_name a.node n) attributes.now)) slaves.now)) }
+    ensures { OnOk result (AddsKeys others.now keys.old.items keys.new.items (all_responder_keys attributes.now slaves.now)) }
 {
     let numbers = numbers_of(alloc, attributes)?;
     for slave in slaves {
@@ -129,10 +127,9 @@ fn add_responder_keys<'a>(
 pub(crate) fn keys<'a>(
     alloc: Global,
     facts: &LdfFacts<'a>,
-    others: &NameSet<'_>,
+    others: &KnownNames<'_>,
 ) -> Result<Vec<Keyed<'a>>, AllocError>
-    ensures { IfOk result (λ v. map keyed_name v.items
-        ≡ alone (has_in others.now.map) (node_keys (compared_data facts.now.ldf))) }
+    ensures { IfOk result (λ v. AreKeys others.now v.items (node_keys (compared_data facts.now.ldf))) }
 {
     let description = facts.ldf.description;
     let mut keys = commander_keys(alloc, description, others)?;
@@ -147,9 +144,8 @@ fn attribute_value<'a>(
     attribute: &Attribute<'a>,
     renames: &Renames<'a>,
 ) -> Result<(FactText<'a>, Class), AllocError>
-    ensures { IfOk result (λ v.
-        fact (front attribute.now).text v.0 (place_of (front attribute.now)) v.1
-        ≡ attribute_fact (renames_data renames.now) attribute.now) }
+    ensures { IfOk result
+        (λ v. fact_of attribute.now v.0 v.1 ≡ attribute_fact (renames_data renames.now) attribute.now) }
 {
     if attribute.is(b"product_id") || attribute.is(b"initial_NAD") {
         return Ok((
@@ -191,8 +187,7 @@ fn add_attribute<'a>(
     renames: &Renames<'a>,
 ) -> Result<(), AllocError>
     ensures { OnOk result (facts.new.items ≡ facts.old.items
-        ++ (if is_other_attribute attribute.now
-        then attribute_fact (renames_data renames.now) attribute.now ∷ [] else [])) }
+        ++ other_attribute (renames_data renames.now) attribute.now) }
 {
     if attribute.is(b"LIN_protocol") || attribute.is(b"configured_NAD") {
         return Ok(());
@@ -292,7 +287,7 @@ fn node_thing<'a>(
     let text = name.text.as_slice();
     let names = (text, renames.nodes.of(text));
     let found = numbered(alloc, facts)?;
-    Ok(Thing::new(alloc, Kind::Node, names, place_of(name), found))
+    Ok(Thing::new(alloc, ThingKind::Node, names, place_of(name), found))
 }
 
 /// The attributes of nodes, found by their names: those of the description, and those of the text.
@@ -315,7 +310,7 @@ impl<'b, 'a> Drop for Blocks<'b, 'a> {
 
 impl<'b, 'a> Blocks<'b, 'a> {
     fn new(alloc: Global, facts: &'b LdfFacts<'a>) -> Result<Blocks<'b, 'a>, AllocError>
-        requires { AreRead facts.now }
+        requires { IsReadOf facts.now }
         ensures blocks { IfOk result (λ b. AreBlocks b) }
         ensures facts { IfOk result (λ b. b.facts.now ≡ facts.now) }
     {
@@ -401,7 +396,7 @@ pub(crate) fn things<'a>(
     facts: &LdfFacts<'a>,
     renames: &Renames<'a>,
 ) -> Result<Vec<Thing<'a>>, AllocError>
-    requires { AreRead facts.now }
+    requires { IsReadOf facts.now }
     ensures { IfOk result (λ v. v.items
         ≡ node_things (compared_data facts.now.ldf) (renames_data renames.now)) }
 {

@@ -1,8 +1,8 @@
 //! The numbers of keys and words that come several times.
 
 ghost use Rattle.std.specs.Prelude.{◌≡◌, ◌+◌, ◌++◌, ◌∷◌, ◌<◌, ◌^◌, [], ℕ, IfOk, List, OnOk, length, map};
-ghost use Rattle.lin_values.specs.Numbering.{again_text, count_of, numbered, numbered_entries};
-ghost use Rattle.lin_values.specs.Numbering.{numbered_entry, numbered_fact, repeats, AreCounts};
+ghost use Rattle.lin_values.specs.Numbering.{again_text, count_of, numbered_facts, numbered_entries};
+ghost use Rattle.lin_values.specs.Numbering.{numbered_entry, numbered_fact, repeats, AreTextCounts};
 
 use crate::diff::fact::{EntryFact, Fact};
 use crate::diff::fact_text::{FactText, put_number};
@@ -25,10 +25,10 @@ impl<'a> Drop for TextCounts<'a> {
 impl<'a> TextCounts<'a> {
     /// Returns how often a text came, and counts it.
     fn count(&mut self, text: &'a [u8]) -> Result<usize, AllocError>
-        ensures count { IfOk result (λ n. (texts : List (List ℕ)) → AreCounts texts self.old.map
+        ensures count { IfOk result (λ n. (texts : List (List ℕ)) → AreTextCounts texts self.old.map
             → n ≡ count_of texts text.now) }
         ensures more { OnOk result ((texts : List (List ℕ)) → length texts + 1 < 2 ^ 64
-            → AreCounts texts self.old.map → AreCounts (texts ++ text.now ∷ []) self.new.map) }
+            → AreTextCounts texts self.old.map → AreTextCounts (texts ++ text.now ∷ []) self.new.map) }
     {
         let count = self.map.get(&text).copied().unwrap_or(0);
         self.map.insert(text, count.saturating_add(1))?;
@@ -108,7 +108,7 @@ fn number_fact(
 
 /// Adds its number to each key that an earlier fact has.
 pub(crate) fn numbered<'a>(alloc: Global, facts: Vec<Fact<'a>>) -> Result<Vec<Fact<'a>>, AllocError>
-    ensures { IfOk result (λ v. v.items ≡ numbered facts.entry.items) }
+    ensures { IfOk result (λ v. v.items ≡ numbered_facts facts.entry.items) }
 {
     if facts.len() < 2 {
         return Ok(facts);

@@ -5,12 +5,14 @@ ghost use Rattle.std.specs.Prelude.{◌≡◌, ℕ, IfOk, List, OnOk, map};
 ghost use Rattle.std.specs.Option.{option_or};
 ghost use Rattle.lin_values.specs.NewNames.{any_name, keyed_name, known_by, new_names, no_renames};
 ghost use Rattle.lin_values.specs.NewNames.{renames_data};
-ghost use Rattle.lin_values.specs.Renames.{all_renames, with_encodings, with_events, with_frames};
-ghost use Rattle.lin_values.specs.Renames.{with_nodes, with_signals, with_sporadics, with_tables};
+ghost use Rattle.lin_values.specs.Renames.{RenamesBy};
+ghost use Rattle.lin_values.specs.Renames.{all_renames, with_encoding_names, with_event_names, with_frame_names};
+ghost use Rattle.lin_values.specs.Renames.{with_node_names, with_signal_names, with_sporadic_names, with_table_names};
 ghost use Rattle.lin_values.specs.Things.{compared_data};
+ghost use Rattle.lin_values.specs.NewNames.{AddsNames};
 
 use crate::diff::compared::LdfFacts;
-use crate::diff::new_names::{Keyed, NameSet, NewNames};
+use crate::diff::new_names::{Keyed, KnownNames, NewNames};
 use crate::diff::{encodings, frames, nodes, signals, tables};
 use lin_cluster::Named;
 use std::alloc::{AllocError, Global};
@@ -26,19 +28,26 @@ pub(crate) struct Renames<'a> {
     pub(crate) encodings: NewNames<'a>,
 }
 
+/// Two LDFs, and names of which each stays.
+#[derive(Clone, Copy)]
+struct Ldfs<'l, 'a> {
+    old: &'l LdfFacts<'a>,
+    new: &'l LdfFacts<'a>,
+    none: &'l Renames<'a>,
+}
+
 /// Adds the new names of the things of a kind: of those with keys, and of the others, which stay.
 fn add_names<'a, T: Named>(
     alloc: Global,
     names: &mut NewNames<'a>,
     all: &'a [T],
-    olds: &[Keyed<'a>],
-    news: &[Keyed<'a>],
+    olds: &Vec<Keyed<'a>>,
+    news: &Vec<Keyed<'a>>,
 ) -> Result<(), AllocError>
-    ensures { OnOk result ((q : List ℕ) → known_by names.new q
-        ≡ option_or (known_by names.old q) (new_names (map (λ x. (T.name_of x).text) all.now)
-        (map keyed_name olds.now) (map keyed_name news.now) q)) }
+    ensures { OnOk result (AddsNames names.old names.new
+        (new_names (map (λ x. (T.name_of x).text) all.now) (map keyed_name olds.now.items) (map keyed_name news.now.items))) }
 {
-    names.add_renamed(alloc, olds, news)?;
+    names.add_renamed(alloc, olds.as_slice(), news.as_slice())?;
     names.add_all(all)
 }
 
@@ -69,168 +78,87 @@ impl<'a> Renames<'a> {
         self.signals.of(word)
     }
 
-    fn add_nodes(
-        &mut self,
-        alloc: Global,
-        old: &LdfFacts<'a>,
-        new: &LdfFacts<'a>,
-    ) -> Result<(), AllocError>
-        ensures { OnOk result (renames_data self.new
-            ≡ with_nodes (compared_data old.now.ldf) (compared_data new.now.ldf) (renames_data self.old)) }
+    fn add_nodes(&mut self, alloc: Global, ldfs: Ldfs<'_, 'a>) -> Result<(), AllocError>
+        ensures { OnOk result (RenamesBy with_node_names ldfs.entry self.old self.new) }
     {
-        let old_names = nodes::names(alloc, old)?;
-        let new_names = nodes::names(alloc, new)?;
-        let olds = nodes::keys(alloc, old, &new_names)?;
-        let news = nodes::keys(alloc, new, &old_names)?;
+        let old_names = nodes::names(alloc, ldfs.old)?;
+        let new_names = nodes::names(alloc, ldfs.new)?;
+        let olds = nodes::keys(alloc, ldfs.old, &new_names)?;
+        let news = nodes::keys(alloc, ldfs.new, &old_names)?;
         self.nodes
             .add_renamed(alloc, olds.as_slice(), news.as_slice())?;
-        let description = old.ldf.description;
+        let description = ldfs.old.ldf.description;
         self.nodes.add(description.master().text.as_slice())?;
         self.nodes.add_all(description.slaves())
     }
 
-    fn add_frames(
-        &mut self,
-        alloc: Global,
-        old: &LdfFacts<'a>,
-        new: &LdfFacts<'a>,
-    ) -> Result<(), AllocError>
-        ensures { OnOk result (renames_data self.new
-            ≡ with_frames (compared_data old.now.ldf) (compared_data new.now.ldf) (renames_data self.old)) }
+    fn add_frames(&mut self, alloc: Global, ldfs: Ldfs<'_, 'a>) -> Result<(), AllocError>
+        ensures { OnOk result (RenamesBy with_frame_names ldfs.entry self.old self.new) }
     {
-        let all = old.ldf.description.frames();
-        let old_names = NameSet::of(alloc, all)?;
-        let new_names = NameSet::of(alloc, new.ldf.description.frames())?;
-        let olds = frames::keys(alloc, old, &new_names)?;
-        let news = frames::keys(alloc, new, &old_names)?;
-        add_names(
-            alloc,
-            &mut self.frames,
-            all,
-            olds.as_slice(),
-            news.as_slice(),
-        )
+        let all = ldfs.old.ldf.description.frames();
+        let old_names = KnownNames::of(alloc, all)?;
+        let new_names = KnownNames::of(alloc, ldfs.new.ldf.description.frames())?;
+        let olds = frames::keys(alloc, ldfs.old, &new_names)?;
+        let news = frames::keys(alloc, ldfs.new, &old_names)?;
+        add_names(alloc, &mut self.frames, all, &olds, &news)
     }
 
-    fn add_events(
-        &mut self,
-        alloc: Global,
-        old: &LdfFacts<'a>,
-        new: &LdfFacts<'a>,
-    ) -> Result<(), AllocError>
-        ensures { OnOk result (renames_data self.new
-            ≡ with_events (compared_data old.now.ldf) (compared_data new.now.ldf) (renames_data self.old)) }
+    fn add_events(&mut self, alloc: Global, ldfs: Ldfs<'_, 'a>) -> Result<(), AllocError>
+        ensures { OnOk result (RenamesBy with_event_names ldfs.entry self.old self.new) }
     {
-        let all = old.ldf.description.events();
-        let old_names = NameSet::of(alloc, all)?;
-        let new_names = NameSet::of(alloc, new.ldf.description.events())?;
-        let olds = frames::event_keys(alloc, old, &new_names)?;
-        let news = frames::event_keys(alloc, new, &old_names)?;
-        add_names(
-            alloc,
-            &mut self.frames,
-            all,
-            olds.as_slice(),
-            news.as_slice(),
-        )
+        let all = ldfs.old.ldf.description.events();
+        let old_names = KnownNames::of(alloc, all)?;
+        let new_names = KnownNames::of(alloc, ldfs.new.ldf.description.events())?;
+        let olds = frames::event_keys(alloc, ldfs.old, &new_names)?;
+        let news = frames::event_keys(alloc, ldfs.new, &old_names)?;
+        add_names(alloc, &mut self.frames, all, &olds, &news)
     }
 
-    fn add_signals(
-        &mut self,
-        alloc: Global,
-        old: &LdfFacts<'a>,
-        new: &LdfFacts<'a>,
-        none: &Renames<'a>,
-    ) -> Result<(), AllocError>
-        requires { renames_data none.now ≡ no_renames }
-        ensures { OnOk result (renames_data self.new
-            ≡ with_signals (compared_data old.now.ldf) (compared_data new.now.ldf) (renames_data self.old)) }
+    fn add_signals(&mut self, alloc: Global, ldfs: Ldfs<'_, 'a>) -> Result<(), AllocError>
+        requires { renames_data ldfs.none.now ≡ no_renames }
+        ensures { OnOk result (RenamesBy with_signal_names ldfs.entry self.old self.new) }
     {
-        let all = old.ldf.description.signals();
-        let old_names = NameSet::of(alloc, all)?;
-        let new_names = NameSet::of(alloc, new.ldf.description.signals())?;
-        let olds = signals::keys(alloc, old, &new_names, self)?;
-        let news = signals::keys(alloc, new, &old_names, none)?;
-        add_names(
-            alloc,
-            &mut self.signals,
-            all,
-            olds.as_slice(),
-            news.as_slice(),
-        )
+        let all = ldfs.old.ldf.description.signals();
+        let old_names = KnownNames::of(alloc, all)?;
+        let new_names = KnownNames::of(alloc, ldfs.new.ldf.description.signals())?;
+        let olds = signals::keys(alloc, ldfs.old, &new_names, self)?;
+        let news = signals::keys(alloc, ldfs.new, &old_names, ldfs.none)?;
+        add_names(alloc, &mut self.signals, all, &olds, &news)
     }
 
-    fn add_sporadics(
-        &mut self,
-        alloc: Global,
-        old: &LdfFacts<'a>,
-        new: &LdfFacts<'a>,
-        none: &Renames<'a>,
-    ) -> Result<(), AllocError>
-        requires { renames_data none.now ≡ no_renames }
-        ensures { OnOk result (renames_data self.new
-            ≡ with_sporadics (compared_data old.now.ldf) (compared_data new.now.ldf) (renames_data self.old)) }
+    fn add_sporadics(&mut self, alloc: Global, ldfs: Ldfs<'_, 'a>) -> Result<(), AllocError>
+        requires { renames_data ldfs.none.now ≡ no_renames }
+        ensures { OnOk result (RenamesBy with_sporadic_names ldfs.entry self.old self.new) }
     {
-        let all = old.ldf.description.sporadic();
-        let old_names = NameSet::of(alloc, all)?;
-        let new_names = NameSet::of(alloc, new.ldf.description.sporadic())?;
-        let olds = frames::sporadic_keys(alloc, old, &new_names, self)?;
-        let news = frames::sporadic_keys(alloc, new, &old_names, none)?;
-        add_names(
-            alloc,
-            &mut self.frames,
-            all,
-            olds.as_slice(),
-            news.as_slice(),
-        )
+        let all = ldfs.old.ldf.description.sporadic();
+        let old_names = KnownNames::of(alloc, all)?;
+        let new_names = KnownNames::of(alloc, ldfs.new.ldf.description.sporadic())?;
+        let olds = frames::sporadic_keys(alloc, ldfs.old, &new_names, self)?;
+        let news = frames::sporadic_keys(alloc, ldfs.new, &old_names, ldfs.none)?;
+        add_names(alloc, &mut self.frames, all, &olds, &news)
     }
 
-    fn add_tables(
-        &mut self,
-        alloc: Global,
-        old: &LdfFacts<'a>,
-        new: &LdfFacts<'a>,
-        none: &Renames<'a>,
-    ) -> Result<(), AllocError>
-        requires { renames_data none.now ≡ no_renames }
-        ensures { OnOk result (renames_data self.new
-            ≡ with_tables (compared_data old.now.ldf) (compared_data new.now.ldf) (renames_data self.old)) }
+    fn add_tables(&mut self, alloc: Global, ldfs: Ldfs<'_, 'a>) -> Result<(), AllocError>
+        requires { renames_data ldfs.none.now ≡ no_renames }
+        ensures { OnOk result (RenamesBy with_table_names ldfs.entry self.old self.new) }
     {
-        let all = old.ldf.description.tables();
-        let old_names = NameSet::of(alloc, all)?;
-        let new_names = NameSet::of(alloc, new.ldf.description.tables())?;
-        let olds = tables::keys(alloc, old, &new_names, self)?;
-        let news = tables::keys(alloc, new, &old_names, none)?;
-        add_names(
-            alloc,
-            &mut self.tables,
-            all,
-            olds.as_slice(),
-            news.as_slice(),
-        )
+        let all = ldfs.old.ldf.description.tables();
+        let old_names = KnownNames::of(alloc, all)?;
+        let new_names = KnownNames::of(alloc, ldfs.new.ldf.description.tables())?;
+        let olds = tables::keys(alloc, ldfs.old, &new_names, self)?;
+        let news = tables::keys(alloc, ldfs.new, &old_names, ldfs.none)?;
+        add_names(alloc, &mut self.tables, all, &olds, &news)
     }
 
-    fn add_encodings(
-        &mut self,
-        alloc: Global,
-        old: &LdfFacts<'a>,
-        new: &LdfFacts<'a>,
-    ) -> Result<(), AllocError>
-        ensures { OnOk result (renames_data self.new
-            ≡ with_encodings (compared_data old.now.ldf) (compared_data new.now.ldf) (renames_data self.old)) }
+    fn add_encodings(&mut self, alloc: Global, ldfs: Ldfs<'_, 'a>) -> Result<(), AllocError>
+        ensures { OnOk result (RenamesBy with_encoding_names ldfs.entry self.old self.new) }
     {
-        let all = old.ldf.codings.types.as_slice();
-        let old_names = NameSet::of(alloc, all)?;
-        let new_names = NameSet::of(alloc, new.ldf.codings.types.as_slice())?;
-        let olds = encodings::keys(alloc, old, &new_names)?;
-        let news = encodings::keys(alloc, new, &old_names)?;
-        add_names(
-            alloc,
-            &mut self.encodings,
-            all,
-            olds.as_slice(),
-            news.as_slice(),
-        )
+        let all = ldfs.old.ldf.codings.types.as_slice();
+        let old_names = KnownNames::of(alloc, all)?;
+        let new_names = KnownNames::of(alloc, ldfs.new.ldf.codings.types.as_slice())?;
+        let olds = encodings::keys(alloc, ldfs.old, &new_names)?;
+        let news = encodings::keys(alloc, ldfs.new, &old_names)?;
+        add_names(alloc, &mut self.encodings, all, &olds, &news)
     }
 
     /// Finds the new names of all things.
@@ -244,13 +172,18 @@ impl<'a> Renames<'a> {
     {
         let none = Renames::none(alloc)?;
         let mut renames = Renames::none(alloc)?;
-        renames.add_nodes(alloc, old, new)?;
-        renames.add_frames(alloc, old, new)?;
-        renames.add_events(alloc, old, new)?;
-        renames.add_signals(alloc, old, new, &none)?;
-        renames.add_sporadics(alloc, old, new, &none)?;
-        renames.add_tables(alloc, old, new, &none)?;
-        renames.add_encodings(alloc, old, new)?;
+        let ldfs = Ldfs {
+            old,
+            new,
+            none: &none,
+        };
+        renames.add_nodes(alloc, ldfs)?;
+        renames.add_frames(alloc, ldfs)?;
+        renames.add_events(alloc, ldfs)?;
+        renames.add_signals(alloc, ldfs)?;
+        renames.add_sporadics(alloc, ldfs)?;
+        renames.add_tables(alloc, ldfs)?;
+        renames.add_encodings(alloc, ldfs)?;
         Ok(renames)
     }
 }

@@ -5,20 +5,22 @@ ghost use Rattle.std.specs.Prelude.{false, true};
 ghost use Rattle.std.specs.List.{list_any};
 ghost use Rattle.lin_values.specs.NewNames.{alone, has_in, is_among, keyed_name, renames_data};
 ghost use Rattle.lin_values.specs.Numbering.{ArePlaces};
-ghost use Rattle.lin_values.specs.Renames.{all_places, place_text, signal_key, signal_keys, signal_names};
-ghost use Rattle.lin_values.specs.SignalPlaces.{number_of, with_frame, with_place, ArePlacesOf};
+ghost use Rattle.lin_values.specs.Renames.{all_places, place_text, signal_key, signal_keys, all_signal_names};
+ghost use Rattle.lin_values.specs.SignalPlaces.{number_among, with_places_in, with_place, ArePlacesOf};
 ghost use Rattle.lin_values.specs.SortedTexts.{insert_text};
 ghost use Rattle.lin_values.specs.Things.{array_text, compared_data, encoding_facts, encoding_of};
 ghost use Rattle.lin_values.specs.Things.{initial_fact, is_subscriber, signal_thing, size_text};
-ghost use Rattle.lin_values.specs.Things.{value_facts, with_subscriber, AreRead};
+ghost use Rattle.lin_values.specs.Things.{value_facts, with_subscriber, IsReadOf};
+ghost use Rattle.lin_values.specs.NewNames.{AddsKeys, AreKeys};
+ghost use Rattle.lin_values.specs.SignalPlaces.{AddsPlaces, FindsPlaces, WithPlaces, ArePlacesIn};
 
 use crate::codings::CodingType;
 use crate::diff::compared::LdfFacts;
-use crate::diff::fact::{Class, Fact, Kind, Thing};
+use crate::diff::fact::{Class, Fact, Thing, ThingKind};
 use crate::diff::fact_text::{FactText, put_hex, put_number, put_word, two_words};
 use crate::diff::header::place_of as place_of_number;
 use crate::diff::index::Index;
-use crate::diff::new_names::{Keyed, NameSet};
+use crate::diff::new_names::{Keyed, KnownNames};
 use crate::diff::nodes::place_of;
 use crate::diff::renames::Renames;
 use crate::diff::sorted::{insert_sorted, joined};
@@ -149,7 +151,7 @@ fn add_encoding<'a>(
 
 /// Returns the encoding of a signal.
 fn encoding_of<'a>(facts: &LdfFacts<'a>, signal: &Signal) -> Option<&'a CodingType>
-    requires { AreRead facts.now }
+    requires { IsReadOf facts.now }
     ensures { option_map (λ t. t.now) result ≡ encoding_of facts.now.ldf.codings.now signal.now }
 {
     match facts.codings.encoding_of(signal.name.text.as_slice()) {
@@ -165,7 +167,7 @@ fn thing<'a>(
     signal: &'a Signal,
     renames: &Renames<'a>,
 ) -> Result<Thing<'a>, AllocError>
-    requires { AreRead facts.now }
+    requires { IsReadOf facts.now }
     ensures { IfOk result (λ t. t
         ≡ signal_thing (compared_data facts.now.ldf) (renames_data renames.now) signal.now) }
 {
@@ -175,7 +177,7 @@ fn thing<'a>(
     let name = signal.name.text.as_slice();
     let names = (name, renames.signals.of(name));
     let place = place_of(&signal.name);
-    Ok(Thing::new(alloc, Kind::Signal, names, place, found))
+    Ok(Thing::new(alloc, ThingKind::Signal, names, place, found))
 }
 
 /// Returns the signals.
@@ -184,7 +186,7 @@ pub(crate) fn things<'a>(
     facts: &LdfFacts<'a>,
     renames: &Renames<'a>,
 ) -> Result<Vec<Thing<'a>>, AllocError>
-    requires { AreRead facts.now }
+    requires { IsReadOf facts.now }
     ensures { IfOk result (λ v. v.items ≡ map
         (signal_thing (compared_data facts.now.ldf) (renames_data renames.now))
         facts.now.ldf.description.now.signals) }
@@ -217,7 +219,7 @@ impl<'a> Drop for Places<'a> {
 fn add_alone<'a>(
     names: &mut Vec<&'a [u8]>,
     name: &'a [u8],
-    others: &NameSet<'_>,
+    others: &KnownNames<'_>,
 ) -> Result<(), AllocError>
     ensures { OnOk result (map (λ n. n.now) names.new.items ≡ map (λ n. n.now) names.old.items
         ++ filter (λ n. not (has_in others.now.map n)) (name.now ∷ [])) }
@@ -232,7 +234,7 @@ fn add_alone<'a>(
 fn alone<'a>(
     alloc: Global,
     signals: &'a [Signal],
-    others: &NameSet<'_>,
+    others: &KnownNames<'_>,
 ) -> Result<Vec<&'a [u8]>, AllocError>
     ensures { IfOk result (λ v. map (λ n. n.now) v.items
         ≡ filter (λ n. not (has_in others.now.map n)) (map (λ s. s.name.text) signals.now)) }
@@ -277,7 +279,7 @@ impl<'a> Places<'a> {
     /// Returns the number of a signal, or the one after the last.
     fn number_of(&self, signal: &[u8]) -> usize
         ensures { (names : List (List ℕ)) → ArePlaces names self.now.numbers.map
-            → length self.now.all.items ≡ length names → result ≡ number_of names signal.now }
+            → length self.now.all.items ≡ length names → result ≡ number_among names signal.now }
     {
         match self.numbers.place_of(signal) {
             Some(number) => number,
@@ -287,9 +289,8 @@ impl<'a> Places<'a> {
 
     /// Adds a place of a signal.
     fn add(&mut self, signal: &[u8], place: FactText<'a>) -> Result<(), AllocError>
-        ensures { OnOk result ((names : List (List ℕ)) (places : List ℕ → List (List ℕ))
-            → ArePlacesOf names places self.old
-            → ArePlacesOf names (with_place places signal.now place.entry) self.new) }
+        ensures { OnOk result
+            (AddsPlaces self.old self.new (λ places. with_place places signal.now place.entry)) }
     {
         let number = self.number_of(signal);
         if self.all.len() <= number {
@@ -306,9 +307,8 @@ impl<'a> Places<'a> {
         frame: &Frame,
         renames: &Renames<'a>,
     ) -> Result<(), AllocError>
-        ensures { OnOk result ((names : List (List ℕ)) (places : List ℕ → List (List ℕ))
-            → ArePlacesOf names places self.old
-            → ArePlacesOf names (with_frame (renames_data renames.now) places frame.now) self.new) }
+        ensures { OnOk result (AddsPlaces self.old self.new
+            (λ places. with_places_in (renames_data renames.now) places frame.now)) }
     {
         let name = renames.frames.of(frame.name.text.as_slice());
         for placed in frame.placed.as_slice() {
@@ -320,9 +320,7 @@ impl<'a> Places<'a> {
 
     /// Returns the places of a signal.
     fn of(&self, signal: &[u8]) -> &[FactText<'a>]
-        ensures { (names : List (List ℕ)) (places : List ℕ → List (List ℕ))
-            → ArePlacesOf names places self.now → is_among names signal.now ≡ true
-            → result.now ≡ places signal.now }
+        ensures { FindsPlaces self.now signal.now result.now }
     {
         let number = self.number_of(signal);
         if self.all.len() <= number {
@@ -336,12 +334,11 @@ impl<'a> Places<'a> {
 fn placed_in_frames<'a>(
     alloc: Global,
     facts: &LdfFacts<'a>,
-    others: &NameSet<'_>,
+    others: &KnownNames<'_>,
     renames: &Renames<'a>,
 ) -> Result<Places<'a>, AllocError>
-    ensures { IfOk result (λ p. ArePlacesOf
-        (filter (λ n. not (has_in others.now.map n)) (signal_names (compared_data facts.now.ldf)))
-        (all_places (compared_data facts.now.ldf) (renames_data renames.now)) p) }
+    ensures { IfOk result
+        (λ p. ArePlacesIn (compared_data facts.now.ldf) others.now (renames_data renames.now) p) }
 {
     let names = alone(alloc, facts.ldf.description.signals(), others)?;
     let mut places = Places::new(alloc, names.as_slice())?;
@@ -381,14 +378,11 @@ fn add_key_if_alone<'a>(
     alloc: Global,
     keys: &mut Vec<Keyed<'a>>,
     signal: &'a Signal,
-    others: &NameSet<'_>,
+    others: &KnownNames<'_>,
     places: &Places<'_>,
 ) -> Result<(), AllocError>
-    ensures { OnOk result ((names : List (List ℕ)) (all : List ℕ → List (List ℕ))
-        → ArePlacesOf names all places.now
-        → (has_in others.now.map signal.now.name.text ≡ false → is_among names signal.now.name.text ≡ true)
-        → map keyed_name keys.new.items ≡ map keyed_name keys.old.items
-        ++ alone (has_in others.now.map) (signal_key signal.now (all signal.now.name.text))) }
+    ensures { OnOk result (WithPlaces places.now others.now signal.now.name.text
+        (λ all. AddsKeys others.now keys.old.items keys.new.items (signal_key signal.now all))) }
 {
     let name = signal.name.text.as_slice();
     if others.has(name) {
@@ -402,11 +396,10 @@ fn add_key_if_alone<'a>(
 pub(crate) fn keys<'a>(
     alloc: Global,
     facts: &LdfFacts<'a>,
-    others: &NameSet<'_>,
+    others: &KnownNames<'_>,
     renames: &Renames<'a>,
 ) -> Result<Vec<Keyed<'a>>, AllocError>
-    ensures { IfOk result (λ v. map keyed_name v.items ≡ alone (has_in others.now.map)
-        (signal_keys (compared_data facts.now.ldf) (renames_data renames.now))) }
+    ensures { IfOk result (λ v. AreKeys others.now v.items (signal_keys (compared_data facts.now.ldf) (renames_data renames.now))) }
 {
     let places = placed_in_frames(alloc, facts, others, renames)?;
     let mut keys = Vec::new(alloc);

@@ -1,7 +1,7 @@
 //! Texts in the order of their bytes.
 
 ghost use Rattle.std.specs.Prelude.{◌≡◌, ◌++◌, ◌∷◌, ◌≤◌, IfOk, OnOk, drop, length, take};
-ghost use Rattle.lin_values.specs.FactTexts.{joined};
+ghost use Rattle.lin_values.specs.FactTexts.{with_spaces};
 ghost use Rattle.lin_values.specs.SortedTexts.{insert_text, is_at_most};
 
 use crate::diff::fact_text::{FactText, put_word};
@@ -45,7 +45,7 @@ pub(crate) fn insert_sorted<'a>(
 
 /// Returns texts with a space between them.
 pub(crate) fn joined<'a>(alloc: Global, texts: &[FactText<'a>]) -> Result<FactText<'a>, AllocError>
-    ensures { IfOk result (λ t. t ≡ joined texts.now) }
+    ensures { IfOk result (λ t. t ≡ with_spaces texts.now) }
 {
     let mut all = Vec::new(alloc);
     for text in texts {

@@ -11,17 +11,18 @@ ghost use Rattle.lin_values.specs.NewNames.{alone, has_in, keyed_name, renames_d
 ghost use Rattle.lin_values.specs.Numbering.{numbered_entries};
 ghost use Rattle.lin_values.specs.Renames.{table_keys, table_keys_of, words_key};
 ghost use Rattle.lin_values.specs.Statements.{statements};
-ghost use Rattle.lin_values.specs.Things.{compared_data, entries_from, entries_in, entry_fact, entry_word};
+ghost use Rattle.lin_values.specs.Things.{compared_data, entry_facts, entries_in, entry_fact, entry_word};
 ghost use Rattle.lin_values.specs.Things.{has_command, lines_of_table, load_facts, section_tables};
-ghost use Rattle.lin_values.specs.Things.{slack_text, table_of, table_thing, table_thing_of, table_things, text_tables};
+ghost use Rattle.lin_values.specs.Things.{slack_text, named_lines, table_thing, table_thing_of, table_things, text_tables};
+ghost use Rattle.lin_values.specs.NewNames.{AddsKeys, AreKeys};
 
 use crate::configurable_lists::name_here;
 use crate::diff::compared::{LdfFacts, TableLoad};
-use crate::diff::fact::{Class, EntryFact, Fact, Kind, Thing};
+use crate::diff::fact::{Class, EntryFact, Fact, Thing, ThingKind};
 use crate::diff::fact_text::{FactText, number_text, put_number};
 use crate::diff::frames::is_added;
 use crate::diff::header::place_of as place_of_number;
-use crate::diff::new_names::{Keyed, NameSet};
+use crate::diff::new_names::{Keyed, KnownNames};
 use crate::diff::nodes::place_of;
 use crate::diff::numbering::numbered_entries;
 use crate::diff::renames::Renames;
@@ -53,7 +54,7 @@ impl<'a> Named for TableLines<'a> {
 /// Adds the next table, if a table is next.
 #[tactic(auto, using(crate::proofs::StatementSteps::nothing_more))]
 fn add_table<'a>(parser: &Parser<'a>, tables: &mut Vec<TableLines<'a>>) -> Result<(), AllocError>
-    ensures { OnOk result (tables.new.items ≡ tables.old.items ++ table_of parser.now) }
+    ensures { OnOk result (tables.new.items ≡ tables.old.items ++ named_lines parser.now) }
 {
     if !is_group(parser) {
         return Ok(());
@@ -70,7 +71,7 @@ fn add_tables<'a>(
     tables: &mut Vec<TableLines<'a>>,
 ) -> Result<(), AllocError>
     ensures { OnOk result
-        (tables.new.items ≡ tables.old.items ++ flat_map table_of (statements parser.old)) }
+        (tables.new.items ≡ tables.old.items ++ flat_map named_lines (statements parser.old)) }
 {
     while has_line(parser) {
         add_table(parser, tables)?;
@@ -184,7 +185,7 @@ fn entries_of<'a>(
     renames: &Renames<'a>,
 ) -> Result<Vec<EntryFact<'a>>, AllocError>
     ensures { IfOk result (λ v. v.items
-        ≡ numbered_entries (entries_from (renames_data renames.now) 0 lines.entry entries.now)) }
+        ≡ numbered_entries (entry_facts (renames_data renames.now) 0 lines.entry entries.now)) }
 {
     let mut line = lines;
     let mut found = Vec::new(alloc);
@@ -239,7 +240,7 @@ fn thing<'a>(
     let place = place_of(&table.name);
     let found = load_facts(alloc, load, place)?;
     Ok(Thing {
-        kind: Kind::Table,
+        kind: ThingKind::Table,
         name: FactText::lent(table.name.text.as_slice()),
         new_name: FactText::lent(new_name),
         place,
@@ -334,15 +335,13 @@ fn words_text<'a>(alloc: Global, entries: &[EntryFact<'_>]) -> Result<FactText<'
 fn add_key<'a>(
     alloc: Global,
     keys: &mut Vec<Keyed<'a>>,
-    declared: (&'a Table, &NameSet<'_>),
+    declared: (&'a Table, &KnownNames<'_>),
     numbers: &Numbers<'_>,
     lines: &[TableLines<'a>],
     renames: &Renames<'a>,
 ) -> Result<(), AllocError>
     requires { NumbersFirst (λ l. l.name) lines.now numbers.now.map }
-    ensures { OnOk result (map keyed_name keys.new.items ≡ map keyed_name keys.old.items
-        ++ alone (has_in declared.entry.1.now.map)
-        (table_keys_of lines.now (renames_data renames.now) declared.entry.0.now)) }
+    ensures { OnOk result (AddsKeys declared.entry.1.now keys.old.items keys.new.items (table_keys_of lines.now (renames_data renames.now) declared.entry.0.now)) }
 {
     let (table, others) = declared;
     let name = table.name.text.as_slice();
@@ -359,11 +358,10 @@ fn add_key<'a>(
 pub(crate) fn keys<'a>(
     alloc: Global,
     facts: &LdfFacts<'a>,
-    others: &NameSet<'_>,
+    others: &KnownNames<'_>,
     renames: &Renames<'a>,
 ) -> Result<Vec<Keyed<'a>>, AllocError>
-    ensures { IfOk result (λ v. map keyed_name v.items ≡ alone (has_in others.now.map)
-        (table_keys (compared_data facts.now.ldf) (renames_data renames.now))) }
+    ensures { IfOk result (λ v. AreKeys others.now v.items (table_keys (compared_data facts.now.ldf) (renames_data renames.now))) }
 {
     let tables = facts.ldf.description.tables();
     let lines = text_tables(alloc, facts.ldf.source, tables)?;

@@ -11,8 +11,8 @@ ghost use Rattle.lin_ldf.specs.declared.token.TokenKind.TheVariants.{CloseBrace,
 ghost use Rattle.lin_values.specs.FactTexts.{with_word};
 ghost use Rattle.lin_values.specs.NewNames.{renames_data};
 ghost use Rattle.lin_values.specs.Texts.{shown_text};
-ghost use Rattle.lin_values.specs.TokenTexts.{command_text, group_words, header_lines, number_token};
-ghost use Rattle.lin_values.specs.TokenTexts.{quoted, spelled, token_text, tokens_until, tokens_words};
+ghost use Rattle.lin_values.specs.TokenTexts.{command_text, group_words, lines_of_header, number_token};
+ghost use Rattle.lin_values.specs.TokenTexts.{spelling_of, token_text, tokens_until, tokens_words};
 ghost use Rattle.lin_values.specs.TokenTexts.{value_text};
 
 use crate::attribute_blocks::{Attribute, attribute_here};
@@ -42,7 +42,7 @@ pub(crate) enum Spelling<'n, 'a> {
 
 impl<'n, 'a> Spelling<'n, 'a> {
     fn leaves_out(self, kind: TokenKind) -> bool
-        ensures { result ≡ ((spelled self.entry).has_decimals && is_kind Comma kind) }
+        ensures { result ≡ ((spelling_of self.entry).has_decimals && is_kind Comma kind) }
     {
         match self {
             Spelling::Numbers => kind == TokenKind::Comma,
@@ -52,7 +52,7 @@ impl<'n, 'a> Spelling<'n, 'a> {
 
     /// Returns a word as it is written.
     fn word(self, word: &'a [u8]) -> &'a [u8]
-        ensures { result.now ≡ (spelled self.entry).word word.now }
+        ensures { result.now ≡ (spelling_of self.entry).word word.now }
     {
         match self {
             Spelling::AsTheyAre | Spelling::Numbers => word,
@@ -63,7 +63,7 @@ impl<'n, 'a> Spelling<'n, 'a> {
     }
 
     fn has_decimals(self) -> bool
-        ensures { result ≡ (spelled self.entry).has_decimals }
+        ensures { result ≡ (spelling_of self.entry).has_decimals }
     {
         match self {
             Spelling::Numbers => true,
@@ -87,7 +87,7 @@ pub(crate) fn between_quotes(text: &[u8]) -> &[u8]
 #[tactic(auto, using(crate::proofs::FactSteps::word_goes_on))]
 fn put_quoted(text: &mut Vec<u8>, alloc: Global, token: &[u8]) -> Result<(), AllocError>
     ensures { OnOk result
-        (text.new.items ≡ with_word text.old.items (quoted (shown_text (without_quotes token.now)))) }
+        (text.new.items ≡ with_word text.old.items (quoted_text (shown_text (without_quotes token.now)))) }
 {
     let shown = shown_text(alloc, between_quotes(token))?;
     put_word(text, b"\"")?;
@@ -127,7 +127,7 @@ fn put_token<'a>(
 ) -> Result<(), AllocError>
     requires { front_kind parser.now ≡ Some kind }
     ensures { OnOk result
-        (text.new.items ≡ with_word text.old.items (token_text (spelled spelling.entry) (front parser.now))) }
+        (text.new.items ≡ with_word text.old.items (token_text (spelling_of spelling.entry) (front parser.now))) }
 {
     match kind {
         TokenKind::Text => put_quoted(text, parser.alloc(), parser.text()),
@@ -147,7 +147,7 @@ fn put_next<'a>(
 ) -> Result<(), AllocError>
     requires { front_kind parser.now ≡ Some kind }
     ensures { OnOk result (text.new.items ≡ fold with_word text.old.items
-        (tokens_words (spelled spelling.entry) (front parser.now ∷ []))) }
+        (tokens_words (spelling_of spelling.entry) (front parser.now ∷ []))) }
 {
     if spelling.leaves_out(kind) {
         return Ok(());
@@ -165,7 +165,7 @@ fn put_tokens<'a>(
     spelling: Spelling<'_, 'a>,
 ) -> Result<(), AllocError>
     ensures { OnOk result (text.new.items ≡ fold with_word text.old.items
-        (tokens_words (spelled spelling.entry) (tokens_until ends_at_semicolon 0 parser.old))) }
+        (tokens_words (spelling_of spelling.entry) (tokens_until ends_at_semicolon 0 parser.old))) }
 {
     let left = parser.left();
     let mut depth = 0usize;
@@ -187,7 +187,7 @@ fn put_group<'a>(
     spelling: Spelling<'_, 'a>,
 ) -> Result<(), AllocError>
     ensures { OnOk result (text.new.items
-        ≡ fold with_word text.old.items (group_words (spelled spelling.entry) parser.old)) }
+        ≡ fold with_word text.old.items (group_words (spelling_of spelling.entry) parser.old)) }
 {
     put_word(text, b"{")?;
     parser.skip();
@@ -201,7 +201,7 @@ pub(crate) fn value_text<'a>(
     attribute: &Attribute<'a>,
     spelling: Spelling<'_, 'a>,
 ) -> Result<FactText<'a>, AllocError>
-    ensures { IfOk result (λ t. t ≡ value_text (spelled spelling.entry) (tail attribute.now)) }
+    ensures { IfOk result (λ t. t ≡ value_text (spelling_of spelling.entry) (tail attribute.now)) }
 {
     let mut text = Vec::new(alloc);
     let mut parser = attribute.value();
@@ -237,7 +237,7 @@ pub(crate) fn command_text<'a>(
 /// Returns the lines of a header: the statements of an LDF before its first section.
 pub(crate) fn header_lines(alloc: Global, source: &[u8]) -> Result<Vec<Attribute<'_>>, AllocError>
     ensures { IfOk result (λ lines. lines.items
-        ≡ header_lines (symbols_in source.now (start_of source.now).tokens)) }
+        ≡ lines_of_header (symbols_in source.now (start_of source.now).tokens)) }
 {
     let mut lines = Vec::new(alloc);
     let mut parser = Parser::new(alloc, source);

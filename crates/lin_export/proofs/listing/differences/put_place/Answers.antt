@@ -1,14 +1,14 @@
 use Rattle.std.proofs.Common.{ap, sym}
 use Rattle.lin_log.specs.Words.{spaced_word}
 use Rattle.lin_text.proofs.Growing.{grows-more, same-growth}
-use Rattle.lin_export.specs.ListedDifferences.{place_word}
+use Rattle.lin_export.specs.ListedDifferences.{file_place}
 use Rattle.lin_export.proofs.listing.differences.put_place.Goals as goal
 
 pub returns-in-Some : goal.returns-in-Some
 returns-in-Some g c =
-    same-growth (ap (λ place. spaced_word (place_word c.args.file.now place)) (sym c.in-Some.is))
+    same-growth (ap (λ place. spaced_word (file_place c.args.file.now place)) (sym c.in-Some.is))
     (grows-more c.put_byte.ensures (grows-more c.put_text.ensures (grows-more c.put_numbered.ensures c.put_numbered-in-Some.ensures)))
 
 pub returns-in-None : goal.returns-in-None
 returns-in-None g c =
-    same-growth (ap (λ place. spaced_word (place_word c.args.file.now place)) (sym c.in-None.is)) (grows-more c.put_byte.ensures c.put_byte-in-None.ensures)
+    same-growth (ap (λ place. spaced_word (file_place c.args.file.now place)) (sym c.in-None.is)) (grows-more c.put_byte.ensures c.put_byte-in-None.ensures)

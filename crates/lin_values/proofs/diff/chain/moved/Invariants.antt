@@ -1,6 +1,6 @@
 use Rattle.std.proofs.Common.{◌≡◌, ◌≤◌, true, length}
 use Rattle.std.specs.Prelude.{replicate}
-use Rattle.lin_values.specs.Moved.{chain, moved, unmarked}
+use Rattle.lin_values.specs.Moved.{chain, moved_flags, without_marks}
 use Rattle.lin_values.proofs.diff.chain.moved.Given as goal
 
 abbrev pub invariant-loop-place : goal.invariant-loop-place
@@ -8,7 +8,7 @@ invariant-loop-place l = l.moved.items ≡ replicate l._place-index true
 
 abbrev pub invariant-loop-links : goal.invariant-loop-links
 invariant-loop-links l = record {
-  rest : moved l.places ≡ unmarked l.moved.items (chain l.places l.lengths.items l.links l.count l.end);
+  rest : moved_flags l.places ≡ without_marks l.moved.items (chain l.places l.lengths.items l.links l.count l.end);
   number : length l.moved.items ≡ length l.places;
   count : l.count ≤ length l.places;
 }

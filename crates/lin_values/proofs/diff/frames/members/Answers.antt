@@ -5,7 +5,7 @@ use Rattle.std.proofs.lemmas.List.{take_all}
 use Rattle.lin_parts.specs.declared.description.EventFrame.{EventFrame}
 use Rattle.lin_parts.specs.declared.description.Name.{Name}
 use Rattle.lin_values.specs.NewNames.{has_in, is_among}
-use Rattle.lin_values.specs.Things.{is_listed}
+use Rattle.lin_values.specs.Things.{is_event_member}
 use Rattle.lin_values.proofs.FactSteps.{any-more}
 use Rattle.lin_values.proofs.diff.frames.members.Goals as goal
 
@@ -18,4 +18,4 @@ loop-event-preserved c = λ q.
 
 pub returns : goal.returns
 returns c = λ q.
-    c.loop-event.invariant q ∙ ap (λ (es : List EventFrame). is_listed es q) (take_all c.loop-event.event-index c.args.events.now c.loop-event-test.false)
+    c.loop-event.invariant q ∙ ap (λ (es : List EventFrame). is_event_member es q) (take_all c.loop-event.event-index c.args.events.now c.loop-event-test.false)

@@ -1,7 +1,7 @@
 use Rattle.std.proofs.Common.{◌≡◌, ◌+◌, ◌<◌, ◌≤◌, ◌^◌, ℕ, List, [], ◌∷◌, ◌++◌, length, map, take, ap, arith, sym, subst, ◌∙◌}
 use denote.Ref.{Bor}
 use Rattle.std.proofs.lemmas.List.{length-take-le, take_more}
-use Rattle.lin_values.specs.Numbering.{count_of, repeats, AreCounts}
+use Rattle.lin_values.specs.Numbering.{count_of, repeats, AreTextCounts}
 use Rattle.lin_values.proofs.FactSteps.{mapped-at}
 use Rattle.lin_values.proofs.Found.{mapped-length}
 use Rattle.lin_values.proofs.TextNumbers.{repeats-more}
@@ -23,7 +23,7 @@ loop-place-preserved c =
       counts =
           let le : c.loop-place.place ≤ length texts = omega arith in
           let few : length (take c.loop-place.place texts) + 1 < 2 ^ 64 = omega (arith, length-take-le c.loop-place.place texts le) in
-          subst (λ (ts : List (List ℕ)). AreCounts ts c.count.new.self.map)
+          subst (λ (ts : List (List ℕ)). AreTextCounts ts c.count.new.self.map)
           (ap (λ t. take c.loop-place.place texts ++ t ∷ []) is ∙ sym (take_more texts c.loop-place.place _ within))
           (c.in_ok-count.ensures.more (take c.loop-place.place texts) few c.loop-place.invariant.counts);
     }

@@ -2,7 +2,7 @@ use Rattle.std.proofs.Common.{◌≡◌, ◌∙◌, ◌<◌, ℕ, Bool, true, fa
 use Rattle.std.specs.Prelude.{filter, not}
 use Rattle.lin_parts.specs.declared.description.Signal.{Signal}
 use Rattle.lin_values.specs.NewNames.{alone, has_in, is_among, keyed_name, renames_data, KeyedName, RenamesData}
-use Rattle.lin_values.specs.Renames.{all_places, signal_key, signal_names}
+use Rattle.lin_values.specs.Renames.{all_places, signal_key, all_signal_names}
 use Rattle.lin_values.specs.Things.{compared_data, ComparedData}
 use Rattle.lin_values.proofs.FactSteps.{added-more, flat-kept}
 use Rattle.lin_values.proofs.PlacesOfSignals.{kept-among}
@@ -13,7 +13,7 @@ loop-signal-preserved c =
     let r : RenamesData = renames_data c.args.renames.now in
     let d : ComparedData = compared_data c.args.facts.now.ldf in
     let others : List ℕ → Bool = has_in c.args.others.now.map in
-    let names : List (List ℕ) = filter (λ n. not (others n)) (signal_names d) in
+    let names : List (List ℕ) = filter (λ n. not (others n)) (all_signal_names d) in
     let xs : List Signal = d.description.signals in
     let i : ℕ = c.loop-signal.signal-index in
     let x : Signal = c.signal-item.result in

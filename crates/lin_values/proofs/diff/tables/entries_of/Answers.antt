@@ -1,7 +1,7 @@
 use Rattle.std.proofs.Common.{ap, ◌∙◌, sym}
 use Rattle.lin_parts.specs.declared.description.TableEntry.{TableEntry}
 use Rattle.lin_values.specs.NewNames.{renames_data}
-use Rattle.lin_values.specs.Things.{entries_from, entry_fact, entry_word}
+use Rattle.lin_values.specs.Things.{entry_facts, entry_fact, entry_word}
 use Rattle.lin_values.proofs.TableSteps.{entries-more}
 use Rattle.lin_values.proofs.diff.tables.entries_of.Goals as goal
 
@@ -9,6 +9,6 @@ pub loop-position-preserved : goal.loop-position-preserved
 loop-position-preserved c =
     let r = renames_data c.args.renames.now in
     entries-more r c.args.entries.now c.loop-position.position c.index-entries-position.result c.loop-position.line c.pass_line.new.parser c.in_ok-entry_fact.field-0 c.loop-position.found.items c.push.new.self.items
-    (entries_from r 0 c.args.lines c.args.entries.now) c.loop-position-test.true c.index-entries-position.is c.pass_line.ensures
+    (entry_facts r 0 c.args.lines c.args.entries.now) c.loop-position-test.true c.index-entries-position.is c.pass_line.ensures
     (c.in_ok-entry_fact.ensures ∙ ap (λ w. entry_fact w c.loop-position.position c.index-entries-position.result) c.in_ok-word.ensures)
     c.in_ok-push.ensures.items c.loop-position.invariant

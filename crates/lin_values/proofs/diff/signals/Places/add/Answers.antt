@@ -2,7 +2,7 @@ use Rattle.std.proofs.Common.{◌≡◌, ◌<◌, ◌≤◌, ◌∙◌, List, �
 use Rattle.std.proofs.Math.ListN.{length-set}
 use Rattle.std.proofs.lemmas.List.{get_or_default}
 use Rattle.lin_values.specs.NewNames.{is_among}
-use Rattle.lin_values.specs.SignalPlaces.{number_of, places_under, with_place}
+use Rattle.lin_values.specs.SignalPlaces.{number_among, places_under, with_place}
 use Rattle.lin_values.specs.SortedTexts.{insert_text}
 use Rattle.lin_values.proofs.PlacesOfSignals.{place-added, place-left}
 use Rattle.lin_values.proofs.diff.signals.Places.add.Goals as goal
@@ -10,9 +10,9 @@ use Rattle.lin_values.proofs.diff.signals.Places.add.Goals as goal
 pub returns-then-len-number : goal.returns-then-len-number
 returns-then-len-number c = λ names places are.
     let all = c.args.self.now.all.items in
-    let is : c.number_of-number.result ≡ number_of names c.args.signal.now = c.number_of-number.ensures names are.numbers are.size in
+    let is : c.number_of-number.result ≡ number_among names c.args.signal.now = c.number_of-number.ensures names are.numbers are.size in
     let size : length all ≡ length names = are.size in
-    let past : length names ≤ number_of names c.args.signal.now = omega arith in
+    let past : length names ≤ number_among names c.args.signal.now = omega arith in
     record {
       numbers = are.numbers;
       size = are.size;
@@ -23,7 +23,7 @@ pub returns : goal.returns
 returns c = λ names places are.
     let all : List (List (List ℕ)) = c.args.self.now.all.items in
     let n : ℕ = c.number_of-number.result in
-    let is : n ≡ number_of names c.args.signal.now = c.number_of-number.ensures names are.numbers are.size in
+    let is : n ≡ number_among names c.args.signal.now = c.number_of-number.ensures names are.numbers are.size in
     let size : length all ≡ length names = are.size in
     let within : n < length all = omega arith in
     let inserted : c.insert_sorted.new.texts ≡ insert_text (get_or all n []) c.args.place =
