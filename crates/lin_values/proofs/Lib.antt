@@ -38,7 +38,7 @@ pub mod ReadingSteps
 pub mod Repeating
 pub mod Rooms
 pub mod Runs
-pub mod Shortest
+pub mod ShortestDecimals
 pub mod ShortestAgain
 pub mod Sides
 pub mod Signs

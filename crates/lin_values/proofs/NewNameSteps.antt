@@ -7,7 +7,8 @@ use Rattle.std.specs.Str.{bytes_eq}
 use Rattle.std.proofs.lemmas.List.{map_more}
 use Rattle.std.proofs.lemmas.List.Elements.{filter-append}
 use Rattle.std.proofs.lemmas.List.Folds.{find-append}
-use Rattle.indexmap.specs.IndexMap.{index_map_len}
+use Rattle.std.specs.Map.{lookup}
+use Rattle.indexmap.specs.IndexMap.{index_map_len, IndexMap}
 use denote.Ref.{Bor}
 use Rattle.lin_cluster.proofs.NamesFound.{same-text}
 use Rattle.lin_values.specs.NewNames.{has_in, has_key, is_among, known_by, name_in, only_with, the_only, KeyedName}
@@ -30,6 +31,14 @@ any-append p (y ∷ ys) x = elim (p y) as (λ b. (b || list_any p (ys ++ x ∷ [
   | true ↦ refl
   | false ↦ any-append p ys x
 ]
+
+or-nothing : (b : Bool) → b ≡ (b || false)
+or-nothing true = refl
+or-nothing false = refl
+
+-- with the same entries there are the same names
+pub names-kept : {V S : Type 0} (m n : IndexMap (Bor (List ℕ)) V S) (q : List ℕ) → n.entries ≡ m.entries → has_in n q ≡ (has_in m q || is_among [] q)
+names-kept m n q e = ap (λ es. is_some (lookup (λ (k : Bor (List ℕ)). bytes_eq q k.now) es)) e ∙ or-nothing (has_in m q)
 
 or-assoc : (a b c : Bool) → ((a || b) || c) ≡ (a || (b || c))
 or-assoc true b c = refl

@@ -17,12 +17,29 @@ ten-more k = omega (arith, pow-add 10 k 1)
 pub ten-below : (i k : ℕ) → i ≤ k → 10 ^ i ≤ 10 ^ k
 ten-below i k h = pow-le-pow_right (omega arith) h
 
+-- some of the factors that are left
+pub factors-taken : (p left j k : ℕ) → p * 10 ^ left ≡ 10 ^ k → j ≤ left → (p * 10 ^ j) * 10 ^ (left - j) ≡ 10 ^ k
+factors-taken p left j k e l =
+    let whole : j + (left - j) ≡ left = omega arith in
+    mul_assoc p (10 ^ j) (10 ^ (left - j)) ∙ ap (λ x. p * x) (sym (pow-add 10 j (left - j)) ∙ ap (λ i. 10 ^ i) whole) ∙ e
+
+pub factors-below : (p left j k : ℕ) → p * 10 ^ left ≡ 10 ^ k → j ≤ left → k ≤ 33 → p * 10 ^ j ≤ 10 ^ 33
+factors-below p left j k e l h =
+    omega (arith, e, mul-le-mul_left p (ten-below j left l), ten-below k 33 h)
+
 -- a zero at the end dropped, and a place with it
 pub dropped-zero : (n u p : ℕ) → n * 10 ^ (24 - p) ≡ u → 0 < p → p ≤ 24 → n % 10 ≡ 0 → (n / 10) * 10 ^ (24 - (p - 1)) ≡ u
 dropped-zero n u p e h l z =
     let more : 24 - (p - 1) ≡ (24 - p) + 1 = omega arith in
     let tens : n ≡ 10 * (n / 10) = omega arith in
     rw (more, ten-more (24 - p)) (omega (arith, e, ap (λ x. x * 10 ^ (24 - p)) tens))
+
+-- eight zeros at the end dropped, and eight places with them
+pub dropped-eight : (n u p : ℕ) → n * 10 ^ (24 - p) ≡ u → 8 ≤ p → p ≤ 24 → n % 100000000 ≡ 0 → (n / 100000000) * 10 ^ (24 - (p - 8)) ≡ u
+dropped-eight n u p e h l z =
+    let more : 24 - (p - 8) ≡ (24 - p) + 8 = omega arith in
+    let tens : n ≡ 100000000 * (n / 100000000) = omega arith in
+    rw (more, pow-add 10 (24 - p) 8) (omega (arith, e, ap (λ x. x * 10 ^ (24 - p)) tens))
 
 -- fewer than 10 ^ 9 wholes are fewer than 10 ^ 33 units
 mul-lt-mul_right-of : {c a b : ℕ} → 0 < c → a < b → a * c < b * c

@@ -7,7 +7,7 @@ use Rattle.std.proofs.lemmas.Int.{ints}
 use Rattle.lin_values.specs.Value.{decimal_of, shortest_at, with_sign, scaled_value, without_zeros, IsReadable, IsShortest}
 use Rattle.lin_values.specs.declared.decimals.Decimal.{Decimal}
 use Rattle.lin_values.proofs.Powers.{ten-more}
-use Rattle.lin_values.proofs.Shortest.{last-kept, none-left}
+use Rattle.lin_values.proofs.ShortestDecimals.{last-kept, none-left}
 
 more : (d k : ℕ) → d * 10 ^ suc k ≡ (d * 10 ^ k) * 10
 more d k = let e : suc k ≡ k + 1 = omega arith in omega (arith, ap (λ x. d * x) (ap (λ i. 10 ^ i) e ∙ ten-more k))

@@ -488,4 +488,5 @@ compared_data ldf = record {
 pub record IsReadOf (f : LdfFacts) : Type 0 where
   pub lines : f.lines.items ≡ lines_of_header (compared_data f.ldf).tokens
   pub blocks : f.blocks ≡ node_attributes (compared_data f.ldf).tokens
+  pub types : map (λ t. t.now) f.types.items ≡ first_types [] f.ldf.codings.now.types
   pub codings : AreNamed f.ldf.codings.now.types (named_in f.ldf.codings.now.lines) f.codings.map

@@ -1,11 +1,11 @@
 //! Exact decimals, and the physical values of raw values (LIN 2.2A, section 9.2.6.1).
 
-ghost use Rattle.std.specs.Prelude.{◌≡◌, ◌+◌, ◌-◌, ◌*◌, ◌^◌, ◌<◌, ◌≤◌, true};
+ghost use Rattle.std.specs.Prelude.{◌≡◌, ◌+◌, ◌-◌, ◌*◌, ◌^◌, ◌<◌, ◌≤◌, nat_lt, true};
 ghost use lib.IntN.{◌+ℤ◌, ◌*ℤ◌, pos};
 ghost use Rattle.lin_text.specs.Written.{Grows};
 ghost use Rattle.lin_values.specs.Shown.{fraction, last_digits, decimal_shown};
 ghost use Rattle.lin_values.specs.Value.{with_sign, shortest_at, scaled_value, IsInLimits, IsReadable};
-ghost use Rattle.lin_values.specs.Value.{is_small, IsShortest};
+ghost use Rattle.lin_values.specs.Value.{is_small, without_zeros, IsShortest};
 
 use lin_text::TextWriter;
 use std::io::Write;
@@ -23,8 +23,15 @@ pub(crate) fn ten_to(k: u8) -> u128
     ensures { result ≡ 10 ^ k }
 {
     let mut power = 1u128;
-    for _i in 0..k {
-        power *= 10;
+    let mut left = k;
+    while left > 0 {
+        if left < 8 {
+            power *= 10;
+            left -= 1;
+        } else {
+            power *= 100_000_000;
+            left -= 8;
+        }
     }
     power
 }
@@ -55,6 +62,23 @@ fn sum(minus_a: bool, a: u128, minus_b: bool, b: u128) -> (bool, u128)
     }
 }
 
+/// So many digits and places without zeros at the end, eight at a time, up to those that are fewer.
+fn without_eights(digits: u128, places: u8) -> (u128, u8)
+    requires { places ≤ 24 }
+    ensures same { result.0 * 10 ^ (24 - result.1) ≡ digits * 10 ^ (24 - places) }
+    ensures few { result.1 ≤ places }
+    ensures exact { without_zeros result.0 result.1 ≡ without_zeros digits places }
+    ensures some { nat_lt 0 result.0 ≡ nat_lt 0 digits }
+{
+    let mut rest = digits;
+    let mut left = places;
+    while left >= 8 && rest % 100_000_000 == 0 {
+        rest /= 100_000_000;
+        left -= 8;
+    }
+    (rest, left)
+}
+
 /// The same value without zeros at the end.
 pub(crate) fn shortest(negative: bool, digits: u128, places: u8) -> Decimal
     requires { places ≤ 24 }
@@ -64,8 +88,7 @@ pub(crate) fn shortest(negative: bool, digits: u128, places: u8) -> Decimal
     ensures places { result.places ≤ places }
     ensures form { IsShortest result }
 {
-    let mut rest = digits;
-    let mut left = places;
+    let (mut rest, mut left) = without_eights(digits, places);
     while left > 0 && rest % 10 == 0 {
         rest /= 10;
         left -= 1;

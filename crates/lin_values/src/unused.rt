@@ -58,20 +58,21 @@ fn add_line<'n>(
     Ok(())
 }
 
-/// The numbers of the encodings that lines give to names.
+/// The numbers of the encodings that lines give to names. `numbers` are those of the types.
 pub(crate) fn named_signals<'n>(
     alloc: Global,
     types: &[CodingType],
+    numbers: &Numbers<'_>,
     lines: &'n [CodedLine],
 ) -> Result<NamedSignals<'n>, AllocError>
+    requires { NumbersFirst (λ t. t.name) types.now numbers.now.map }
     ensures { IfOk result (λ n. AreNamed types.now (named_in lines.now) n.map) }
 {
-    let numbers = numbers_of(alloc, types)?;
     let mut named = NamedSignals {
         map: IndexMap::with_capacity(alloc, 0)?,
     };
     for line in lines {
-        let encoding = encoding_named(&numbers, types, &line.encoding);
+        let encoding = encoding_named(numbers, types, &line.encoding);
         add_line(&mut named, encoding, line)?;
     }
     Ok(named)
@@ -103,7 +104,8 @@ fn unordered(
     ensures { IfOk result (λ found. found.items ≡ unused_encodings description.now codings.now) }
 {
     let types = codings.types.as_slice();
-    let named = named_signals(alloc, types, codings.lines.as_slice())?;
+    let numbers = numbers_of(alloc, types)?;
+    let named = named_signals(alloc, types, &numbers, codings.lines.as_slice())?;
     let used = used_numbers(alloc, description.signals(), &named)?;
     let mut found = Vec::new(alloc);
     for number in 0..types.len() {

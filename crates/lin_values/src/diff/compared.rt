@@ -8,10 +8,12 @@ ghost use Rattle.lin_values.specs.Things.{IsReadOf};
 
 use crate::attribute_blocks::{Attribute, NodeAttributes, read_attributes};
 use crate::coded::NamedSignals;
-use crate::codings::Codings;
+use crate::codings::{CodingType, Codings};
+use crate::diff::encodings::first_types;
 use crate::diff::tokens::header_lines;
 use crate::mentioned::mentions;
 use crate::unused::named_signals;
+use lin_cluster::numbers_of;
 use lin_parts::Cluster;
 use lin_parts::description::Description;
 use lin_text::Many;
@@ -50,6 +52,8 @@ pub(crate) struct LdfFacts<'a> {
     pub(crate) lines: Vec<Attribute<'a>>,
     /// The attributes of nodes.
     pub(crate) blocks: Many<NodeAttributes<'a>>,
+    /// The first encoding of each name.
+    pub(crate) types: Vec<&'a CodingType>,
     /// The encodings of signals.
     pub(crate) codings: NamedSignals<'a>,
 }
@@ -76,11 +80,13 @@ impl<'a> LdfFacts<'a> {
         ensures same { IfOk result (λ f. f.ldf ≡ ldf.entry) }
     {
         let types = ldf.codings.types.as_slice();
+        let numbers = numbers_of(alloc, types)?;
         Ok(LdfFacts {
             ldf,
             lines: header_lines(alloc, ldf.source)?,
             blocks: attribute_blocks(alloc, ldf.source)?,
-            codings: named_signals(alloc, types, ldf.codings.lines.as_slice())?,
+            types: first_types(alloc, types, &numbers)?,
+            codings: named_signals(alloc, types, &numbers, ldf.codings.lines.as_slice())?,
         })
     }
 }

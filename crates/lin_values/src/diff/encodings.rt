@@ -7,7 +7,7 @@ ghost use Rattle.lin_values.specs.NewNames.{alone, has_in, keyed_name, renames_d
 ghost use Rattle.lin_values.specs.Renames.{encoding_key, encoding_keys, with_item};
 ghost use Rattle.lin_values.specs.Shown.{decimal_shown};
 ghost use Rattle.lin_values.specs.Things.{compared_data, encoding_items, encoding_thing, first_type, first_types};
-ghost use Rattle.lin_values.specs.Things.{item_fact, item_key, item_value, physical_value, quoted_words};
+ghost use Rattle.lin_values.specs.Things.{item_fact, item_key, item_value, physical_value, quoted_words, IsReadOf};
 ghost use Rattle.lin_values.specs.NewNames.{AddsKeys, AreKeys};
 
 use crate::codings::{CodingType, Item};
@@ -20,10 +20,26 @@ use crate::diff::new_names::{Keyed, KnownNames};
 use crate::diff::nodes::place_of;
 use crate::diff::numbering::numbered;
 use crate::diff::renames::Renames;
-use lin_cluster::{Numbers, number_by, numbers_of};
+use lin_cluster::{Numbers, number_by};
 use lin_parts::Location;
 use lin_text::{TextBuffer, TextWriter};
 use std::alloc::{AllocError, Global};
+
+/// Memory in which one text after another is made.
+#[derive(Drop)]
+struct Scratch {
+    text: Vec<u8>,
+    buffer: TextBuffer,
+}
+
+impl Scratch {
+    fn new(alloc: Global) -> Scratch {
+        Scratch {
+            text: Vec::new(alloc),
+            buffer: TextBuffer::empty(),
+        }
+    }
+}
 
 /// Puts a text in quotes, if there is one.
 #[tactic(auto, using(crate::proofs::FactSteps::word_goes_on))]
@@ -56,20 +72,22 @@ fn put_coefficient(
 }
 
 /// Returns the key of an item.
-fn key_text<'a>(alloc: Global, item: &Item) -> Result<FactText<'a>, AllocError>
+fn key_text<'a>(alloc: Global, text: &mut Vec<u8>, item: &Item) -> Result<FactText<'a>, AllocError>
     ensures { IfOk result (λ t. t ≡ item_key item.now) }
 {
     match item {
         Item::Logical { value, .. } => {
-            let mut text = Vec::from_slice(alloc, b"logical ")?;
-            put_number(&mut text, u64::from(*value))?;
+            text.clear();
+            text.extend_from_slice(b"logical ")?;
+            put_number(text, u64::from(*value))?;
             FactText::copied(alloc, text.as_slice())
         }
         Item::Physical { min, max, .. } => {
-            let mut text = Vec::from_slice(alloc, b"physical ")?;
-            put_number(&mut text, u64::from(*min))?;
+            text.clear();
+            text.extend_from_slice(b"physical ")?;
+            put_number(text, u64::from(*min))?;
             text.extend_from_slice(b"..")?;
-            put_number(&mut text, u64::from(*max))?;
+            put_number(text, u64::from(*max))?;
             FactText::copied(alloc, text.as_slice())
         }
         Item::Bcd => Ok(FactText::lent(b"bcd")),
@@ -81,25 +99,26 @@ fn key_text<'a>(alloc: Global, item: &Item) -> Result<FactText<'a>, AllocError>
 #[tactic(auto, using(crate::proofs::FactSteps::word_goes_on))]
 fn physical_text<'a>(
     alloc: Global,
-    buffer: &mut TextBuffer,
+    scratch: &mut Scratch,
     scale: Coefficient,
     offset: Coefficient,
     unit: &[u8],
 ) -> Result<FactText<'a>, AllocError>
     ensures { IfOk result (λ t. t ≡ physical_value scale offset unit.now) }
 {
-    let mut text = Vec::new(alloc);
-    put_coefficient(&mut text, buffer, scale)?;
-    put_word(&mut text, &[])?;
-    put_coefficient(&mut text, buffer, offset)?;
-    put_quoted(&mut text, unit)?;
+    let Scratch { text, buffer } = scratch;
+    text.clear();
+    put_coefficient(text, buffer, scale)?;
+    put_word(text, &[])?;
+    put_coefficient(text, buffer, offset)?;
+    put_quoted(text, unit)?;
     FactText::copied(alloc, text.as_slice())
 }
 
 /// Returns the value of an item.
 fn item_text<'a>(
     alloc: Global,
-    buffer: &mut TextBuffer,
+    scratch: &mut Scratch,
     item: &Item,
 ) -> Result<FactText<'a>, AllocError>
     ensures { IfOk result (λ t. t ≡ item_value item.now) }
@@ -107,16 +126,16 @@ fn item_text<'a>(
     match item {
         Item::Logical { text, .. } if text.as_slice().is_empty() => Ok(FactText::lent(b"-")),
         Item::Logical { text, .. } => {
-            let mut value = Vec::new(alloc);
-            put_quoted(&mut value, text.as_slice())?;
-            FactText::copied(alloc, value.as_slice())
+            scratch.text.clear();
+            put_quoted(&mut scratch.text, text.as_slice())?;
+            FactText::copied(alloc, scratch.text.as_slice())
         }
         Item::Physical {
             scale,
             offset,
             unit,
             ..
-        } => physical_text(alloc, buffer, *scale, *offset, unit.as_slice()),
+        } => physical_text(alloc, scratch, *scale, *offset, unit.as_slice()),
         Item::Bcd | Item::Ascii => Ok(FactText::lent(b"yes")),
     }
 }
@@ -124,29 +143,30 @@ fn item_text<'a>(
 /// Returns the fact of an item. `place` is that of the type's name.
 fn item_fact<'a>(
     alloc: Global,
-    buffer: &mut TextBuffer,
+    scratch: &mut Scratch,
     item: &Item,
     place: Location,
 ) -> Result<Fact<'a>, AllocError>
     ensures { IfOk result (λ f. f ≡ item_fact place item.now) }
 {
-    let key = key_text(alloc, item)?;
-    let value = item_text(alloc, buffer, item)?;
+    let key = key_text(alloc, &mut scratch.text, item)?;
+    let value = item_text(alloc, scratch, item)?;
     Ok(Fact::new(key, value, place, Class::Meaning))
 }
 
 /// Returns the facts of a type: its items, all at its name.
 fn facts_of<'a>(
     alloc: Global,
-    buffer: &mut TextBuffer,
+    scratch: &mut Scratch,
     coding: &'a CodingType,
 ) -> Result<Vec<Fact<'a>>, AllocError>
     ensures { IfOk result (λ v. v.items ≡ encoding_items coding.now) }
 {
     let place = place_of(&coding.name);
-    let mut found = Vec::new(alloc);
-    for one in coding.items.as_slice() {
-        found.push(item_fact(alloc, buffer, &one.item, place)?)?;
+    let items = coding.items.as_slice();
+    let mut found = Vec::with_capacity(alloc, items.len())?;
+    for one in items {
+        found.push(item_fact(alloc, scratch, &one.item, place)?)?;
     }
     numbered(alloc, found)
 }
@@ -154,13 +174,13 @@ fn facts_of<'a>(
 /// Returns a type.
 fn thing<'a>(
     alloc: Global,
-    buffer: &mut TextBuffer,
+    scratch: &mut Scratch,
     coding: &'a CodingType,
     renames: &Renames<'a>,
 ) -> Result<Thing<'a>, AllocError>
     ensures { IfOk result (λ t. t ≡ encoding_thing (renames_data renames.now) coding.now) }
 {
-    let found = facts_of(alloc, buffer, coding)?;
+    let found = facts_of(alloc, scratch, coding)?;
     let name = coding.name.text.as_slice();
     let names = (name, renames.encodings.of(name));
     Ok(Thing::new(
@@ -193,17 +213,18 @@ fn add_first<'a>(
     Ok(())
 }
 
-/// Returns the first type of each name.
-fn first_types<'a>(
+/// Returns the first type of each name. `numbers` are those of the types.
+pub(crate) fn first_types<'a>(
     alloc: Global,
     types: &'a [CodingType],
+    numbers: &Numbers<'_>,
 ) -> Result<Vec<&'a CodingType>, AllocError>
+    requires { NumbersFirst (λ t. t.name) types.now numbers.now.map }
     ensures { IfOk result (λ v. map (λ t. t.now) v.items ≡ first_types [] types.now) }
 {
-    let numbers = numbers_of(alloc, types)?;
-    let mut firsts = Vec::new(alloc);
+    let mut firsts = Vec::with_capacity(alloc, types.len())?;
     for number in 0..types.len() {
-        add_first(&mut firsts, types, &numbers, number, &types[number])?;
+        add_first(&mut firsts, types, numbers, number, &types[number])?;
     }
     Ok(firsts)
 }
@@ -214,14 +235,15 @@ pub(crate) fn things<'a>(
     facts: &LdfFacts<'a>,
     renames: &Renames<'a>,
 ) -> Result<Vec<Thing<'a>>, AllocError>
+    requires { IsReadOf facts.now }
     ensures { IfOk result (λ v. v.items ≡ map (encoding_thing (renames_data renames.now))
         (first_types [] facts.now.ldf.codings.now.types)) }
 {
-    let types = first_types(alloc, facts.ldf.codings.types.as_slice())?;
-    let mut buffer = TextBuffer::empty();
-    let mut things = Vec::new(alloc);
-    for coding in types.as_slice() {
-        things.push(thing(alloc, &mut buffer, *coding, renames)?)?;
+    let types = facts.types.as_slice();
+    let mut scratch = Scratch::new(alloc);
+    let mut things = Vec::with_capacity(alloc, types.len())?;
+    for coding in types {
+        things.push(thing(alloc, &mut scratch, *coding, renames)?)?;
     }
     Ok(things)
 }
@@ -254,7 +276,7 @@ fn items_text<'a>(alloc: Global, facts: &[Fact<'_>]) -> Result<FactText<'a>, All
 fn add_key<'a>(
     alloc: Global,
     keys: &mut Vec<Keyed<'a>>,
-    buffer: &mut TextBuffer,
+    scratch: &mut Scratch,
     coding: &'a CodingType,
     others: &KnownNames<'_>,
 ) -> Result<(), AllocError>
@@ -264,7 +286,7 @@ fn add_key<'a>(
     if others.has(name) {
         return Ok(());
     }
-    let found = facts_of(alloc, buffer, coding)?;
+    let found = facts_of(alloc, scratch, coding)?;
     let key = items_text(alloc, found.as_slice())?;
     keys.push(Keyed { name, key })?;
     Ok(())
@@ -276,13 +298,13 @@ pub(crate) fn keys<'a>(
     facts: &LdfFacts<'a>,
     others: &KnownNames<'_>,
 ) -> Result<Vec<Keyed<'a>>, AllocError>
+    requires { IsReadOf facts.now }
     ensures { IfOk result (λ v. AreKeys others.now v.items (encoding_keys (compared_data facts.now.ldf))) }
 {
-    let types = first_types(alloc, facts.ldf.codings.types.as_slice())?;
-    let mut buffer = TextBuffer::empty();
+    let mut scratch = Scratch::new(alloc);
     let mut keys = Vec::new(alloc);
-    for coding in types.as_slice() {
-        add_key(alloc, &mut keys, &mut buffer, *coding, others)?;
+    for coding in facts.types.as_slice() {
+        add_key(alloc, &mut keys, &mut scratch, *coding, others)?;
     }
     Ok(keys)
 }

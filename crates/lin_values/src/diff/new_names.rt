@@ -64,6 +64,7 @@ impl<'a> KnownNames<'a> {
         ensures { OnOk result ((q : List ℕ) → has_in self.new.map q
             ≡ (has_in self.old.map q || is_among (map (λ x. (T.name_of x).text) all.now) q)) }
     {
+        self.map.reserve(all.len())?;
         for one in all {
             self.add(one.name().text.as_slice())?;
         }

@@ -8,7 +8,7 @@ ghost use Rattle.lin_values.specs.NewNames.{renames_data};
 ghost use Rattle.lin_values.specs.Renames.{RenamesBy};
 ghost use Rattle.lin_values.specs.Renames.{all_renames, with_encoding_names, with_event_names, with_frame_names};
 ghost use Rattle.lin_values.specs.Renames.{with_node_names, with_signal_names, with_sporadic_names, with_table_names};
-ghost use Rattle.lin_values.specs.Things.{compared_data};
+ghost use Rattle.lin_values.specs.Things.{compared_data, IsReadOf};
 ghost use Rattle.lin_values.specs.NewNames.{AddsNames};
 
 use crate::diff::compared::LdfFacts;
@@ -151,6 +151,8 @@ impl<'a> Renames<'a> {
     }
 
     fn add_encodings(&mut self, alloc: Global, ldfs: Ldfs<'_, 'a>) -> Result<(), AllocError>
+        requires old { IsReadOf ldfs.old.now }
+        requires new { IsReadOf ldfs.new.now }
         ensures { OnOk result (RenamesBy with_encoding_names ldfs.entry self.old self.new) }
     {
         let all = ldfs.old.ldf.codings.types.as_slice();
@@ -167,6 +169,8 @@ impl<'a> Renames<'a> {
         old: &LdfFacts<'a>,
         new: &LdfFacts<'a>,
     ) -> Result<Renames<'a>, AllocError>
+        requires old { IsReadOf old.now }
+        requires new { IsReadOf new.now }
         ensures { IfOk result (λ r. renames_data r
             ≡ all_renames (compared_data old.now.ldf) (compared_data new.now.ldf)) }
     {

@@ -1,6 +1,6 @@
 use Rattle.std.proofs.Common.{◌∙◌, ◌^◌, ◌*◌, ◌-◌, ap, sym, nat_lt}
 use Rattle.lin_values.proofs.Powers.{limit-in-units}
-use Rattle.lin_values.proofs.Shortest.{size-of}
+use Rattle.lin_values.proofs.ShortestDecimals.{size-of}
 use Rattle.lin_values.proofs.decimals.is_small.Goals as goal
 
 pub returns-clause-same : goal.returns-clause-same

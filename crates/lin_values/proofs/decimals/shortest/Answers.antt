@@ -1,7 +1,7 @@
 use Rattle.std.proofs.Common.{arith, true, false, ◌≡◌, ◌*◌, ◌^◌, ◌-◌, ◌∙◌}
 use Rattle.lin_values.specs.Value.{without_zeros}
 use Rattle.lin_values.proofs.Powers.{dropped-zero}
-use Rattle.lin_values.proofs.Shortest.{zero-dropped, tenth-positive, none-left, last-kept, shortest-is}
+use Rattle.lin_values.proofs.ShortestDecimals.{zero-dropped, tenth-positive, none-left, last-kept, shortest-is}
 use Rattle.lin_values.proofs.decimals.shortest.Goals as goal
 use Rattle.lin_values.proofs.decimals.shortest.Goals.{then-loop-left-test+else-rest-eq0, else-loop-left-test}
 

@@ -1,9 +1,8 @@
-use Rattle.std.proofs.Common.{◌≡◌, ◌∙◌, [], List, map, ap}
+use Rattle.std.proofs.Common.{◌≡◌, ◌∙◌, List, map, ap}
 use Rattle.std.proofs.lemmas.List.{take_all}
 use denote.Ref.{Bor}
 use Rattle.lin_values.specs.NewNames.{alone, has_in, KeyedName}
 use Rattle.lin_values.specs.Renames.{encoding_key}
-use Rattle.lin_values.specs.Things.{first_types}
 use Rattle.lin_values.specs.declared.codings.CodingType.{CodingType}
 use Rattle.lin_values.proofs.FactSteps.{mapped-lent}
 use Rattle.lin_values.proofs.diff.encodings.keys.Goals as goal
@@ -14,4 +13,4 @@ returns c =
     c.loop-coding.invariant
     ∙ ap (alone (has_in c.args.others.now.map)) (ap (λ (ts : List (Bor CodingType)). map (λ t. of t.now) ts) (take_all c.loop-coding.coding-index c.as_slice-coding-items.result.now c.loop-coding-test.false)
     ∙ mapped-lent of c.as_slice-coding-items.result.now
-    ∙ ap (λ (ts : List (Bor CodingType)). map of (map (λ t. t.now) ts)) c.as_slice-coding-items.ensures.value ∙ ap (map of) (c.in_ok-types.ensures ∙ ap (first_types []) c.as_slice.ensures))
+    ∙ ap (λ (ts : List (Bor CodingType)). map of (map (λ t. t.now) ts)) c.as_slice-coding-items.ensures.value ∙ ap (map of) c.requires.types)

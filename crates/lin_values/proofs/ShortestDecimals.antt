@@ -48,6 +48,17 @@ zeros-dropped (suc j) n p =
     let f : n * 10 ^ suc j / 10 ≡ n * 10 ^ j = omega (arith, ten-times n j) in
     zero-dropped (n * 10 ^ suc j) (p + suc j) (omega arith) (omega (arith, ten-times n j)) ∙ rw (e, f) (zeros-dropped j n p)
 
+-- eight zeros dropped
+pub eight-dropped : (n p : ℕ) → 8 ≤ p → n % 100000000 ≡ 0 → without_zeros (n / 100000000) (p - 8) ≡ without_zeros n p
+eight-dropped n p h e =
+    let q = n / 100000000 in
+    let tens : q * 10 ^ 8 ≡ n = omega arith in
+    let places : (p - 8) + 8 ≡ p = omega arith in
+    sym (zeros-dropped 8 q (p - 8)) ∙ ap (λ x. without_zeros x ((p - 8) + 8)) tens ∙ ap (λ k. without_zeros n k) places
+
+pub eighth-positive : (n : ℕ) → n % 100000000 ≡ 0 → nat_lt 0 (n / 100000000) ≡ nat_lt 0 n
+eighth-positive n e = grind (arith, common_steps)
+
 short-already : (n p : ℕ) → (0 < p → 0 < n % 10) → without_zeros n p ≡ (n, p)
 short-already n zero h = refl
 short-already n (suc k) h = last-kept n (suc k) (h (omega arith))
