@@ -21,4 +21,3 @@ pub mod LastSlots
 pub mod ListedLines
 pub mod Maps
 pub mod NumberedLines
-pub mod DifferenceLines

@@ -30,7 +30,7 @@ pub mod Marks
 pub mod ListedMaps
 pub mod ListedSlots
 pub mod ListedTiming
-pub mod ListedDifferences
+pub mod TableLoads
 pub mod ListedSignals
 pub mod ClusterObject
 pub mod CheckObject

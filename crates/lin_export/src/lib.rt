@@ -59,9 +59,8 @@ pub use jsonl::{Counts, ObjectTrack, Opening, Unmet, objects_text, put_run, writ
 pub use last_slot::{LastSlot, put_last_slot, put_last_slot_value};
 pub use law::{captures_what_was_seen, dumps_last_values, maps_tell_places};
 pub use listing::{
-    Classes, FrameTiming, Latency, TableTiming, is_any_listed, table_loads, table_timings,
-    write_differences, write_frames, write_list, write_maps, write_signals, write_slots,
-    write_timing,
+    FrameTiming, Latency, TableTiming, table_loads, table_timings, write_frames, write_list,
+    write_maps, write_signals, write_slots, write_timing,
 };
 pub use named::{named_text, put_slot_names, write_named};
 pub use object::nodes::nad_member;

@@ -12,16 +12,16 @@ use lin_parts::Cluster;
 use lin_text::{TextBuffer, TextWriter, WriteFailed};
 use std::io::Write;
 
-mod differences;
 pub(crate) mod frames;
+mod loads;
 mod maps;
 mod signals;
 pub(crate) mod slot_times;
 mod timing;
 mod timings;
 
-pub use differences::{Classes, is_any_listed, table_loads, write_differences};
 pub use frames::write_frames;
+pub use loads::table_loads;
 pub use maps::write_maps;
 pub use signals::write_signals;
 pub use slot_times::write_slots;

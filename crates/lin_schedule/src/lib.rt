@@ -20,6 +20,7 @@ mod law;
 mod occurs;
 mod once;
 mod spacing;
+mod table_load;
 mod waits;
 mod walker;
 
@@ -30,5 +31,6 @@ pub use law::{entries_in_turn, excursions_run_once};
 pub use occurs::{own_entries, shared_entries};
 pub use once::once_wait;
 pub use spacing::{Extremes, gaps};
+pub use table_load::TableLoad;
 pub use waits::worst_wait;
 pub use walker::Walker;

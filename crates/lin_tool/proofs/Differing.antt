@@ -8,16 +8,16 @@ use Rattle.lin_cluster.specs.Findings.{AreFindings, IsFree}
 use Rattle.lin_cluster.specs.declared.finding.Finding.{Finding}
 use Rattle.lin_cluster.proofs.CheckedDescriptions.{free-from-none, some-found}
 use Rattle.lin_cluster.proofs.FindingsOrder.{one_answer}
-use Rattle.lin_export.specs.ListedDifferences.{lists_class}
-use Rattle.lin_export.specs.declared.listing.differences.Classes.{Classes}
+use Rattle.lin_sections.specs.ListedDifferences.{lists_class}
+use Rattle.lin_sections.specs.declared.diff.lines.Classes.{Classes}
 use Rattle.lin_field.specs.declared.normalizing.Normalized.{Normalized}
-use Rattle.lin_values.specs.Differences.{all_differences, difference_data, differences_data, DifferenceData}
-use Rattle.lin_values.specs.NewNames.{no_renames}
-use Rattle.lin_values.specs.Renames.{all_renames}
-use Rattle.lin_values.specs.Things.{all_things, ComparedData}
-use Rattle.lin_values.specs.declared.diff.fact.Thing.{Thing}
-use Rattle.lin_values.specs.declared.diff.difference.Difference.{Difference}
-use Rattle.lin_values.proofs.FactSteps.{any-of-map}
+use Rattle.lin_sections.specs.Differences.{all_differences, difference_data, differences_data, DifferenceData}
+use Rattle.lin_sections.specs.NewNames.{no_renames}
+use Rattle.lin_sections.specs.Renames.{all_renames}
+use Rattle.lin_sections.specs.Things.{all_things, ComparedData}
+use Rattle.lin_sections.specs.declared.diff.fact.Thing.{Thing}
+use Rattle.lin_sections.specs.declared.diff.difference.Difference.{Difference}
+use Rattle.lin_sections.proofs.FactSteps.{any-of-map}
 use Rattle.lin_tool.specs.Clusters.{AreTextFindings}
 use Rattle.lin_tool.specs.Diffing.{differences_of, is_any_listed, FieldFaults, WritesCompared}
 use Rattle.lin_tool.specs.Field.{CheckFaults, IsNormalized}

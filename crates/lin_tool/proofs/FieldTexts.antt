@@ -33,8 +33,8 @@ use Rattle.lin_parts.specs.declared.parts.Line.{Line}
 use Rattle.lin_parts.specs.declared.parts.Parts.{Parts}
 use Rattle.lin_parts.specs.declared.parts.Table.{Table}
 use Rattle.lin_parts.proofs.Configuring.{changed-all}
-use Rattle.lin_values.specs.Configuring.{configured_by, identities_by, identities_in, requests_in, section_requests, warnings_by}
-use Rattle.lin_values.specs.Statements.{statements}
+use Rattle.lin_sections.specs.Configuring.{configured_by, identities_by, identities_in, requests_in, section_requests, warnings_by}
+use Rattle.lin_sections.specs.Statements.{statements}
 use Rattle.lin_tool.specs.Coding.{coded_read, configured_read, configuring_told, with_lints, sections_read, AreWarnings}
 use Rattle.lin_tool.specs.Field.{AnswersChecked, AnswersField, AnswersNormalized, CheckFaults, FieldSays, IsChecked, IsReadOver, IsNormalized, IsWrittenPlain, ReadFaults, WritesPlain}
 use Rattle.lin_tool.specs.Reading.{AnswersReading}

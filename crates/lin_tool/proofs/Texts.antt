@@ -5,8 +5,8 @@ use Rattle.lin_ldf.specs.Stream.{start_of}
 use Rattle.lin_ldf.specs.Symbols.{symbols_in}
 use Rattle.lin_ldf.specs.Tokens.{AreTokens, IsLexFault}
 use Rattle.lin_ldf.specs.declared.token.Token.{Token}
-use Rattle.lin_values.specs.Configuring.{configured_by, warnings_by}
-use Rattle.lin_values.proofs.ReadingSteps.{tokens-are}
+use Rattle.lin_sections.specs.Configuring.{configured_by, warnings_by}
+use Rattle.lin_sections.proofs.ReadingSteps.{tokens-are}
 use Rattle.lin_ldf.specs.Describes.{Describes}
 use Rattle.lin_ldf.specs.declared.fault.LdfFault.{LdfFault}
 use Rattle.lin_ldf.specs.declared.fault.LdfFault.TheVariants as ldf

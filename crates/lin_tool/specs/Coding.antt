@@ -22,14 +22,14 @@ use Rattle.lin_tool.specs.declared.coding.Encodings.TheVariants.{Unread, Read, T
 use Rattle.lin_tool.specs.declared.coding.Extras.{Extras}
 use Rattle.lin_tool.specs.declared.coding.ExtraSections.{ExtraSections}
 use Rattle.lin_tool.specs.declared.fault.Fault.{Fault}
-use Rattle.lin_values.specs.AttributeLints.{attribute_lints}
-use Rattle.lin_values.specs.AttributeValues.{header_version}
-use Rattle.lin_values.specs.Attributes.{node_attributes}
+use Rattle.lin_sections.specs.AttributeLints.{attribute_lints}
+use Rattle.lin_sections.specs.AttributeValues.{header_version}
+use Rattle.lin_sections.specs.Attributes.{node_attributes}
 use Rattle.lin_values.specs.Coded.{coded_signals, CodedData}
-use Rattle.lin_values.specs.Configured.{configurables}
-use Rattle.lin_values.specs.Configuring.{configured_by, warnings_by}
-use Rattle.lin_values.specs.Reading.{codings}
-use Rattle.lin_values.specs.Unknown.{unknown_words}
+use Rattle.lin_sections.specs.Configured.{configurables}
+use Rattle.lin_sections.specs.Configuring.{configured_by, warnings_by}
+use Rattle.lin_sections.specs.Reading.{codings}
+use Rattle.lin_sections.specs.Unknown.{unknown_words}
 use Rattle.lin_values.specs.Unused.{unused_encodings}
 use Rattle.lin_values.specs.Warnings.{encoding_warnings}
 use Rattle.lin_values.specs.declared.codings.Codings.{Codings}

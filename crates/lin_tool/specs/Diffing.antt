@@ -3,8 +3,9 @@ use Rattle.std.specs.Prelude.{◌≡◌, ℕ, Bool, true, false, List, Option, R
 use Rattle.std.specs.Io.KnownBytes.{Appends, Keeps}
 use Rattle.std.specs.List.{list_any}
 use Rattle.lin_cluster.specs.Described.{parts_of}
-use Rattle.lin_export.specs.ListedDifferences.{difference_lines, lists_class, table_loads}
-use Rattle.lin_export.specs.declared.listing.differences.Classes.{Classes}
+use Rattle.lin_export.specs.TableLoads.{table_loads}
+use Rattle.lin_sections.specs.ListedDifferences.{difference_lines, lists_class}
+use Rattle.lin_sections.specs.declared.diff.lines.Classes.{Classes}
 use Rattle.lin_field.specs.Checks.{IsFieldFree, IsRefusalOf}
 use Rattle.lin_field.specs.declared.field_check.FieldFault.TheVariants as check
 use Rattle.lin_field.specs.declared.normalizing.Normalized.{Normalized}
@@ -13,11 +14,11 @@ use Rattle.lin_ldf.specs.Stream.{start_of}
 use Rattle.lin_ldf.specs.Symbols.{symbols_in}
 use Rattle.lin_parts.specs.declared.description.Description.{Description}
 use Rattle.lin_parts.specs.declared.parts.Parts.{Parts}
-use Rattle.lin_values.specs.Differences.{all_differences, DifferenceData}
-use Rattle.lin_values.specs.NewNames.{no_renames}
-use Rattle.lin_values.specs.Reading.{codings}
-use Rattle.lin_values.specs.Renames.{all_renames}
-use Rattle.lin_values.specs.Things.{all_things, ComparedData}
+use Rattle.lin_sections.specs.Differences.{all_differences, DifferenceData}
+use Rattle.lin_sections.specs.NewNames.{no_renames}
+use Rattle.lin_sections.specs.Reading.{codings}
+use Rattle.lin_sections.specs.Renames.{all_renames}
+use Rattle.lin_sections.specs.Things.{all_things, ComparedData}
 use Rattle.lin_tool.specs.Clusters.{IsSaidBy, TextFaults}
 use Rattle.lin_tool.specs.Field.{IsFieldFault, IsNormalized, IsReadOver}
 use Rattle.lin_tool.specs.Formats.{Begins}

@@ -18,11 +18,12 @@ use lin_cluster::{Configurable, Finding, lint};
 use lin_field::{Checked, Remark};
 use lin_parts::Cluster;
 use lin_parts::description::{Description, Name};
-use lin_text::Many;
-use lin_values::{
-    Coded, Codings, coded_by, configure, header_version, lint_attributes, read_attributes,
-    read_codings, read_configurables, unknown_words, unused_encodings,
+use lin_sections::{
+    configure, header_version, lint_attributes, read_attributes, read_codings, read_configurables,
+    unknown_words,
 };
+use lin_text::Many;
+use lin_values::{Coded, Codings, coded_by, unused_encodings};
 use std::alloc::{AllocError, Global};
 
 /// How the sections of encodings are read.

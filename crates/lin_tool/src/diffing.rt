@@ -6,8 +6,8 @@ ghost use Rattle.lin_tool.specs.Clusters.{AnswersText, IsSaidBy};
 ghost use Rattle.lin_tool.specs.Diffing.{differences_of, read_data, ReadsCluster, ReadsField};
 ghost use Rattle.lin_tool.specs.Diffing.{ReadsLdf, ReadsStandard, WritesCompared};
 ghost use Rattle.lin_tool.specs.Levels.{is_in_ranges};
-ghost use Rattle.lin_values.specs.Differences.{differences_data};
-ghost use Rattle.lin_values.specs.Things.{compared_data};
+ghost use Rattle.lin_sections.specs.Differences.{differences_data};
+ghost use Rattle.lin_sections.specs.Things.{compared_data};
 
 use crate::checking::text_at;
 use crate::describing::{Reading, description_of};
@@ -17,15 +17,18 @@ use crate::findings::Findings;
 use crate::levels::{Levels, NumberRange};
 use crate::notes::Notes;
 use lin_cluster::{Examined, cluster_of, examine};
-use lin_export::{Classes, is_any_listed, table_loads, write_differences};
+use lin_export::table_loads;
 use lin_field::{Checked, Normalized, read_over_bytes};
 use lin_ldf::UnknownWords;
 use lin_parts::Cluster;
 use lin_parts::description::Description;
-use lin_text::Many;
-use lin_values::{
-    Codings, ComparedLdf, Difference, TableLoad, compared_things, differences, read_codings,
+use lin_schedule::TableLoad;
+use lin_sections::{
+    Classes, ComparedLdf, Difference, compared_things, differences, is_any_listed, read_codings,
+    write_differences,
 };
+use lin_text::Many;
+use lin_values::Codings;
 use std::alloc::{AllocError, Global};
 use std::fs::Files;
 use std::io::{self, Write};

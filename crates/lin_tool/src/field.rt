@@ -18,8 +18,8 @@ use lin_field::{
     Checked, FieldFault, Normalized, check_field, read_field, read_over_bytes, settle, write_plain,
 };
 use lin_parts::Cluster;
+use lin_sections::unknown_words;
 use lin_text::Many;
-use lin_values::unknown_words;
 use std::alloc::{AllocError, Global};
 use std::io::{Read, Write};
 

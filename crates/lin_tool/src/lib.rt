@@ -65,7 +65,8 @@ pub use law::{
     named_logs_say_the_same, page_data_are_inert, plain_texts_are_read, transcripts_are_logs,
 };
 pub use levels::{Levels, NumberRange};
-pub use lin_export::{Classes, write_list};
+pub use lin_export::write_list;
+pub use lin_sections::Classes;
 pub use listing::{Lists, write_lists};
 pub use living::{answer_lines, bench_in_hand, live};
 pub use notes::{Notes, Wanted};

@@ -10,7 +10,7 @@ use lin_ldf::{
     ATTRIBUTE_WORDS, Description, LdfFault, Location, MOST_UNKNOWN, Parser, SECTION_WORDS,
     TokenKind, UnknownWord, UnknownWords, parse,
 };
-use lin_values::unknown_words;
+use lin_sections::unknown_words;
 use std::alloc::{AllocError, Global};
 
 /// The words of node configuration commands (LIN 2.2A, 9.2.5).

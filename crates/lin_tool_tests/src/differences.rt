@@ -2,9 +2,12 @@
 
 use crate::clusters::{cluster_of, expect_bytes, replaced};
 use crate::samples::LIGHTS;
-use lin_export::{Classes, is_any_listed, table_loads, write_differences};
+use lin_export::table_loads;
 use lin_ldf::parse;
-use lin_values::{ComparedLdf, compared_things, differences, read_codings};
+use lin_sections::{
+    Classes, ComparedLdf, compared_things, differences, is_any_listed, read_codings,
+    write_differences,
+};
 use std::alloc::Global;
 use std::process::Abort;
 use std::test::Fail;

@@ -3,7 +3,7 @@
 
 use crate::clusters::{cluster_of, expect_bytes};
 use lin_parts::{Entry, service_name};
-use lin_values::configure;
+use lin_sections::configure;
 use std::process::Abort;
 use std::test::Fail;
 

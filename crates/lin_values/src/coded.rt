@@ -75,8 +75,8 @@ impl Drop for Coded {
 }
 
 /// The number of the encoding of each name among lines, by the first line that has it.
-pub(crate) struct NamedSignals<'a> {
-    pub(crate) map: IndexMap<&'a [u8], Option<usize>>,
+pub struct NamedSignals<'a> {
+    pub map: IndexMap<&'a [u8], Option<usize>>,
 }
 
 // (written out, so that an owner has one call)
@@ -87,7 +87,7 @@ impl<'a> Drop for NamedSignals<'a> {
 }
 
 impl<'a> NamedSignals<'a> {
-    pub(crate) fn encoding_of(&self, name: &[u8]) -> Option<usize>
+    pub fn encoding_of(&self, name: &[u8]) -> Option<usize>
         ensures { result ≡ encoding_in self.now.map name.now }
     {
         match self.map.get(&name) {
@@ -98,7 +98,7 @@ impl<'a> NamedSignals<'a> {
 }
 
 /// Gives a name what it names, and says so, where it names nothing yet.
-pub(crate) fn put_first<'a, V: Copy>(
+pub fn put_first<'a, V: Copy>(
     map: &mut IndexMap<&'a [u8], V>,
     name: &'a [u8],
     value: V,

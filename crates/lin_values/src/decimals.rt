@@ -18,7 +18,7 @@ pub struct Decimal {
     pub places: u8,
 }
 
-pub(crate) fn ten_to(k: u8) -> u128
+pub fn ten_to(k: u8) -> u128
     requires { k ≤ 33 }
     ensures { result ≡ 10 ^ k }
 {
@@ -80,7 +80,7 @@ fn without_eights(digits: u128, places: u8) -> (u128, u8)
 }
 
 /// The same value without zeros at the end.
-pub(crate) fn shortest(negative: bool, digits: u128, places: u8) -> Decimal
+pub fn shortest(negative: bool, digits: u128, places: u8) -> Decimal
     requires { places ≤ 24 }
     ensures same { scaled_value result ≡ with_sign negative (digits * 10 ^ (24 - places)) }
     ensures size { result.digits * 10 ^ (24 - result.places) ≡ digits * 10 ^ (24 - places) }

@@ -59,7 +59,7 @@ fn add_line<'n>(
 }
 
 /// The numbers of the encodings that lines give to names. `numbers` are those of the types.
-pub(crate) fn named_signals<'n>(
+pub fn named_signals<'n>(
     alloc: Global,
     types: &[CodingType],
     numbers: &Numbers<'_>,

@@ -24,7 +24,7 @@ use Rattle.linsim_c.specs.Described.{blanked_text, coded_in, configured_in}
 use Rattle.linsim_c.specs.declared.ldf_cluster.Described.{Described}
 use Rattle.linsim_c.specs.declared.fault.Fault.TheVariants as fault
 use Rattle.lin_values.specs.Coded.{coded_signals}
-use Rattle.lin_values.specs.Reading.{codings}
+use Rattle.lin_sections.specs.Reading.{codings}
 use Rattle.lin_values.specs.declared.codings.Codings.{Codings}
 use Rattle.linsim_c.specs.Setups.{IsClusterOf, IsFirstFinding, IsParseFault, TextFaults}
 use Rattle.linsim_c.specs.declared.fault.Fault.{Fault}

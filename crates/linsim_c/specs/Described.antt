@@ -21,8 +21,8 @@ use Rattle.lin_field.specs.declared.field_check.Remark.{Remark}
 use Rattle.lin_field.specs.declared.field_text.FieldText.{FieldText}
 use Rattle.lin_field.specs.declared.normalizing.Normalized.{Normalized}
 use Rattle.lin_values.specs.Coded.{CodedData, coded_signals}
-use Rattle.lin_values.specs.Configuring.{configured_by}
-use Rattle.lin_values.specs.Reading.{codings}
+use Rattle.lin_sections.specs.Configuring.{configured_by}
+use Rattle.lin_sections.specs.Reading.{codings}
 use Rattle.linsim_c.specs.Setups.{IsClusterOf, TextFaults, most_ldf_bytes}
 use Rattle.linsim_c.specs.declared.ldf_cluster.Described.{Described}
 use Rattle.linsim_c.specs.declared.fault.Fault.{Fault}

@@ -12,7 +12,8 @@ use crate::fault::Fault;
 use crate::settings::{LONGEST_LDF, description_of, fault_of, said_by};
 use lin_cluster::{Cluster, Finding};
 use lin_field::{Checked, FieldFault, Normalized, Remark, check_field, read_field, settle};
-use lin_values::{Coded, Codings, coded_by, configure, read_codings};
+use lin_sections::{configure, read_codings};
+use lin_values::{Coded, Codings, coded_by};
 use std::alloc::Global;
 
 /// The cluster of an LDF, and what the values of its signals mean.

@@ -6,8 +6,9 @@ use crate::samples::{
 };
 use lin_cluster::{Finding, check, lint};
 use lin_ldf::{Name, parse};
+use lin_sections::{read_codings, read_configurables};
 use lin_text::Text;
-use lin_values::{read_codings, read_configurables, unused_encodings};
+use lin_values::unused_encodings;
 use std::alloc::Global;
 use std::process::Abort;
 use std::test::Fail;

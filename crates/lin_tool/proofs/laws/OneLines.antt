@@ -22,12 +22,12 @@ use Rattle.lin_log.specs.Laws.{is_quiet, no_end}
 use Rattle.lin_log.proofs.Items.{both, joined}
 use Rattle.lin_log.proofs.Quiet.{quiet-decimal}
 use Rattle.lin_values.specs.Coded.{SignalCoding, all_codings, all_items, coded_signals, has_value, in_range, item_for, or_else, signal_at, signal_coding, type_named}
-use Rattle.lin_values.specs.Coding.{ascii, bcd, between_quotes, coded_line, item, logical, next_small, physical, real, text_of_item, type_head}
+use Rattle.lin_sections.specs.Coding.{ascii, bcd, between_quotes, coded_line, item, logical, next_small, physical, real, text_of_item, type_head}
 use Rattle.lin_values.specs.Meaning.{as_digits, bcd_digits, by_item, digits_meaning, first_some, fours, letter, letters_of, meaning_by, meaning_in, named_or_number, numeric_meaning, value_bytes, without_front_zeros}
-use Rattle.lin_values.specs.Passed.{behind_group, behind_line, has_line, steps_while}
-use Rattle.lin_values.specs.Reading.{codings, nothing_read, or_bad_item, or_bad_line, or_bad_type, with_item, with_items, with_coded_line, with_lines, with_section, with_statement, with_type, with_types}
+use Rattle.lin_sections.specs.Passed.{behind_group, behind_line, has_line, steps_while}
+use Rattle.lin_sections.specs.Reading.{codings, nothing_read, or_bad_item, or_bad_line, or_bad_type, with_item, with_items, with_coded_line, with_lines, with_section, with_statement, with_type, with_types}
 use Rattle.lin_values.specs.Shown.{decimal_shown, fraction, last_digits, sign, unit_shown}
-use Rattle.lin_values.specs.Texts.{first_word, gap_length, gaps_closed, latin_1, shown_text, words_on}
+use Rattle.lin_sections.specs.Texts.{first_word, gap_length, gaps_closed, latin_1, shown_text, words_on}
 use Rattle.lin_values.specs.Value.{decimal_of, scaled_value}
 use Rattle.lin_values.specs.declared.decimals.Decimal.{Decimal}
 use Rattle.lin_values.specs.declared.encoding.Coding.{Coding}

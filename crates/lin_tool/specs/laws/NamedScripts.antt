@@ -14,7 +14,7 @@ use Rattle.lin_log.specs.Laws.{FitsEntry, HasNames, is_name, is_quiet}
 use Rattle.lin_values.specs.Coded.{CodedData, coded_signals}
 use Rattle.lin_values.specs.Meaning.{meaning}
 use Rattle.lin_values.specs.Meant.{Meant}
-use Rattle.lin_values.specs.Reading.{codings}
+use Rattle.lin_sections.specs.Reading.{codings}
 use Rattle.lin_values.specs.Shown.{shown}
 use Rattle.lin_export.specs.Named.{named_log}
 use Rattle.lin_bench.specs.Plain.{SaysSteps}

@@ -1,5 +1,5 @@
 use Rattle.std.proofs.Common.{ap, ◌∙◌}
-use Rattle.lin_values.specs.Differences.{differences_data}
+use Rattle.lin_sections.specs.Differences.{differences_data}
 use Rattle.lin_tool.specs.Diffing.{read_data}
 use Rattle.lin_tool.proofs.Differing.{compared-of, written-of}
 use Rattle.lin_tool.proofs.diffing.write_compared.Goals as goal

@@ -1,0 +1,56 @@
+-- The new names of the things of a kind.
+use Rattle.std.proofs.Common.{◌≡◌, ◌∙◌, ℕ, Bool, true, false, cond, List, [], ◌∷◌, Option, Some, None, option_map, refl, sym, ap}
+use Rattle.std.specs.Prelude.{◌||◌, if◌then◌else◌}
+use Rattle.std.specs.Option.{option_or}
+use Rattle.std.specs.Str.{bytes_eq}
+use Rattle.std.proofs.Math.Path.{fun_ext}
+use Rattle.lin_sections.specs.NewNames.{alone, is_among, new_names, no_names, no_renames, renamed_in, stays, KeyedName, NameMap, RenamesData}
+use Rattle.lin_sections.specs.Renames.{and_names, renamed_names}
+
+-- names after those that are known, and after both
+pub or-after : (a b c : Option (List ℕ)) → option_or (option_or a b) c ≡ option_or a (option_or b c)
+or-after None b c = refl
+or-after (Some x) b c = refl
+
+pub renames-are : (r s : RenamesData) → r.nodes ≡ s.nodes → r.frames ≡ s.frames → r.signals ≡ s.signals → r.tables ≡ s.tables → r.encodings ≡ s.encodings → r ≡ s
+renames-are r s n f g t e =
+    ap (λ (x : NameMap). record r { nodes = x }) n
+    ∙ ap (λ (x : NameMap). record r { nodes = s.nodes; frames = x }) f
+    ∙ ap (λ (x : NameMap). record r { nodes = s.nodes; frames = s.frames; signals = x }) g
+    ∙ ap (λ (x : NameMap). record s { tables = x; encodings = r.encodings }) t
+    ∙ ap (λ (x : NameMap). record s { encodings = x }) e
+
+same-names : (names others : List (List ℕ)) (has_old has_new : List ℕ → Bool) (old_keys keys olds news : List KeyedName)
+    → ((q : List ℕ) → has_old q ≡ is_among names q) → ((q : List ℕ) → has_new q ≡ is_among others q)
+    → olds ≡ alone has_new old_keys → news ≡ alone has_old keys
+    → (q : List ℕ) → new_names names olds news q ≡ renamed_names names others old_keys keys q
+same-names names others has_old has_new old_keys keys olds news has_o has_n are_o are_n q =
+    ap (λ (o : List KeyedName). new_names names o news q) (are_o ∙ ap (λ (h : List ℕ → Bool). alone h old_keys) (fun_ext has_n))
+    ∙ ap (λ (n : List KeyedName). new_names names (alone (is_among others) old_keys) n q) (are_n ∙ ap (λ (h : List ℕ → Bool). alone h keys) (fun_ext has_o))
+
+-- the names of a kind, after those that are known
+pub kind-named : (names others : List (List ℕ)) (has_old has_new : List ℕ → Bool) (old_keys keys olds news : List KeyedName) (known after : NameMap)
+    → ((q : List ℕ) → has_old q ≡ is_among names q) → ((q : List ℕ) → has_new q ≡ is_among others q)
+    → olds ≡ alone has_new old_keys → news ≡ alone has_old keys
+    → ((q : List ℕ) → after q ≡ option_or (known q) (new_names names olds news q))
+    → after ≡ and_names known (renamed_names names others old_keys keys)
+kind-named names others has_old has_new old_keys keys olds news known after has_o has_n are_o are_n is =
+    fun_ext (λ q. is q ∙ ap (option_or (known q)) (same-names names others has_old has_new old_keys keys olds news has_o has_n are_o are_n q))
+
+-- the commander, and then the responders
+commander-stays : (b : Bool) (master q : List ℕ) (names : List (List ℕ)) (o : Option (List ℕ)) → bytes_eq master q ≡ b
+    → option_or (option_or o (cond b (Some q) None)) (stays names q) ≡ option_or o (stays (master ∷ names) q)
+commander-stays true master q names None e = rw e refl
+commander-stays false master q names None e = rw e refl
+commander-stays b master q names (Some x) e = refl
+
+pub nodes-named : (master : List ℕ) (names : List (List ℕ)) (olds news : List KeyedName) (known renamed with_master after : NameMap)
+    → ((q : List ℕ) → renamed q ≡ option_or (known q) (renamed_in olds news q))
+    → ((q : List ℕ) → with_master q ≡ option_or (renamed q) (if bytes_eq master q then Some q else None))
+    → ((q : List ℕ) → after q ≡ option_or (with_master q) (stays names q))
+    → (q : List ℕ) → after q ≡ option_or (known q) (new_names (master ∷ names) olds news q)
+nodes-named master names olds news known renamed with_master after r m a q =
+    a q ∙ ap (λ o. option_or o (stays names q)) (m q)
+    ∙ commander-stays (bytes_eq master q) master q names (renamed q) refl
+    ∙ ap (λ o. option_or o (stays (master ∷ names) q)) (r q)
+    ∙ or-after (known q) (renamed_in olds news q) (stays (master ∷ names) q)

@@ -1,0 +1,11 @@
+use Rattle.std.proofs.Common.{◌≡◌, ◌++◌, flat_map, length}
+use Rattle.lin_ldf.specs.Known.{known_attributes}
+use Rattle.lin_sections.specs.Statements.{statements}
+use Rattle.lin_sections.specs.Unknown.{unknown_among}
+use Rattle.lin_sections.proofs.unknown.add_attributes.Given as goal
+
+abbrev pub invariant-loop-parser : goal.invariant-loop-parser
+invariant-loop-parser l = l.found.items ++ flat_map (unknown_among known_attributes) (statements l.parser) ≡ l.fn.found.items ++ flat_map (unknown_among known_attributes) (statements l.fn.parser)
+
+abbrev pub decreases-loop-parser : goal.decreases-loop-parser
+decreases-loop-parser l = length l.parser

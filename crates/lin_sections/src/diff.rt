@@ -1,0 +1,85 @@
+//! What two LDFs say, compared: things with facts, and the differences between them.
+
+ghost use Rattle.std.specs.Prelude.{◌≡◌, IfOk};
+ghost use Rattle.lin_sections.specs.NewNames.{no_renames, renames_data};
+ghost use Rattle.lin_sections.specs.Renames.{all_renames};
+ghost use Rattle.lin_sections.specs.Things.{all_things, compared_data, IsReadOf};
+
+mod chain;
+mod compared;
+mod difference;
+mod encodings;
+mod entry_pairs;
+mod fact;
+mod fact_pairs;
+mod fact_text;
+mod frames;
+mod header;
+mod index;
+mod lines;
+mod new_names;
+mod nodes;
+mod numbering;
+mod renames;
+mod signals;
+mod sorted;
+mod tables;
+mod thing_pairs;
+mod tokens;
+
+use crate::diff::compared::LdfFacts;
+use crate::diff::renames::Renames;
+pub use compared::ComparedLdf;
+pub use difference::Difference;
+pub use fact::{Bits, Class, EntryFact, Fact, Thing, ThingKind};
+pub use fact_text::FactText;
+use lin_text::Many;
+pub use lines::{Classes, is_any_listed, write_differences};
+use std::alloc::{AllocError, Global};
+pub use thing_pairs::differences;
+
+/// Returns the things of an LDF, of each kind in their order. `renames` has their new names.
+fn things_of<'a>(
+    alloc: Global,
+    facts: &LdfFacts<'a>,
+    renames: &Renames<'a>,
+) -> Result<Vec<Many<Thing<'a>>>, AllocError>
+    requires { IsReadOf facts.now }
+    ensures { IfOk result (λ v. v.items
+        ≡ all_things (compared_data facts.now.ldf) (renames_data renames.now)) }
+{
+    let mut headers = Vec::new(alloc);
+    headers.push(header::thing(alloc, facts)?)?;
+    let mut kinds = Vec::new(alloc);
+    kinds.push(Many::new(headers))?;
+    kinds.push(Many::new(nodes::things(alloc, facts, renames)?))?;
+    kinds.push(Many::new(signals::things(alloc, facts, renames)?))?;
+    kinds.push(Many::new(frames::things(alloc, facts, renames)?))?;
+    kinds.push(Many::new(frames::sporadic_things(alloc, facts, renames)?))?;
+    kinds.push(Many::new(frames::event_things(alloc, facts, renames)?))?;
+    kinds.push(Many::new(tables::things(alloc, facts, renames)?))?;
+    kinds.push(Many::new(encodings::things(alloc, facts, renames)?))?;
+    Ok(kinds)
+}
+
+/// Returns the things of two LDFs, of each kind in their order. Things of the old LDF have the names that
+/// the new one has for them.
+///
+/// An error means out of memory.
+pub fn compared_things<'a>(
+    alloc: Global,
+    old: ComparedLdf<'a>,
+    new: ComparedLdf<'a>,
+) -> Result<(Vec<Many<Thing<'a>>>, Vec<Many<Thing<'a>>>), AllocError>
+    ensures olds { IfOk result (λ r. r.0.items ≡ all_things (compared_data old.entry)
+        (all_renames (compared_data old.entry) (compared_data new.entry))) }
+    ensures news { IfOk result (λ r. r.1.items ≡ all_things (compared_data new.entry) no_renames) }
+{
+    let old = LdfFacts::new(alloc, old)?;
+    let new = LdfFacts::new(alloc, new)?;
+    let renames = Renames::find(alloc, &old, &new)?;
+    let olds = things_of(alloc, &old, &renames)?;
+    let none = Renames::none(alloc)?;
+    let news = things_of(alloc, &new, &none)?;
+    Ok((olds, news))
+}

@@ -1,0 +1,113 @@
+//! Which entries of a schedule table were moved: those that aren't in a longest chain of entries whose
+//! order is the same in both tables.
+
+ghost use Rattle.std.specs.Prelude.{◌≡◌, ◌+◌, ◌<◌, ◌≤◌, ℕ, All, IfOk, IfSome, fold, length, max, slice_index};
+ghost use Rattle.lin_sections.specs.Moved.{chain_lengths, is_below, link, longest_before, moved_flags};
+
+use std::alloc::{AllocError, Global};
+
+/// Returns the greatest length of a chain that ends at a lower place than this one. `most` is the greatest of
+/// all these lengths or more.
+fn longest_before(places: &[usize], lengths: &[usize], place: usize, most: usize) -> usize
+    requires within { length lengths.now ≤ length places.now }
+    requires most { All (λ n. n ≤ most) lengths.now }
+    ensures value { result ≡ longest_before place places.now lengths.now }
+    ensures few { result ≤ most }
+{
+    let mut longest = 0usize;
+    let mut left = lengths.len();
+    while left > 0 && longest < most {
+        left -= 1;
+        if places[left] < place {
+            longest = longest.max(lengths[left]);
+        }
+    }
+    longest
+}
+
+/// Returns for each pair the length of the longest chain that ends with it, by the places in the old table.
+fn chain_lengths(alloc: Global, places: &[usize]) -> Result<Vec<usize>, AllocError>
+    ensures lengths { IfOk result (λ all. all.items ≡ chain_lengths places.now) }
+    ensures number { IfOk result (λ all. length all.items ≡ length places.now) }
+    ensures short { IfOk result (λ all. (i : ℕ) → i < length all.items → slice_index all.items i ≤ i + 1) }
+{
+    let mut lengths = Vec::with_capacity(alloc, places.len())?;
+    let mut most = 0usize;
+    for place in places {
+        let length = longest_before(places, lengths.as_slice(), *place, most) + 1;
+        most = most.max(length);
+        lengths.push(length)?;
+    }
+    Ok(lengths)
+}
+
+fn greatest(numbers: &[usize]) -> usize
+    ensures { result ≡ fold max 0 numbers.now }
+{
+    let mut most = 0usize;
+    for number in numbers {
+        most = most.max(*number);
+    }
+    most
+}
+
+fn is_below(place: usize, end: Option<usize>) -> bool
+    ensures { result ≡ is_below place end }
+{
+    match end {
+        None => true,
+        Some(end) => place < end,
+    }
+}
+
+/// Returns the first of so many pairs that ends a chain of so many links below a place. (A chain of n links ends
+/// with the n-th pair or a later one.)
+fn link(
+    places: &[usize],
+    lengths: &[usize],
+    links: usize,
+    count: usize,
+    end: Option<usize>,
+) -> Option<usize>
+    requires same { length places.now ≡ length lengths.now }
+    requires count { count ≤ length places.now }
+    requires short { (i : ℕ) → i < length lengths.now → slice_index lengths.now i ≤ i + 1 }
+    ensures found { result ≡ link places.now lengths.now links count end }
+    ensures within { IfSome result (λ number. number < count) }
+{
+    let mut number = links.saturating_sub(1);
+    while number < count {
+        if lengths[number] == links && is_below(places[number], end) {
+            return Some(number);
+        }
+        number += 1;
+    }
+    None
+}
+
+/// Returns whether each pair of entries was moved. `places` has their places in the old table, in the order
+/// of the new one. As few as possible were.
+pub(crate) fn moved(alloc: Global, places: &[usize]) -> Result<Vec<bool>, AllocError>
+    ensures { IfOk result (λ all. all.items ≡ moved_flags places.now) }
+{
+    let lengths = chain_lengths(alloc, places)?;
+    let mut moved = Vec::with_capacity(alloc, places.len())?;
+    for _place in places {
+        moved.push(true)?;
+    }
+    let mut links = greatest(lengths.as_slice());
+    let mut count = places.len();
+    let mut end = None;
+    while links > 0 {
+        match link(places, lengths.as_slice(), links, count, end) {
+            Some(number) => {
+                moved[number] = false;
+                count = number;
+                end = Some(places[number]);
+                links -= 1;
+            }
+            None => return Ok(moved),
+        }
+    }
+    Ok(moved)
+}

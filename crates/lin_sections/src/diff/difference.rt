@@ -1,0 +1,65 @@
+//! A difference between two LDFs.
+
+ghost use Rattle.std.specs.Prelude.{◌≡◌, option_map};
+ghost use Rattle.lin_sections.specs.Differences.{difference_data, named_difference};
+
+use crate::diff::fact::{Class, Thing, ThingKind};
+use lin_parts::Location;
+
+/// A difference between two LDFs. A thing that one of them alone has has no place in the other, and `None`
+/// stands for a value that it doesn't have.
+#[derive(Clone, Copy, Debug)]
+pub struct Difference<'t> {
+    pub class: Class,
+    pub kind: ThingKind,
+    pub old_place: Option<Location>,
+    pub new_place: Option<Location>,
+    /// The new name of the thing of which a fact differs; empty if the thing itself differs.
+    pub name: &'t [u8],
+    /// The key of the fact, or what differs of an entry; empty if the thing itself differs.
+    pub label: &'t [u8],
+    /// What the entry is for; empty for a fact.
+    pub entry: &'t [u8],
+    pub old: Option<&'t [u8]>,
+    pub new: Option<&'t [u8]>,
+}
+
+/// The difference of things: their names, at their places.
+pub(crate) fn thing_difference<'t>(
+    class: Class,
+    kind: ThingKind,
+    old: Option<(&'t [u8], Location)>,
+    new: Option<(&'t [u8], Location)>,
+) -> Difference<'t>
+    ensures { difference_data result ≡ named_difference class kind
+        (option_map (λ t. t.1) old.entry) (option_map (λ t. t.1) new.entry)
+        (option_map (λ t. t.0.now) old.entry) (option_map (λ t. t.0.now) new.entry) }
+{
+    let (old_name, old_place) = match old {
+        Some((name, place)) => (Some(name), Some(place)),
+        None => (None, None),
+    };
+    let (new_name, new_place) = match new {
+        Some((name, place)) => (Some(name), Some(place)),
+        None => (None, None),
+    };
+    Difference {
+        class,
+        kind,
+        old_place,
+        new_place,
+        name: &[],
+        label: &[],
+        entry: &[],
+        old: old_name,
+        new: new_name,
+    }
+}
+
+/// The name of a thing, and its place.
+pub(crate) fn named<'t>(thing: &'t Thing<'_>) -> (&'t [u8], Location)
+    ensures name { result.0.now ≡ thing.now.name }
+    ensures place { result.1 ≡ thing.now.place }
+{
+    (thing.name.as_slice(), thing.place)
+}

@@ -1,0 +1,231 @@
+//! What an LDF says, as things with facts: its header, nodes, signals, frames, schedule tables and
+//! encodings.
+
+ghost use Rattle.std.specs.Prelude.{◌≡◌};
+ghost use Rattle.lin_sections.specs.Facts.{class_if_gone, class_if_new, class_word, fact, is_compatible};
+ghost use Rattle.lin_sections.specs.Facts.{kind_word, label, overlap, thing};
+ghost use Rattle.lin_sections.specs.Numbering.{entry_id};
+
+use crate::diff::fact_text::FactText;
+use lin_parts::Location;
+use lin_text::{Many, Text};
+use std::alloc::Global;
+
+/// What a difference says to the other nodes of the cluster.
+#[derive(Clone, Copy, Debug, PartialEq, Eq)]
+pub enum Class {
+    /// A node made for the old LDF may misread, miss or not answer something.
+    Bytes,
+    /// The same bytes at other times.
+    Timing,
+    /// The same bytes at the same times mean something else.
+    Meaning,
+    /// No node made for the old LDF looks at it.
+    Compatible,
+    /// Names, versions and notes.
+    Names,
+}
+
+/// The kinds of things, in the order in which differences are listed.
+#[derive(Clone, Copy, Debug, PartialEq, Eq)]
+pub enum ThingKind {
+    Header,
+    Node,
+    Signal,
+    Frame,
+    Sporadic,
+    Event,
+    Table,
+    Encoding,
+}
+
+/// Data bits of a frame, from a first one up to one that isn't among them.
+#[derive(Clone, Copy, Debug)]
+pub struct Bits {
+    pub from: u64,
+    pub end: u64,
+}
+
+/// A fact of a thing: a key, a value and where the LDF says it.
+#[derive(Debug, Drop)]
+pub struct Fact<'a> {
+    /// No two facts of a thing have the same key: the second one of a key has ` #2` after it.
+    pub key: FactText<'a>,
+    pub value: FactText<'a>,
+    pub place: Location,
+    pub class: Class,
+    /// The bits of a signal in a frame.
+    pub bits: Option<Bits>,
+}
+
+/// An entry of a schedule table.
+#[derive(Debug, Drop)]
+pub struct EntryFact<'a> {
+    /// What the entry is for.
+    pub word: FactText<'a>,
+    /// The word with its number, if an earlier entry of the table has the word.
+    pub again: Option<Text>,
+    /// How many entries are before it, in decimal.
+    pub position: Text,
+    pub place: Location,
+    /// The delay in microseconds, in decimal.
+    pub delay: Text,
+    pub delay_place: Location,
+}
+
+/// A thing that an LDF declares, with its facts.
+#[derive(Debug, Drop)]
+pub struct Thing<'a> {
+    pub kind: ThingKind,
+    pub name: FactText<'a>,
+    /// The name that the new LDF has for it.
+    pub new_name: FactText<'a>,
+    pub place: Location,
+    pub facts: Many<Fact<'a>>,
+    /// Of a schedule table.
+    pub entries: Many<EntryFact<'a>>,
+    /// The bits of a frame that a signal or its identifier has.
+    pub taken: Many<Bits>,
+}
+
+impl Class {
+    /// Returns its word.
+    pub fn word(self) -> &'static [u8]
+        ensures { result.now ≡ class_word self }
+    {
+        match self {
+            Class::Bytes => b"bytes",
+            Class::Timing => b"timing",
+            Class::Meaning => b"meaning",
+            Class::Compatible => b"compatible",
+            Class::Names => b"names",
+        }
+    }
+
+    pub(crate) fn is_compatible(self) -> bool
+        ensures { result ≡ is_compatible self }
+    {
+        match self {
+            Class::Compatible => true,
+            Class::Bytes | Class::Timing | Class::Meaning | Class::Names => false,
+        }
+    }
+}
+
+impl ThingKind {
+    /// Returns its word; the header has none.
+    pub fn word(self) -> &'static [u8]
+        ensures { result.now ≡ kind_word self }
+    {
+        match self {
+            ThingKind::Header => b"",
+            ThingKind::Node => b"node",
+            ThingKind::Signal => b"signal",
+            ThingKind::Frame => b"frame",
+            ThingKind::Sporadic => b"sporadic",
+            ThingKind::Event => b"event",
+            ThingKind::Table => b"table",
+            ThingKind::Encoding => b"encoding",
+        }
+    }
+
+    /// Returns the class of a thing that the new LDF doesn't have.
+    pub(crate) fn class_if_gone(self) -> Class
+        ensures { result ≡ class_if_gone self }
+    {
+        match self {
+            ThingKind::Header
+            | ThingKind::Node
+            | ThingKind::Signal
+            | ThingKind::Frame
+            | ThingKind::Event => Class::Bytes,
+            ThingKind::Sporadic | ThingKind::Table => Class::Timing,
+            ThingKind::Encoding => Class::Names,
+        }
+    }
+
+    /// Returns the class of a thing that the old LDF doesn't have.
+    pub(crate) fn class_if_new(self) -> Class
+        ensures { result ≡ class_if_new self }
+    {
+        match self {
+            ThingKind::Sporadic => Class::Timing,
+            ThingKind::Encoding => Class::Names,
+            _ => Class::Compatible,
+        }
+    }
+}
+
+impl Bits {
+    /// Whether a bit is among both.
+    pub(crate) fn overlap(self, other: Bits) -> bool
+        ensures { result ≡ overlap self other }
+    {
+        self.from < other.end && other.from < self.end
+    }
+}
+
+impl<'a> Fact<'a> {
+    /// Makes a fact whose key no earlier fact has.
+    pub(crate) fn new(
+        key: FactText<'a>,
+        value: FactText<'a>,
+        place: Location,
+        class: Class,
+    ) -> Fact<'a>
+        ensures { result ≡ fact key.entry value.entry place class }
+    {
+        Fact {
+            key,
+            value,
+            place,
+            class,
+            bits: None,
+        }
+    }
+
+    /// Returns what a line shows of the key: of a subscriber, which is in the value too, only its kind.
+    pub(crate) fn label(&self) -> &[u8]
+        ensures { result.now ≡ label self.now }
+    {
+        match self.class {
+            Class::Compatible => b"subscriber",
+            _ => self.key.as_slice(),
+        }
+    }
+}
+
+impl<'a> EntryFact<'a> {
+    /// Returns the word by which the entry is found: no other entry of the table has it.
+    pub(crate) fn id(&self) -> &[u8]
+        ensures { result.now ≡ entry_id self.now }
+    {
+        match &self.again {
+            Some(again) => again.as_slice(),
+            None => self.word.as_slice(),
+        }
+    }
+}
+
+impl<'a> Thing<'a> {
+    /// Makes a thing that has no entries and no bits.
+    pub(crate) fn new(
+        alloc: Global,
+        kind: ThingKind,
+        names: (&'a [u8], &'a [u8]),
+        place: Location,
+        facts: Vec<Fact<'a>>,
+    ) -> Thing<'a>
+        ensures { result ≡ thing kind names.entry.0.now names.entry.1.now place facts.entry.items }
+    {
+        Thing {
+            kind,
+            name: FactText::lent(names.0),
+            new_name: FactText::lent(names.1),
+            place,
+            facts: Many::new(facts),
+            entries: Many::new(Vec::new(alloc)),
+            taken: Many::new(Vec::new(alloc)),
+        }
+    }
+}

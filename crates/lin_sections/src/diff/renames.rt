@@ -1,0 +1,200 @@
+//! The things that have another name in the new LDF: their kinds in order, since the key of one has the
+//! new names of others.
+
+ghost use Rattle.std.specs.Prelude.{◌≡◌, ℕ, IfOk, List, OnOk, map};
+ghost use Rattle.std.specs.Option.{option_or};
+ghost use Rattle.lin_sections.specs.NewNames.{any_name, keyed_name, known_by, new_names, no_renames};
+ghost use Rattle.lin_sections.specs.NewNames.{renames_data};
+ghost use Rattle.lin_sections.specs.Renames.{RenamesBy};
+ghost use Rattle.lin_sections.specs.Renames.{all_renames, with_encoding_names, with_event_names, with_frame_names};
+ghost use Rattle.lin_sections.specs.Renames.{with_node_names, with_signal_names, with_sporadic_names, with_table_names};
+ghost use Rattle.lin_sections.specs.Things.{compared_data, IsReadOf};
+ghost use Rattle.lin_sections.specs.NewNames.{AddsNames};
+
+use crate::diff::compared::LdfFacts;
+use crate::diff::new_names::{Keyed, KnownNames, NewNames};
+use crate::diff::{encodings, frames, nodes, signals, tables};
+use lin_cluster::Named;
+use std::alloc::{AllocError, Global};
+
+/// The names that the new LDF has for the things of the old one, of each kind. Frames of all kinds are
+/// together.
+#[derive(Drop)]
+pub(crate) struct Renames<'a> {
+    pub(crate) nodes: NewNames<'a>,
+    pub(crate) frames: NewNames<'a>,
+    pub(crate) signals: NewNames<'a>,
+    pub(crate) tables: NewNames<'a>,
+    pub(crate) encodings: NewNames<'a>,
+}
+
+/// Two LDFs, and names of which each stays.
+#[derive(Clone, Copy)]
+struct Ldfs<'l, 'a> {
+    old: &'l LdfFacts<'a>,
+    new: &'l LdfFacts<'a>,
+    none: &'l Renames<'a>,
+}
+
+/// Adds the new names of the things of a kind: of those with keys, and of the others, which stay.
+fn add_names<'a, T: Named>(
+    alloc: Global,
+    names: &mut NewNames<'a>,
+    all: &'a [T],
+    olds: &Vec<Keyed<'a>>,
+    news: &Vec<Keyed<'a>>,
+) -> Result<(), AllocError>
+    ensures { OnOk result (AddsNames names.old names.new
+        (new_names (map (λ x. (T.name_of x).text) all.now) (map keyed_name olds.now.items) (map keyed_name news.now.items))) }
+{
+    names.add_renamed(alloc, olds.as_slice(), news.as_slice())?;
+    names.add_all(all)
+}
+
+impl<'a> Renames<'a> {
+    /// Each name stays.
+    pub(crate) fn none(alloc: Global) -> Result<Renames<'a>, AllocError>
+        ensures { IfOk result (λ r. renames_data r ≡ no_renames) }
+    {
+        Ok(Renames {
+            nodes: NewNames::new(alloc)?,
+            frames: NewNames::new(alloc)?,
+            signals: NewNames::new(alloc)?,
+            tables: NewNames::new(alloc)?,
+            encodings: NewNames::new(alloc)?,
+        })
+    }
+
+    /// Returns the new name of a node, or else of a frame, or else of a signal, or else the word.
+    pub(crate) fn any(&self, word: &'a [u8]) -> &'a [u8]
+        ensures { result.now ≡ any_name (renames_data self.now) word.now }
+    {
+        if let Some(name) = self.nodes.get(word) {
+            return name;
+        }
+        if let Some(name) = self.frames.get(word) {
+            return name;
+        }
+        self.signals.of(word)
+    }
+
+    fn add_nodes(&mut self, alloc: Global, ldfs: Ldfs<'_, 'a>) -> Result<(), AllocError>
+        ensures { OnOk result (RenamesBy with_node_names ldfs.entry self.old self.new) }
+    {
+        let Ldfs { old, new, .. } = ldfs;
+        let old_names = nodes::names(alloc, old)?;
+        let new_names = nodes::names(alloc, new)?;
+        let olds = nodes::keys(alloc, old, &new_names)?;
+        let news = nodes::keys(alloc, new, &old_names)?;
+        self.nodes
+            .add_renamed(alloc, olds.as_slice(), news.as_slice())?;
+        let description = old.ldf.description;
+        self.nodes.add(description.master().text.as_slice())?;
+        self.nodes.add_all(description.slaves())
+    }
+
+    fn add_frames(&mut self, alloc: Global, ldfs: Ldfs<'_, 'a>) -> Result<(), AllocError>
+        ensures { OnOk result (RenamesBy with_frame_names ldfs.entry self.old self.new) }
+    {
+        let Ldfs { old, new, .. } = ldfs;
+        let all = old.ldf.description.frames();
+        let old_names = KnownNames::of(alloc, all)?;
+        let new_names = KnownNames::of(alloc, new.ldf.description.frames())?;
+        let olds = frames::keys(alloc, old, &new_names)?;
+        let news = frames::keys(alloc, new, &old_names)?;
+        add_names(alloc, &mut self.frames, all, &olds, &news)
+    }
+
+    fn add_events(&mut self, alloc: Global, ldfs: Ldfs<'_, 'a>) -> Result<(), AllocError>
+        ensures { OnOk result (RenamesBy with_event_names ldfs.entry self.old self.new) }
+    {
+        let Ldfs { old, new, .. } = ldfs;
+        let all = old.ldf.description.events();
+        let old_names = KnownNames::of(alloc, all)?;
+        let new_names = KnownNames::of(alloc, new.ldf.description.events())?;
+        let olds = frames::event_keys(alloc, old, &new_names)?;
+        let news = frames::event_keys(alloc, new, &old_names)?;
+        add_names(alloc, &mut self.frames, all, &olds, &news)
+    }
+
+    fn add_signals(&mut self, alloc: Global, ldfs: Ldfs<'_, 'a>) -> Result<(), AllocError>
+        requires { renames_data ldfs.none.now ≡ no_renames }
+        ensures { OnOk result (RenamesBy with_signal_names ldfs.entry self.old self.new) }
+    {
+        let Ldfs { old, new, none } = ldfs;
+        let all = old.ldf.description.signals();
+        let old_names = KnownNames::of(alloc, all)?;
+        let new_names = KnownNames::of(alloc, new.ldf.description.signals())?;
+        let olds = signals::keys(alloc, old, &new_names, self)?;
+        let news = signals::keys(alloc, new, &old_names, none)?;
+        add_names(alloc, &mut self.signals, all, &olds, &news)
+    }
+
+    fn add_sporadics(&mut self, alloc: Global, ldfs: Ldfs<'_, 'a>) -> Result<(), AllocError>
+        requires { renames_data ldfs.none.now ≡ no_renames }
+        ensures { OnOk result (RenamesBy with_sporadic_names ldfs.entry self.old self.new) }
+    {
+        let Ldfs { old, new, none } = ldfs;
+        let all = old.ldf.description.sporadic();
+        let old_names = KnownNames::of(alloc, all)?;
+        let new_names = KnownNames::of(alloc, new.ldf.description.sporadic())?;
+        let olds = frames::sporadic_keys(alloc, old, &new_names, self)?;
+        let news = frames::sporadic_keys(alloc, new, &old_names, none)?;
+        add_names(alloc, &mut self.frames, all, &olds, &news)
+    }
+
+    fn add_tables(&mut self, alloc: Global, ldfs: Ldfs<'_, 'a>) -> Result<(), AllocError>
+        requires { renames_data ldfs.none.now ≡ no_renames }
+        ensures { OnOk result (RenamesBy with_table_names ldfs.entry self.old self.new) }
+    {
+        let Ldfs { old, new, none } = ldfs;
+        let all = old.ldf.description.tables();
+        let old_names = KnownNames::of(alloc, all)?;
+        let new_names = KnownNames::of(alloc, new.ldf.description.tables())?;
+        let olds = tables::keys(alloc, old, &new_names, self)?;
+        let news = tables::keys(alloc, new, &old_names, none)?;
+        add_names(alloc, &mut self.tables, all, &olds, &news)
+    }
+
+    fn add_encodings(&mut self, alloc: Global, ldfs: Ldfs<'_, 'a>) -> Result<(), AllocError>
+        requires old { IsReadOf ldfs.old.now }
+        requires new { IsReadOf ldfs.new.now }
+        ensures { OnOk result (RenamesBy with_encoding_names ldfs.entry self.old self.new) }
+    {
+        let Ldfs { old, new, .. } = ldfs;
+        let all = old.ldf.codings.types.as_slice();
+        let old_names = KnownNames::of(alloc, all)?;
+        let new_names = KnownNames::of(alloc, new.ldf.codings.types.as_slice())?;
+        let olds = encodings::keys(alloc, old, &new_names)?;
+        let news = encodings::keys(alloc, new, &old_names)?;
+        add_names(alloc, &mut self.encodings, all, &olds, &news)
+    }
+
+    /// Finds the new names of all things.
+    pub(crate) fn find(
+        alloc: Global,
+        old: &LdfFacts<'a>,
+        new: &LdfFacts<'a>,
+    ) -> Result<Renames<'a>, AllocError>
+        requires old { IsReadOf old.now }
+        requires new { IsReadOf new.now }
+        ensures { IfOk result (λ r. renames_data r
+            ≡ all_renames (compared_data old.now.ldf) (compared_data new.now.ldf)) }
+    {
+        let none = Renames::none(alloc)?;
+        let mut renames = Renames::none(alloc)?;
+        let ldfs = Ldfs {
+            old,
+            new,
+            none: &none,
+        };
+        renames.add_nodes(alloc, ldfs)?;
+        renames.add_frames(alloc, ldfs)?;
+        renames.add_events(alloc, ldfs)?;
+        renames.add_signals(alloc, ldfs)?;
+        renames.add_sporadics(alloc, ldfs)?;
+        renames.add_tables(alloc, ldfs)?;
+        renames.add_encodings(alloc, ldfs)?;
+        Ok(renames)
+    }
+}

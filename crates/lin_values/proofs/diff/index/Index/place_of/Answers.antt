@@ -1,5 +1,0 @@
-use Rattle.std.proofs.Common.{◌∙◌}
-use Rattle.lin_values.proofs.diff.index.Index.place_of.Goals as goal
-
-pub returns : goal.returns
-returns c = λ texts are. c.copied.ensures ∙ (c.get.ensures.value ∙ are c.args.text.now)

@@ -1,6 +1,0 @@
-use Rattle.std.proofs.Common.{◌≡◌, take}
-use Rattle.lin_values.specs.Texts.{latin_1}
-use Rattle.lin_values.proofs.shown_texts.latin_1.Given as goal
-
-abbrev pub invariant-loop-byte : goal.invariant-loop-byte
-invariant-loop-byte l = l.text.items ≡ latin_1 (take l.byte-index l.bytes)
