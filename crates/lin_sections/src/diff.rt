@@ -1,4 +1,4 @@
-//! What two LDFs say, compared: things with facts, and the differences between them.
+//! The comparison of two LDFs: their things with facts, and the differences between them.
 
 ghost use Rattle.std.specs.Prelude.{◌≡◌, IfOk};
 ghost use Rattle.lin_sections.specs.NewNames.{no_renames, renames_data};
@@ -38,7 +38,8 @@ pub use lines::{Classes, is_any_listed, write_differences};
 use std::alloc::{AllocError, Global};
 pub use thing_pairs::differences;
 
-/// Returns the things of an LDF, of each kind in their order. `renames` has their new names.
+/// Returns the things of an LDF by kind. The things of a kind are in the order of the LDF. `renames` has
+/// their new names.
 fn things_of<'a>(
     alloc: Global,
     facts: &LdfFacts<'a>,
@@ -62,8 +63,8 @@ fn things_of<'a>(
     Ok(kinds)
 }
 
-/// Returns the things of two LDFs, of each kind in their order. Things of the old LDF have the names that
-/// the new one has for them.
+/// Returns the things of two LDFs by kind. The things of a kind are in the order of their LDF. The new name
+/// of a thing of the old LDF is its name in the new LDF.
 ///
 /// An error means out of memory.
 pub fn compared_things<'a>(

@@ -1,13 +1,13 @@
-//! Which entries of a schedule table were moved: those that aren't in a longest chain of entries whose
-//! order is the same in both tables.
+//! The moved entries of a schedule table: the entries outside a longest chain of entries whose order is the
+//! same in both tables.
 
 ghost use Rattle.std.specs.Prelude.{◌≡◌, ◌+◌, ◌<◌, ◌≤◌, ℕ, All, IfOk, IfSome, fold, length, max, slice_index};
 ghost use Rattle.lin_sections.specs.Moved.{chain_lengths, is_below, link, longest_before, moved_flags};
 
 use std::alloc::{AllocError, Global};
 
-/// Returns the greatest length of a chain that ends at a lower place than this one. `most` is the greatest of
-/// all these lengths or more.
+/// Returns the greatest length of the chains that end at a lower place than `place`. No length is greater
+/// than `most`.
 fn longest_before(places: &[usize], lengths: &[usize], place: usize, most: usize) -> usize
     requires within { length lengths.now ≤ length places.now }
     requires most { All (λ n. n ≤ most) lengths.now }
@@ -25,7 +25,8 @@ fn longest_before(places: &[usize], lengths: &[usize], place: usize, most: usize
     longest
 }
 
-/// Returns for each pair the length of the longest chain that ends with it, by the places in the old table.
+/// Returns the length of the longest chain that ends with each pair. `places` has the places in the old
+/// table.
 fn chain_lengths(alloc: Global, places: &[usize]) -> Result<Vec<usize>, AllocError>
     ensures lengths { IfOk result (λ all. all.items ≡ chain_lengths places.now) }
     ensures number { IfOk result (λ all. length all.items ≡ length places.now) }
@@ -60,8 +61,8 @@ fn is_below(place: usize, end: Option<usize>) -> bool
     }
 }
 
-/// Returns the first of so many pairs that ends a chain of so many links below a place. (A chain of n links ends
-/// with the n-th pair or a later one.)
+/// Returns the first of `count` pairs that ends a chain of `links` links below the place `end`. A chain of
+/// n links ends with the n-th pair or a later one.
 fn link(
     places: &[usize],
     lengths: &[usize],
@@ -85,8 +86,8 @@ fn link(
     None
 }
 
-/// Returns whether each pair of entries was moved. `places` has their places in the old table, in the order
-/// of the new one. As few as possible were.
+/// Returns for each pair of entries whether it was moved. The number of moved pairs is as small as
+/// possible. `places` has their places in the old table, in the order of the new table.
 pub(crate) fn moved(alloc: Global, places: &[usize]) -> Result<Vec<bool>, AllocError>
     ensures { IfOk result (λ all. all.items ≡ moved_flags places.now) }
 {

@@ -18,19 +18,19 @@ use lin_text::Many;
 use lin_values::{CodingType, Codings, NamedSignals, named_signals};
 use std::alloc::{AllocError, Global};
 
-/// An LDF that describes a cluster.
+/// An LDF without errors, with what was read from it.
 #[derive(Clone, Copy)]
 pub struct ComparedLdf<'a> {
-    /// The text of which the description was read.
+    /// The bytes of the LDF.
     pub source: &'a [u8],
     pub description: &'a Description,
     pub cluster: &'a Cluster,
     pub codings: &'a Codings,
-    /// Of each schedule table.
+    /// The load of each schedule table.
     pub loads: &'a [TableLoad],
 }
 
-/// An LDF, with what its text says besides the description.
+/// An LDF, with what it contains in addition to its description.
 #[derive(Drop)]
 pub(crate) struct LdfFacts<'a> {
     pub(crate) ldf: ComparedLdf<'a>,
@@ -44,7 +44,7 @@ pub(crate) struct LdfFacts<'a> {
     pub(crate) codings: NamedSignals<'a>,
 }
 
-/// Reads the attributes of nodes. An LDF that doesn't mention their section is only searched for its word.
+/// Reads the attributes of nodes. If the LDF doesn't contain the word `Node_attributes`, it isn't parsed.
 fn attribute_blocks<'a>(
     alloc: Global,
     source: &'a [u8],
@@ -60,7 +60,7 @@ fn attribute_blocks<'a>(
 }
 
 impl<'a> LdfFacts<'a> {
-    /// Reads what the text says besides the description.
+    /// Reads what the LDF contains in addition to its description.
     pub(crate) fn new(alloc: Global, ldf: ComparedLdf<'a>) -> Result<LdfFacts<'a>, AllocError>
         ensures read { IfOk result (λ f. IsReadOf f) }
         ensures same { IfOk result (λ f. f.ldf ≡ ldf.entry) }

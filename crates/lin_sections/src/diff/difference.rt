@@ -6,25 +6,26 @@ ghost use Rattle.lin_sections.specs.Differences.{difference_data, named_differen
 use crate::diff::fact::{Class, Thing, ThingKind};
 use lin_parts::Location;
 
-/// A difference between two LDFs. A thing that one of them alone has has no place in the other, and `None`
-/// stands for a value that it doesn't have.
+/// A difference between two LDFs. If only one LDF has the thing, the other place is `None`. A value is
+/// `None` if that LDF doesn't have it.
 #[derive(Clone, Copy, Debug)]
 pub struct Difference<'t> {
     pub class: Class,
     pub kind: ThingKind,
     pub old_place: Option<Location>,
     pub new_place: Option<Location>,
-    /// The new name of the thing of which a fact differs; empty if the thing itself differs.
+    /// The new name of the thing with the fact; empty if the thing itself differs.
     pub name: &'t [u8],
-    /// The key of the fact, or what differs of an entry; empty if the thing itself differs.
+    /// The key of the fact; `entry` or `delay` for an entry of a schedule table; empty if the thing itself
+    /// differs.
     pub label: &'t [u8],
-    /// What the entry is for; empty for a fact.
+    /// The word of the entry; empty for a fact.
     pub entry: &'t [u8],
     pub old: Option<&'t [u8]>,
     pub new: Option<&'t [u8]>,
 }
 
-/// The difference of things: their names, at their places.
+/// Returns the difference between two things: their names and places.
 pub(crate) fn thing_difference<'t>(
     class: Class,
     kind: ThingKind,
@@ -56,7 +57,7 @@ pub(crate) fn thing_difference<'t>(
     }
 }
 
-/// The name of a thing, and its place.
+/// Returns the name and the place of a thing.
 pub(crate) fn named<'t>(thing: &'t Thing<'_>) -> (&'t [u8], Location)
     ensures name { result.0.now ≡ thing.now.name }
     ensures place { result.1 ≡ thing.now.place }

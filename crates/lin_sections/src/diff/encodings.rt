@@ -23,7 +23,7 @@ use lin_text::{TextBuffer, TextWriter};
 use lin_values::{CodingType, Coefficient, Item, put_decimal};
 use std::alloc::{AllocError, Global};
 
-/// Memory in which one text after another is made.
+/// Memory that is used again for each text.
 #[derive(Drop)]
 struct Scratch {
     text: Vec<u8>,
@@ -39,7 +39,7 @@ impl Scratch {
     }
 }
 
-/// Puts a text in quotes, if there is one.
+/// Appends a text in quotes, unless it is empty.
 #[tactic(auto, using(crate::proofs::FactSteps::word_goes_on))]
 fn put_quoted(text: &mut Vec<u8>, shown: &[u8]) -> Result<(), AllocError>
     ensures { OnOk result (text.new.items ≡ fold with_word text.old.items (quoted_words shown.now)) }
@@ -53,7 +53,7 @@ fn put_quoted(text: &mut Vec<u8>, shown: &[u8]) -> Result<(), AllocError>
     Ok(())
 }
 
-/// Puts the shortest text of a decimal.
+/// Appends the shortest form of a decimal number.
 fn put_coefficient(
     text: &mut Vec<u8>,
     buffer: &mut TextBuffer,
@@ -138,7 +138,7 @@ fn item_text<'a>(
     }
 }
 
-/// Returns the fact of an item. `place` is that of the type's name.
+/// Returns the fact of an item. `place` is the place of the encoding's name.
 fn item_fact<'a>(
     alloc: Global,
     scratch: &mut Scratch,
@@ -152,7 +152,7 @@ fn item_fact<'a>(
     Ok(Fact::new(key, value, place, Class::Meaning))
 }
 
-/// Returns the facts of a type: its items, all at its name.
+/// Returns the facts of an encoding: its items. Their place is the place of the encoding's name.
 fn facts_of<'a>(
     alloc: Global,
     scratch: &mut Scratch,
@@ -169,7 +169,7 @@ fn facts_of<'a>(
     numbered(alloc, found)
 }
 
-/// Returns a type.
+/// Returns an encoding as a thing.
 fn thing<'a>(
     alloc: Global,
     scratch: &mut Scratch,
@@ -190,7 +190,8 @@ fn thing<'a>(
     ))
 }
 
-/// Adds a type, if none of the first so many types has its name. `numbers` are those of all types.
+/// Adds an encoding if none of the first `number` encodings has its name. `numbers` has the number of each
+/// name.
 #[tactic(auto, using(crate::proofs::StatementSteps::nothing_more))]
 fn add_first<'a>(
     firsts: &mut Vec<&'a CodingType>,
@@ -211,7 +212,7 @@ fn add_first<'a>(
     Ok(())
 }
 
-/// Returns the first type of each name. `numbers` are those of the types.
+/// Returns the first encoding of each name. `numbers` has the number of each name.
 pub(crate) fn first_types<'a>(
     alloc: Global,
     types: &'a [CodingType],
@@ -227,7 +228,7 @@ pub(crate) fn first_types<'a>(
     Ok(firsts)
 }
 
-/// Returns the encodings: the first type of each name.
+/// Returns the encodings as things: the first encoding of each name.
 pub(crate) fn things<'a>(
     alloc: Global,
     facts: &LdfFacts<'a>,
@@ -246,7 +247,7 @@ pub(crate) fn things<'a>(
     Ok(things)
 }
 
-/// Puts an item: its key and its value.
+/// Appends the key and the value of an item.
 #[tactic(auto, using(crate::proofs::FactSteps::word_goes_on))]
 fn put_item(text: &mut Vec<u8>, fact: &Fact<'_>) -> Result<(), AllocError>
     ensures { OnOk result (text.new.items ≡ with_item text.old.items fact.now) }
@@ -258,7 +259,7 @@ fn put_item(text: &mut Vec<u8>, fact: &Fact<'_>) -> Result<(), AllocError>
     Ok(())
 }
 
-/// Returns the key of a type: all its items.
+/// Returns the key of an encoding: all its items.
 fn items_text<'a>(alloc: Global, facts: &[Fact<'_>]) -> Result<FactText<'a>, AllocError>
     ensures { IfOk result (λ t. t ≡ fold with_item [] facts.now) }
 {
@@ -269,7 +270,7 @@ fn items_text<'a>(alloc: Global, facts: &[Fact<'_>]) -> Result<FactText<'a>, All
     FactText::copied(alloc, text.as_slice())
 }
 
-/// Adds the key of a type that isn't among other names.
+/// Adds the key of an encoding if its name isn't among `others`.
 #[tactic(auto, using(crate::proofs::StatementSteps::nothing_more))]
 fn add_key<'a>(
     alloc: Global,
@@ -290,7 +291,7 @@ fn add_key<'a>(
     Ok(())
 }
 
-/// Returns the keys of the encodings that aren't among other names.
+/// Returns the keys of the encodings whose names aren't among `others`.
 pub(crate) fn keys<'a>(
     alloc: Global,
     facts: &LdfFacts<'a>,

@@ -35,7 +35,7 @@ fn entry_position<'t>(entry: Option<&'t EntryFact<'_>>) -> Option<&'t [u8]>
     }
 }
 
-/// The difference of an entry's position.
+/// Returns the difference of an entry's position.
 fn entry_difference<'t>(
     things: (&'t Thing<'_>, &'t Thing<'_>),
     entry: &'t EntryFact<'_>,
@@ -58,7 +58,7 @@ fn entry_difference<'t>(
     }
 }
 
-/// The difference of an entry's delay.
+/// Returns the difference of an entry's delay.
 fn delay_difference<'t>(
     things: (&'t Thing<'_>, &'t Thing<'_>),
     old: &'t EntryFact<'_>,
@@ -80,7 +80,7 @@ fn delay_difference<'t>(
     }
 }
 
-/// Returns the words by which entries are found.
+/// Returns the identifiers of entries.
 fn ids_of<'t>(alloc: Global, entries: &'t [EntryFact<'_>]) -> Result<Vec<&'t [u8]>, AllocError>
     ensures { IfOk result (λ v. map (λ i. i.now) v.items ≡ map entry_id entries.now) }
 {
@@ -91,7 +91,7 @@ fn ids_of<'t>(alloc: Global, entries: &'t [EntryFact<'_>]) -> Result<Vec<&'t [u8
     Ok(ids)
 }
 
-/// Adds a place, if there is one.
+/// Adds a place if there is one.
 #[tactic(auto, using(crate::proofs::StatementSteps::nothing_more))]
 fn add_place(places: &mut Vec<usize>, place: Option<usize>) -> Result<(), AllocError>
     ensures { OnOk result
@@ -106,7 +106,8 @@ fn add_place(places: &mut Vec<usize>, place: Option<usize>) -> Result<(), AllocE
     }
 }
 
-/// Returns the places in the old table of the new entries that it has, in their order.
+/// Returns the places in the old table of the new entries, in the order of the new table. It skips the
+/// entries that the old table doesn't have.
 fn old_places(
     alloc: Global,
     olds: &Index<'_>,
@@ -122,7 +123,7 @@ fn old_places(
     Ok(places)
 }
 
-/// Sets the flag of a place, if it was moved and has a flag.
+/// Sets the flag of a place if it was moved and has a flag.
 fn mark(flags: &mut Vec<bool>, place: usize, is_moved: bool)
     ensures { (f : ℕ → Bool) (count : ℕ) → AreFlags count f flags.old.items
         → AreFlags count (λ p. f p || (is_moved && place == p)) flags.new.items }
@@ -151,7 +152,7 @@ fn moved_entries(alloc: Global, count: usize, places: &[usize]) -> Result<Vec<bo
     Ok(by_place)
 }
 
-/// Adds the differences of a pair of entries.
+/// Adds the differences between the two entries of a pair.
 fn add_pair<'t>(
     found: &mut Vec<Difference<'t>>,
     things: (&'t Thing<'_>, &'t Thing<'_>),
@@ -170,7 +171,7 @@ fn add_pair<'t>(
     Ok(())
 }
 
-/// Returns the entry with a word and a number.
+/// Returns the entry with an identifier.
 fn entry_with<'t, 'a>(
     entries: &'t [EntryFact<'a>],
     index: &Index<'_>,
@@ -185,13 +186,13 @@ fn entry_with<'t, 'a>(
     }
 }
 
-/// The places of the entries of two tables by their words.
+/// The places of the entries of two tables by their identifiers.
 struct EntryPlaces<'o, 'n> {
     olds: Index<'o>,
     news: Index<'n>,
 }
 
-// Written out, so that what owns one lets it go in one step.
+// Written by hand, so that its owners drop it in one step.
 impl<'o, 'n> Drop for EntryPlaces<'o, 'n> {
     fn drop(self) {
         let EntryPlaces {
@@ -201,7 +202,7 @@ impl<'o, 'n> Drop for EntryPlaces<'o, 'n> {
     }
 }
 
-/// Returns the flag of a place; there are none past the last one.
+/// Returns the flag of a place, or `false` if the place has no flag.
 fn flag_at(flags: &[bool], place: usize) -> bool
     ensures { result ≡ slice_index_or flags.now place false }
 {
@@ -211,7 +212,7 @@ fn flag_at(flags: &[bool], place: usize) -> bool
     }
 }
 
-/// Whether an entry of the old table was moved. `moved` has this of each, by their places.
+/// Whether an entry of the old table was moved. `moved` has a flag for each place of that table.
 fn is_moved(moved: &[bool], olds: &Index<'_>, entry: &EntryFact<'_>) -> bool
     ensures { (entries : List EntryFact) (places : List ℕ)
         → ArePlaces (map entry_id entries) olds.now.map → moved.now ≡ moved_entries entries places
@@ -223,7 +224,7 @@ fn is_moved(moved: &[bool], olds: &Index<'_>, entry: &EntryFact<'_>) -> bool
     }
 }
 
-/// Adds the differences of an entry that the old table has.
+/// Adds the differences of an entry of the old table.
 fn add_old_entry<'t>(
     found: &mut Vec<Difference<'t>>,
     things: (&'t Thing<'_>, &'t Thing<'_>),
@@ -249,7 +250,7 @@ fn add_old_entry<'t>(
     }
 }
 
-/// Adds the differences of the entries that the old table has.
+/// Adds the differences of the entries of the old table.
 fn add_old_entries<'t>(
     alloc: Global,
     found: &mut Vec<Difference<'t>>,
@@ -270,7 +271,7 @@ fn add_old_entries<'t>(
     Ok(())
 }
 
-/// Adds an entry of the new table, if the old one doesn't have it.
+/// Adds an entry of the new table if the old table doesn't have it.
 fn add_new_entry<'t>(
     found: &mut Vec<Difference<'t>>,
     things: (&'t Thing<'_>, &'t Thing<'_>),
@@ -287,7 +288,7 @@ fn add_new_entry<'t>(
     Ok(())
 }
 
-/// Adds the entries that the new table alone has.
+/// Adds the entries that only the new table has.
 fn add_new_entries<'t>(
     found: &mut Vec<Difference<'t>>,
     old: &'t Thing<'_>,

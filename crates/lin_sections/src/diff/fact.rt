@@ -1,4 +1,4 @@
-//! What an LDF says, as things with facts: its header, nodes, signals, frames, schedule tables and
+//! The contents of an LDF as things with facts: its header, nodes, signals, frames, schedule tables and
 //! encodings.
 
 ghost use Rattle.std.specs.Prelude.{◌≡◌};
@@ -11,16 +11,16 @@ use lin_parts::Location;
 use lin_text::{Many, Text};
 use std::alloc::Global;
 
-/// What a difference says to the other nodes of the cluster.
+/// What a difference means for the nodes of the cluster.
 #[derive(Clone, Copy, Debug, PartialEq, Eq)]
 pub enum Class {
-    /// A node made for the old LDF may misread, miss or not answer something.
+    /// A node made for the old LDF may misinterpret or miss a response, or not respond.
     Bytes,
     /// The same bytes at other times.
     Timing,
-    /// The same bytes at the same times mean something else.
+    /// The same bytes at the same times, with other physical or logical values.
     Meaning,
-    /// No node made for the old LDF looks at it.
+    /// Something new that no node made for the old LDF uses.
     Compatible,
     /// Names, versions and notes.
     Names,
@@ -39,33 +39,33 @@ pub enum ThingKind {
     Encoding,
 }
 
-/// Data bits of a frame, from a first one up to one that isn't among them.
+/// Data bits of a frame, from the bit `from` up to the bit before `end`.
 #[derive(Clone, Copy, Debug)]
 pub struct Bits {
     pub from: u64,
     pub end: u64,
 }
 
-/// A fact of a thing: a key, a value and where the LDF says it.
+/// A fact of a thing: a key, a value and its place in the LDF.
 #[derive(Debug, Drop)]
 pub struct Fact<'a> {
-    /// No two facts of a thing have the same key: the second one of a key has ` #2` after it.
+    /// Unique among the facts of a thing: the second fact with a key has ` #2` after the key.
     pub key: FactText<'a>,
     pub value: FactText<'a>,
     pub place: Location,
     pub class: Class,
-    /// The bits of a signal in a frame.
+    /// The bits of a signal in a frame; `None` for all other facts.
     pub bits: Option<Bits>,
 }
 
 /// An entry of a schedule table.
 #[derive(Debug, Drop)]
 pub struct EntryFact<'a> {
-    /// What the entry is for.
+    /// The new name of the frame, or the configuration command with its arguments.
     pub word: FactText<'a>,
-    /// The word with its number, if an earlier entry of the table has the word.
+    /// The word with its number if an earlier entry of the table has the same word.
     pub again: Option<Text>,
-    /// How many entries are before it, in decimal.
+    /// The number of entries before it, in decimal.
     pub position: Text,
     pub place: Location,
     /// The delay in microseconds, in decimal.
@@ -78,18 +78,18 @@ pub struct EntryFact<'a> {
 pub struct Thing<'a> {
     pub kind: ThingKind,
     pub name: FactText<'a>,
-    /// The name that the new LDF has for it.
+    /// Its name in the new LDF.
     pub new_name: FactText<'a>,
     pub place: Location,
     pub facts: Many<Fact<'a>>,
-    /// Of a schedule table.
+    /// The entries of a schedule table.
     pub entries: Many<EntryFact<'a>>,
-    /// The bits of a frame that a signal or its identifier has.
+    /// The bits of a frame that its signals or its protected identifier occupy.
     pub taken: Many<Bits>,
 }
 
 impl Class {
-    /// Returns its word.
+    /// Returns the word of the class, as `diff` writes it.
     pub fn word(self) -> &'static [u8]
         ensures { result.now ≡ class_word self }
     {
@@ -113,7 +113,7 @@ impl Class {
 }
 
 impl ThingKind {
-    /// Returns its word; the header has none.
+    /// Returns the word of the kind, as `diff` writes it; empty for the header.
     pub fn word(self) -> &'static [u8]
         ensures { result.now ≡ kind_word self }
     {
@@ -157,7 +157,7 @@ impl ThingKind {
 }
 
 impl Bits {
-    /// Whether a bit is among both.
+    /// Whether the two ranges have a bit in common.
     pub(crate) fn overlap(self, other: Bits) -> bool
         ensures { result ≡ overlap self other }
     {
@@ -166,7 +166,7 @@ impl Bits {
 }
 
 impl<'a> Fact<'a> {
-    /// Makes a fact whose key no earlier fact has.
+    /// Makes a fact without bits.
     pub(crate) fn new(
         key: FactText<'a>,
         value: FactText<'a>,
@@ -184,7 +184,8 @@ impl<'a> Fact<'a> {
         }
     }
 
-    /// Returns what a line shows of the key: of a subscriber, which is in the value too, only its kind.
+    /// Returns the key as `diff` writes it: for a subscriber only the first word, because its name is the
+    /// value.
     pub(crate) fn label(&self) -> &[u8]
         ensures { result.now ≡ label self.now }
     {
@@ -196,7 +197,8 @@ impl<'a> Fact<'a> {
 }
 
 impl<'a> EntryFact<'a> {
-    /// Returns the word by which the entry is found: no other entry of the table has it.
+    /// Returns the identifier of the entry, which is unique in its table: its word, with a number if the
+    /// word is repeated.
     pub(crate) fn id(&self) -> &[u8]
         ensures { result.now ≡ entry_id self.now }
     {
@@ -208,7 +210,7 @@ impl<'a> EntryFact<'a> {
 }
 
 impl<'a> Thing<'a> {
-    /// Makes a thing that has no entries and no bits.
+    /// Makes a thing without entries and bits. `names` are its own name and its new name.
     pub(crate) fn new(
         alloc: Global,
         kind: ThingKind,

@@ -16,7 +16,7 @@ use crate::diff::numbering::keys_of;
 use lin_parts::Location;
 use std::alloc::{AllocError, Global};
 
-/// The place of a fact, or else of its thing.
+/// Returns the place of a fact, or the place of the thing if there is no fact.
 fn fact_place(fact: Option<&Fact<'_>>, thing: &Thing<'_>) -> Location
     ensures { result ≡ option_map_or (λ f. f.now.place) fact.entry thing.now.place }
 {
@@ -35,7 +35,7 @@ fn fact_value<'t>(fact: Option<&'t Fact<'_>>) -> Option<&'t [u8]>
     }
 }
 
-/// The difference of a fact, which is that of one LDF or of both.
+/// Returns the difference of a fact. `old` and `new` are the fact in each LDF, and `fact` is one of them.
 fn fact_difference<'t>(
     class: Class,
     things: (&'t Thing<'_>, &'t Thing<'_>),
@@ -59,15 +59,14 @@ fn fact_difference<'t>(
     }
 }
 
-/// Whether a signal in the old frame, or its identifier, has one of these bits.
+/// Whether a signal or the protected identifier of the old frame occupies one of these bits.
 fn is_taken(taken: &[Bits], bits: Bits) -> bool
     ensures { result ≡ list_any (λ other. overlap other bits) taken.now }
 {
     taken.iter().any(|other| other.overlap(bits))
 }
 
-/// Returns the class of a fact that the old thing doesn't have. A signal on bits that were free is
-/// compatible.
+/// Returns the class of a fact that the old thing doesn't have. A signal on unused bits is compatible.
 fn class_if_new(old: &Thing<'_>, fact: &Fact<'_>) -> Class
     ensures { result ≡ class_of_new old.now fact.now }
 {
@@ -77,10 +76,10 @@ fn class_if_new(old: &Thing<'_>, fact: &Fact<'_>) -> Class
     }
 }
 
-/// So many facts are looked at one by one.
+/// The maximum number of facts that are searched without an index.
 const FEW: usize = 8;
 
-/// The places of facts by their keys, if there are many.
+/// Returns the places of facts by their keys, or `None` for up to `FEW` facts.
 fn index_of<'t>(alloc: Global, facts: &'t [Fact<'_>]) -> Result<Option<Index<'t>>, AllocError>
     ensures { IfOk result (λ index. IfSome index (λ i. ArePlaces (map (λ f. f.key) facts.now) i.map)) }
 {
@@ -91,7 +90,7 @@ fn index_of<'t>(alloc: Global, facts: &'t [Fact<'_>]) -> Result<Option<Index<'t>
     Ok(Some(Index::of(alloc, keys.as_slice())?))
 }
 
-/// Returns the fact with a key, by the places of all keys.
+/// Returns the fact with a key. `index` has the places of all keys.
 fn indexed_fact<'t, 'a>(
     facts: &'t [Fact<'a>],
     index: &Index<'_>,
@@ -106,7 +105,7 @@ fn indexed_fact<'t, 'a>(
     }
 }
 
-/// Returns the fact with a key.
+/// Returns the fact with a key. `index` has the places of all keys, if there is an index.
 fn fact_with<'t, 'a>(
     facts: &'t [Fact<'a>],
     index: Option<&Index<'_>>,
@@ -121,7 +120,7 @@ fn fact_with<'t, 'a>(
     }
 }
 
-/// Whether a fact has this value.
+/// Whether there is a fact and it has this value.
 fn has_value(fact: Option<&Fact<'_>>, value: &[u8]) -> bool
     ensures { result ≡ option_map_or (λ f. bytes_eq f.now.value value.now) fact.entry false }
 {
@@ -131,7 +130,7 @@ fn has_value(fact: Option<&Fact<'_>>, value: &[u8]) -> bool
     }
 }
 
-/// Adds the difference of a fact that the old thing has, where the new one doesn't have it with this value.
+/// Adds the difference of a fact of the old thing, unless the new thing has the fact with the same value.
 fn add_old_fact<'t>(
     found: &mut Vec<Difference<'t>>,
     things: (&'t Thing<'_>, &'t Thing<'_>),
@@ -150,7 +149,7 @@ fn add_old_fact<'t>(
     Ok(())
 }
 
-/// Adds the differences of the facts that the old thing has.
+/// Adds the differences of the facts of the old thing.
 pub(crate) fn add_old_facts<'t>(
     alloc: Global,
     found: &mut Vec<Difference<'t>>,
@@ -167,7 +166,7 @@ pub(crate) fn add_old_facts<'t>(
     Ok(())
 }
 
-/// Adds a fact of the new thing, if the old one doesn't have it.
+/// Adds a fact of the new thing if the old thing doesn't have it.
 fn add_new_fact<'t>(
     found: &mut Vec<Difference<'t>>,
     things: (&'t Thing<'_>, &'t Thing<'_>),
@@ -186,7 +185,7 @@ fn add_new_fact<'t>(
     Ok(())
 }
 
-/// Adds the facts that the new thing alone has.
+/// Adds the facts that only the new thing has.
 pub(crate) fn add_new_facts<'t>(
     alloc: Global,
     found: &mut Vec<Difference<'t>>,

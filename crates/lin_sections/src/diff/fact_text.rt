@@ -1,4 +1,4 @@
-//! The texts of facts: bytes of an LDF, or bytes that were made.
+//! The texts of facts: borrowed from an LDF, or owned.
 
 ghost use Rattle.std.specs.Prelude.{◌≡◌, ◌++◌, ◌<◌, IfOk, OnOk};
 ghost use Rattle.std.specs.Fmt.{decimal};
@@ -9,7 +9,7 @@ use lin_text::Text;
 use std::alloc::{AllocError, Global};
 use std::marker::Model;
 
-/// Where the bytes of a text lie.
+/// The bytes of a text, borrowed or owned.
 #[derive(Debug, Drop)]
 enum TextBytes<'a> {
     Lent(&'a [u8]),
@@ -32,7 +32,7 @@ impl<'a> Model for FactText<'a> {
 }
 
 impl<'a> FactText<'a> {
-    /// These bytes, which stand elsewhere.
+    /// Borrows bytes as a text.
     pub(crate) fn lent(bytes: &'a [u8]) -> FactText<'a>
         ensures { result ≡ bytes.now }
     {
@@ -41,7 +41,7 @@ impl<'a> FactText<'a> {
         }
     }
 
-    /// A text that was made.
+    /// Takes an owned text.
     pub(crate) fn made(text: Text) -> FactText<'a>
         ensures { result ≡ text }
     {
@@ -50,14 +50,14 @@ impl<'a> FactText<'a> {
         }
     }
 
-    /// A copy of these bytes.
+    /// Copies bytes into an owned text.
     pub(crate) fn copied(alloc: Global, bytes: &[u8]) -> Result<FactText<'a>, AllocError>
         ensures { IfOk result (λ t. t ≡ bytes.now) }
     {
         Ok(FactText::made(Text::copied(alloc, bytes)?))
     }
 
-    /// The decimal digits of a number.
+    /// Returns the decimal digits of a number.
     pub(crate) fn number(alloc: Global, number: u64) -> Result<FactText<'a>, AllocError>
         ensures { IfOk result (λ t. t ≡ decimal number) }
     {
@@ -75,7 +75,7 @@ impl<'a> FactText<'a> {
     }
 }
 
-/// The decimal digits of a number.
+/// Returns the decimal digits of a number.
 pub(crate) fn number_text(alloc: Global, number: u64) -> Result<Text, AllocError>
     ensures { IfOk result (λ t. t ≡ decimal number) }
 {
@@ -83,7 +83,7 @@ pub(crate) fn number_text(alloc: Global, number: u64) -> Result<Text, AllocError
     Text::copied(alloc, digits.format(number).as_bytes())
 }
 
-/// Puts the decimal digits of a number.
+/// Appends the decimal digits of a number.
 pub(crate) fn put_number(text: &mut Vec<u8>, number: u64) -> Result<(), AllocError>
     ensures { OnOk result (text.new.items ≡ text.old.items ++ decimal number) }
 {
@@ -92,7 +92,7 @@ pub(crate) fn put_number(text: &mut Vec<u8>, number: u64) -> Result<(), AllocErr
     Ok(())
 }
 
-/// Puts a word, after a space if it isn't the first one.
+/// Appends a word, with a space before it unless the text is empty.
 pub(crate) fn put_word(text: &mut Vec<u8>, word: &[u8]) -> Result<(), AllocError>
     ensures { OnOk result (text.new.items ≡ with_word text.old.items word.now) }
 {
@@ -114,7 +114,7 @@ fn hex_digit(four: u8) -> u8
     }
 }
 
-/// Puts two hexadecimal digits.
+/// Appends a byte as two hexadecimal digits.
 pub(crate) fn put_hex(text: &mut Vec<u8>, byte: u8) -> Result<(), AllocError>
     ensures { OnOk result (text.new.items ≡ text.old.items ++ two_hex_digits byte) }
 {
@@ -123,7 +123,7 @@ pub(crate) fn put_hex(text: &mut Vec<u8>, byte: u8) -> Result<(), AllocError>
     Ok(())
 }
 
-/// Two words with a space between them.
+/// Returns two words with a space between them.
 pub(crate) fn two_words<'a>(
     alloc: Global,
     first: &[u8],

@@ -28,8 +28,8 @@ use lin_parts::{Cluster, Location};
 use lin_text::Many;
 use std::alloc::{AllocError, Global};
 
-/// Whether the name of a schedule table is one that `--field` gives to the table of an event-triggered
-/// frame without a table.
+/// Whether `--field` added the schedule table, to resolve the collisions of an event-triggered frame. Its
+/// name has a dot.
 pub(crate) fn is_added(table: &Name) -> bool
     ensures { result ≡ has_dot table.now.text }
 {
@@ -53,7 +53,7 @@ fn model_word(model: SumKind) -> &'static [u8]
     }
 }
 
-/// Adds an identifier.
+/// Adds the fact of an identifier.
 fn add_id<'a>(alloc: Global, facts: &mut Vec<Fact<'a>>, id: Number) -> Result<(), AllocError>
     ensures { OnOk result (facts.new.items ≡ facts.old.items ++ id_fact id ∷ []) }
 {
@@ -78,7 +78,7 @@ fn bits_of(placed: &PlacedSignal, signal: Option<&Signal>) -> Bits
     }
 }
 
-/// Returns the place of a signal in a frame. `name` is its new name.
+/// Returns the fact that places a signal in a frame. `name` is the new name of the signal.
 fn place_fact<'a>(
     alloc: Global,
     name: &[u8],
@@ -95,7 +95,7 @@ fn place_fact<'a>(
     Ok(fact)
 }
 
-/// Returns what a frame is, apart from its signals. `publisher` is its publisher's new name.
+/// Returns the facts of a frame without its signals. `publisher` is the new name of its publisher.
 fn own_facts<'a>(
     alloc: Global,
     frame: &Frame,
@@ -116,7 +116,7 @@ fn own_facts<'a>(
     Ok(found)
 }
 
-/// What the frames of an LDF are looked up by.
+/// The data for the facts of frames, with signals and event-triggered members by name.
 struct FrameLookups<'b, 'a> {
     facts: &'b LdfFacts<'a>,
     renames: &'b Renames<'a>,
@@ -124,7 +124,7 @@ struct FrameLookups<'b, 'a> {
     members: KnownNames<'a>,
 }
 
-// Written out, so that what owns one lets it go in one step.
+// Written by hand, so that its owners drop it in one step.
 impl<'b, 'a> Drop for FrameLookups<'b, 'a> {
     fn drop(self) {
         let FrameLookups {
@@ -136,7 +136,7 @@ impl<'b, 'a> Drop for FrameLookups<'b, 'a> {
     }
 }
 
-/// Returns the names of the frames that event-triggered frames list.
+/// Returns the names of the members of event-triggered frames.
 fn members<'a>(alloc: Global, events: &'a [EventFrame]) -> Result<KnownNames<'a>, AllocError>
     ensures { IfOk result (λ s. (q : List ℕ) → has_in s.map q ≡ is_event_member events.now q) }
 {
@@ -176,7 +176,7 @@ impl<'b, 'a> FrameLookups<'b, 'a> {
         bits_of(placed, find_by(&self.signals, signals, &placed.signal))
     }
 
-    /// Adds the places of signals.
+    /// Adds the facts that place signals in a frame.
     fn add_places(
         &self,
         alloc: Global,
@@ -194,7 +194,8 @@ impl<'b, 'a> FrameLookups<'b, 'a> {
         Ok(())
     }
 
-    /// Returns the bits of a frame that its identifier has, if an event-triggered frame lists it.
+    /// Returns the bits of the protected identifier in a member of an event-triggered frame, and no bits
+    /// for other frames.
     fn identifier_bits(&self, alloc: Global, frame: &Frame) -> Result<Vec<Bits>, AllocError>
         requires { AreFrameLookups self.now }
         ensures { IfOk result (λ v. v.items
@@ -220,7 +221,7 @@ impl<'b, 'a> FrameLookups<'b, 'a> {
         Ok(())
     }
 
-    /// Returns the bits of a frame that a signal or its identifier has.
+    /// Returns the bits of a frame that its signals or its protected identifier occupy.
     fn taken(&self, alloc: Global, frame: &Frame) -> Result<Vec<Bits>, AllocError>
         requires { AreFrameLookups self.now }
         ensures { IfOk result (λ v. v.items
@@ -231,7 +232,7 @@ impl<'b, 'a> FrameLookups<'b, 'a> {
         Ok(taken)
     }
 
-    /// Returns a frame.
+    /// Returns an unconditional frame as a thing.
     fn thing(
         &self,
         alloc: Global,
@@ -265,7 +266,7 @@ fn models(alloc: Global, cluster: &Cluster) -> Result<Vec<SumKind>, AllocError>
     Ok(models)
 }
 
-/// Returns the unconditional frames.
+/// Returns the unconditional frames as things.
 pub(crate) fn things<'a>(
     alloc: Global,
     facts: &LdfFacts<'a>,
@@ -284,7 +285,7 @@ pub(crate) fn things<'a>(
     Ok(things)
 }
 
-/// Returns the new names of frames, in their order.
+/// Returns the new names of frames, with a space between them.
 fn member_names<'a>(
     alloc: Global,
     members: &'a [Name],
@@ -299,7 +300,7 @@ fn member_names<'a>(
     FactText::copied(alloc, text.as_slice())
 }
 
-/// Returns the place of the first of these names, or else of another one.
+/// Returns the place of the first member, or the place of `name` if there are no members.
 fn place_of_first(members: &[Name], name: &Name) -> Location
     ensures { result ≡ place_of_first members.now name.now }
 {
@@ -327,7 +328,7 @@ fn sporadic_thing<'a>(
     Ok(Thing::new(alloc, ThingKind::Sporadic, names, place, found))
 }
 
-/// Returns the sporadic frames.
+/// Returns the sporadic frames as things.
 pub(crate) fn sporadic_things<'a>(
     alloc: Global,
     facts: &LdfFacts<'a>,
@@ -343,7 +344,7 @@ pub(crate) fn sporadic_things<'a>(
     Ok(things)
 }
 
-/// Returns the new names of frames, in the order of their bytes.
+/// Returns the new names of frames, sorted by their bytes, with a space between them.
 fn sorted_names<'a>(
     alloc: Global,
     members: &'a [Name],
@@ -360,7 +361,7 @@ fn sorted_names<'a>(
     joined(alloc, names.as_slice())
 }
 
-/// Adds the table that resolves collisions, unless `--field` adds it.
+/// Adds the collision resolving table, unless `--field` added it.
 #[tactic(auto, using(crate::proofs::StatementSteps::nothing_more))]
 fn add_table<'a>(
     facts: &mut Vec<Fact<'a>>,
@@ -402,7 +403,7 @@ fn event_thing<'a>(
     Ok(Thing::new(alloc, ThingKind::Event, names, place_of(&event.name), found))
 }
 
-/// Returns the event-triggered frames.
+/// Returns the event-triggered frames as things.
 pub(crate) fn event_things<'a>(
     alloc: Global,
     facts: &LdfFacts<'a>,
@@ -418,7 +419,7 @@ pub(crate) fn event_things<'a>(
     Ok(things)
 }
 
-/// Adds the key of a thing that isn't among other names: its identifier, or its address.
+/// Adds the key of a thing if its name isn't among `others`. `number` is its identifier or its NAD.
 #[tactic(auto, using(crate::proofs::StatementSteps::nothing_more))]
 pub(crate) fn add_number_key<'a>(
     alloc: Global,
@@ -438,7 +439,7 @@ pub(crate) fn add_number_key<'a>(
     Ok(())
 }
 
-/// Returns the keys of the unconditional frames that aren't among other names.
+/// Returns the keys of the unconditional frames whose names aren't among `others`.
 pub(crate) fn keys<'a>(
     alloc: Global,
     facts: &LdfFacts<'a>,
@@ -453,7 +454,7 @@ pub(crate) fn keys<'a>(
     Ok(keys)
 }
 
-/// Returns the keys of the event-triggered frames that aren't among other names.
+/// Returns the keys of the event-triggered frames whose names aren't among `others`.
 pub(crate) fn event_keys<'a>(
     alloc: Global,
     facts: &LdfFacts<'a>,
@@ -468,7 +469,7 @@ pub(crate) fn event_keys<'a>(
     Ok(keys)
 }
 
-/// Adds the key of a sporadic frame that isn't among other names: its members.
+/// Adds the key of a sporadic frame, its members, if its name isn't among `others`.
 #[tactic(auto, using(crate::proofs::StatementSteps::nothing_more))]
 fn add_sporadic_key<'a>(
     alloc: Global,
@@ -488,7 +489,7 @@ fn add_sporadic_key<'a>(
     Ok(())
 }
 
-/// Returns the keys of the sporadic frames that aren't among other names.
+/// Returns the keys of the sporadic frames whose names aren't among `others`.
 pub(crate) fn sporadic_keys<'a>(
     alloc: Global,
     facts: &LdfFacts<'a>,

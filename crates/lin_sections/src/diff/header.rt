@@ -31,7 +31,7 @@ pub(crate) fn place_of(number: Number) -> Location
     }
 }
 
-/// Adds a number with its place.
+/// Adds the fact of a number.
 pub(crate) fn add_number<'a>(
     alloc: Global,
     facts: &mut Vec<Fact<'a>>,
@@ -57,14 +57,14 @@ fn version_text<'a>(alloc: Global, parser: &Parser<'a>) -> Result<FactText<'a>, 
     Ok(FactText::lent(parser.text()))
 }
 
-/// Returns the first line with a word.
+/// Returns the first line that begins with a word.
 fn line_with<'l, 'a>(lines: &'l [Attribute<'a>], word: &[u8]) -> Option<&'l Attribute<'a>>
     ensures { option_copied result ≡ find (is_word_next word.now) lines.now }
 {
     lines.iter().find(|line| line.is(word))
 }
 
-/// Adds the version in a line.
+/// Adds the version in a line if the line has one.
 #[tactic(auto, using(crate::proofs::StatementSteps::nothing_more))]
 fn add_version_line<'a>(
     alloc: Global,
@@ -85,7 +85,7 @@ fn add_version_line<'a>(
     Ok(())
 }
 
-/// Adds a version, if a line has it.
+/// Adds the version in the first line that begins with a word.
 #[tactic(auto, using(crate::proofs::StatementSteps::nothing_more))]
 fn add_version<'a>(
     alloc: Global,
@@ -103,7 +103,7 @@ fn add_version<'a>(
     }
 }
 
-/// Whether a line of the header is none of those that each LDF has.
+/// Whether a line of the header isn't one of the lines that each LDF has.
 fn is_other(line: &Attribute<'_>) -> bool
     ensures { result ≡ is_other_line line.now }
 {
@@ -113,7 +113,7 @@ fn is_other(line: &Attribute<'_>) -> bool
         || line.is(b"LIN_speed"))
 }
 
-/// Returns the fact of another line.
+/// Returns the fact of a further line.
 fn line_fact<'a>(alloc: Global, line: &Attribute<'a>) -> Result<Fact<'a>, AllocError>
     ensures { IfOk result (λ f. f ≡ line_fact line.now) }
 {
@@ -122,7 +122,7 @@ fn line_fact<'a>(alloc: Global, line: &Attribute<'a>) -> Result<Fact<'a>, AllocE
     Ok(Fact::new(key, value, line.place(), Class::Names))
 }
 
-/// Adds a line, if it is another one.
+/// Adds a line if it isn't one of the lines that each LDF has.
 #[tactic(auto, using(crate::proofs::StatementSteps::nothing_more))]
 fn add_line<'a>(
     alloc: Global,
@@ -138,7 +138,7 @@ fn add_line<'a>(
     Ok(())
 }
 
-/// Adds the other lines.
+/// Adds the lines that not each LDF has.
 fn add_lines<'a>(
     alloc: Global,
     facts: &mut Vec<Fact<'a>>,
@@ -189,7 +189,7 @@ fn facts_of<'a>(alloc: Global, facts: &LdfFacts<'a>) -> Result<Vec<Fact<'a>>, Al
     Ok(found)
 }
 
-/// Returns the header of an LDF.
+/// Returns the header of an LDF as a thing.
 pub(crate) fn thing<'a>(alloc: Global, facts: &LdfFacts<'a>) -> Result<Thing<'a>, AllocError>
     requires { IsReadOf facts.now }
     ensures { IfOk result (λ t. t ≡ header_thing (compared_data facts.now.ldf)) }

@@ -1,4 +1,4 @@
-//! Texts, found by their bytes.
+//! An index of texts.
 
 ghost use Rattle.std.specs.Prelude.{◌≡◌, ℕ, IfOk, List, map};
 ghost use Rattle.std.specs.List.{position_from};
@@ -9,12 +9,12 @@ use indexmap::IndexMap;
 use lin_values::put_first;
 use std::alloc::{AllocError, Global};
 
-/// The place of the first of some texts with the same bytes.
+/// The places of texts by their bytes. Of equal texts it has the first place.
 pub(crate) struct Index<'k> {
     pub(crate) map: IndexMap<&'k [u8], usize>,
 }
 
-// Written out, so that what owns one lets it go in one step.
+// Written by hand, so that its owners drop it in one step.
 impl<'k> Drop for Index<'k> {
     fn drop(self) {
         let Index { map: _map } = self;
@@ -22,7 +22,7 @@ impl<'k> Drop for Index<'k> {
 }
 
 impl<'k> Index<'k> {
-    /// Looks at each text once.
+    /// Makes the index of texts.
     pub(crate) fn of(alloc: Global, texts: &[&'k [u8]]) -> Result<Index<'k>, AllocError>
         ensures { IfOk result (λ index. ArePlaces (map (λ t. t.now) texts.now) index.map) }
     {
@@ -35,7 +35,7 @@ impl<'k> Index<'k> {
         Ok(index)
     }
 
-    /// Returns the place of the first one.
+    /// Returns the place of the first text with these bytes.
     pub(crate) fn place_of(&self, text: &[u8]) -> Option<usize>
         ensures { (texts : List (List ℕ)) → ArePlaces texts self.now.map
             → result ≡ position_from (λ t. bytes_eq t text.now) 0 texts }

@@ -37,7 +37,7 @@ impl Classes {
     }
 }
 
-/// Whether one of these differences is listed: its class is one of these.
+/// Whether one of the differences has a listed class.
 pub fn is_any_listed(differences: &[Difference<'_>], classes: Classes) -> bool
     ensures { result ≡ list_any (λ d. lists_class classes d.class) differences.now }
 {
@@ -46,7 +46,7 @@ pub fn is_any_listed(differences: &[Difference<'_>], classes: Classes) -> bool
         .any(|difference| classes.has(difference.class))
 }
 
-/// A place in a file after a space, and `-` for none.
+/// Writes a space and a place in a file, or `-` if there is no place.
 fn put_place<W: Write>(out: &mut TextWriter<'_, W>, file: &str, place: Option<Location>)
     ensures { Grows W.contents out.old out.new (after_space (file_place file.now place)) }
 {
@@ -61,7 +61,7 @@ fn put_place<W: Write>(out: &mut TextWriter<'_, W>, file: &str, place: Option<Lo
     }
 }
 
-/// A word after a space, if there is one.
+/// Writes a space and a word, unless the word is empty.
 fn put_part<W: Write>(out: &mut TextWriter<'_, W>, word: &[u8])
     ensures { Grows W.contents out.old out.new (part word.now) }
 {
@@ -71,7 +71,7 @@ fn put_part<W: Write>(out: &mut TextWriter<'_, W>, word: &[u8])
     }
 }
 
-/// A value after a space, and `-` for none.
+/// Writes a space and a value, or `-` if there is no value.
 fn put_value<W: Write>(out: &mut TextWriter<'_, W>, value: Option<&[u8]>)
     ensures { Grows W.contents out.old out.new
         (after_space (fact_value_word (option_map (λ v. v.now) value.entry))) }
@@ -106,7 +106,7 @@ fn put_difference<W: Write>(
     out.put_byte(b'\n');
 }
 
-/// The line of a difference, if its class is listed.
+/// Writes the line of a difference if its class is listed.
 fn put_if_listed<W: Write>(
     out: &mut TextWriter<'_, W>,
     old_file: &str,
@@ -137,10 +137,10 @@ fn put_listed<W: Write>(
     }
 }
 
-/// Writes a line for each difference of these classes: its class, its places in both files, what differs,
+/// Writes a line for each difference with a listed class: its class, its places in both files, its subject
 /// and its values.
 ///
-/// It goes through a buffer of fixed size, and takes no memory. The writer isn't flushed.
+/// The lines go through a buffer of fixed size, without an allocation. The writer isn't flushed.
 ///
 /// # Errors
 /// `WriteFailed` at the first error of the writer, an interrupted write too, and at the first write

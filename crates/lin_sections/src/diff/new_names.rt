@@ -1,4 +1,4 @@
-//! The names that the new LDF has for the things of the old one.
+//! The names of the old LDF's things in the new LDF.
 
 ghost use Rattle.std.specs.Prelude.{◌≡◌, ◌||◌, ℕ, IfOk, List, OnOk, Some, None, false, if◌then◌else◌, map, option_map};
 ghost use Rattle.std.specs.Option.{option_or};
@@ -13,12 +13,12 @@ use lin_cluster::Named;
 use lin_values::put_first;
 use std::alloc::{AllocError, Global};
 
-/// Names of things of a kind.
+/// Names of things of one kind.
 pub(crate) struct KnownNames<'a> {
     map: IndexMap<&'a [u8], ()>,
 }
 
-// Written out, so that what owns one lets it go in one step.
+// Written by hand, so that its owners drop it in one step.
 impl<'a> Drop for KnownNames<'a> {
     fn drop(self) {
         let KnownNames { map: _map } = self;
@@ -26,7 +26,7 @@ impl<'a> Drop for KnownNames<'a> {
 }
 
 impl<'a> KnownNames<'a> {
-    /// No names.
+    /// Makes an empty collection.
     pub(crate) fn new(alloc: Global) -> Result<KnownNames<'a>, AllocError>
         ensures { IfOk result (λ s. (q : List ℕ) → has_in s.map q ≡ false) }
     {
@@ -35,7 +35,7 @@ impl<'a> KnownNames<'a> {
         })
     }
 
-    /// The names of these.
+    /// Collects the names of things.
     pub(crate) fn of<T: Named>(alloc: Global, all: &'a [T]) -> Result<KnownNames<'a>, AllocError>
         ensures { IfOk result (λ s. (q : List ℕ)
             → has_in s.map q ≡ is_among (map (λ x. (T.name_of x).text) all.now) q) }
@@ -59,7 +59,7 @@ impl<'a> KnownNames<'a> {
         Ok(())
     }
 
-    /// Adds the names of these.
+    /// Adds the names of things.
     pub(crate) fn add_all<T: Named>(&mut self, all: &'a [T]) -> Result<(), AllocError>
         ensures { OnOk result ((q : List ℕ) → has_in self.new.map q
             ≡ (has_in self.old.map q || is_among (map (λ x. (T.name_of x).text) all.now) q)) }
@@ -72,22 +72,22 @@ impl<'a> KnownNames<'a> {
     }
 }
 
-/// A thing that has its name in one LDF alone, and the key by which it is found in the other.
+/// A thing whose name only one LDF has, with the key that identifies it in the other LDF.
 #[derive(Drop)]
 pub(crate) struct Keyed<'a> {
     pub(crate) name: &'a [u8],
     pub(crate) key: FactText<'a>,
 }
 
-/// The name that the new LDF has for each name of the old one.
+/// The new name for each name of the old LDF.
 pub(crate) struct NewNames<'a> {
-    /// The names that stay.
+    /// The names that don't change.
     pub(crate) kept: KnownNames<'a>,
-    /// The new names of others.
+    /// The new names of renamed things.
     pub(crate) renamed: IndexMap<&'a [u8], &'a [u8]>,
 }
 
-// Written out, so that what owns one lets it go in one step.
+// Written by hand, so that its owners drop it in one step.
 impl<'a> Drop for NewNames<'a> {
     fn drop(self) {
         let NewNames {
@@ -97,19 +97,19 @@ impl<'a> Drop for NewNames<'a> {
     }
 }
 
-/// The things with each key: the name of the only one, `None` if there are several.
+/// The name of the only thing with each key; `None` if several things have the key.
 struct KeyNames<'k, 'a> {
     map: IndexMap<&'k [u8], Option<&'a [u8]>>,
 }
 
-// Written out, so that what owns one lets it go in one step.
+// Written by hand, so that its owners drop it in one step.
 impl<'k, 'a> Drop for KeyNames<'k, 'a> {
     fn drop(self) {
         let KeyNames { map: _map } = self;
     }
 }
 
-/// Looks at each key once.
+/// Returns the names of things by their keys.
 fn key_names<'k, 'a>(alloc: Global, things: &'k [Keyed<'a>]) -> Result<KeyNames<'k, 'a>, AllocError>
     ensures { IfOk result (λ n. (q : List ℕ) → HasOnly n (map keyed_name things.now) q) }
 {
@@ -123,7 +123,7 @@ fn key_names<'k, 'a>(alloc: Global, things: &'k [Keyed<'a>]) -> Result<KeyNames<
 }
 
 impl<'k, 'a> KeyNames<'k, 'a> {
-    /// Returns a name, and nothing if the key is there.
+    /// Returns the name, or `None` if the key is known.
     fn if_new(&self, key: &[u8], name: &'a [u8]) -> Option<&'a [u8]>
         ensures { option_map (λ n. n.now) result
             ≡ (if has_in self.now.map key.now then None else Some name.now) }
@@ -135,7 +135,7 @@ impl<'k, 'a> KeyNames<'k, 'a> {
         }
     }
 
-    /// Adds a thing: its key has no name if it is there.
+    /// Adds a thing. A key that is known then has no name.
     fn add(&mut self, thing: &'k Keyed<'a>) -> Result<(), AllocError>
         ensures only { OnOk result ((q : List ℕ)
             → only_in self.new.map q ≡ only_after self.old.map thing.now q) }
@@ -148,7 +148,7 @@ impl<'k, 'a> KeyNames<'k, 'a> {
         Ok(())
     }
 
-    /// Returns the name of the only thing with a key.
+    /// Returns the name of the only thing with a key, or `None` unless exactly one thing has it.
     fn only(&self, key: &[u8]) -> Option<&'a [u8]>
         ensures { option_map (λ n. n.now) result ≡ only_in self.now.map key.now }
     {
@@ -159,8 +159,8 @@ impl<'k, 'a> KeyNames<'k, 'a> {
     }
 }
 
-/// Returns the new name of a thing: that of the only thing of the new LDF with its key, if no other one of
-/// the old LDF has the key, and else its own.
+/// Returns the new name of a thing. If exactly one thing of each LDF has its key, the new name is the name
+/// in the new LDF. Otherwise the name doesn't change.
 fn new_name<'a>(olds: &KeyNames<'_, 'a>, news: &KeyNames<'_, 'a>, old: &Keyed<'a>) -> &'a [u8]
     ensures { (os ns : List KeyedName)
         → HasOnly olds.now os old.now.key → HasOnly news.now ns old.now.key
@@ -174,7 +174,7 @@ fn new_name<'a>(olds: &KeyNames<'_, 'a>, news: &KeyNames<'_, 'a>, old: &Keyed<'a
 }
 
 impl<'a> NewNames<'a> {
-    /// No names.
+    /// Makes an empty collection.
     pub(crate) fn new(alloc: Global) -> Result<NewNames<'a>, AllocError>
         ensures { IfOk result (λ n. (q : List ℕ) → known_by n q ≡ None) }
     {
@@ -184,7 +184,7 @@ impl<'a> NewNames<'a> {
         })
     }
 
-    /// Returns the new name of a thing that the old LDF has.
+    /// Returns the new name of a thing, or `None` if its name isn't known.
     pub(crate) fn get(&self, name: &'a [u8]) -> Option<&'a [u8]>
         ensures { option_map (λ n. n.now) result ≡ known_by self.now name.now }
     {
@@ -195,7 +195,7 @@ impl<'a> NewNames<'a> {
         }
     }
 
-    /// Returns the new name, or the name itself.
+    /// Returns the new name of a thing, or its own name if it isn't renamed.
     pub(crate) fn of(&self, name: &'a [u8]) -> &'a [u8]
         ensures { result.now ≡ name_in (known_by self.now) name.now }
     {
@@ -208,7 +208,7 @@ impl<'a> NewNames<'a> {
         }
     }
 
-    /// Adds a name that stays, if it isn't there.
+    /// Adds a name that doesn't change, unless it is known.
     pub(crate) fn add(&mut self, name: &'a [u8]) -> Result<(), AllocError>
         ensures { OnOk result
             (AddsNames self.old self.new (λ q. if bytes_eq name.now q then Some q else None)) }
@@ -216,7 +216,7 @@ impl<'a> NewNames<'a> {
         self.kept.add(name)
     }
 
-    /// Adds the names of things that aren't there: each stays.
+    /// Adds the names of things, which don't change, unless they are known.
     pub(crate) fn add_all<T: Named>(&mut self, all: &'a [T]) -> Result<(), AllocError>
         ensures { OnOk result
             (AddsNames self.old self.new (stays (map (λ x. (T.name_of x).text) all.now))) }
@@ -224,7 +224,7 @@ impl<'a> NewNames<'a> {
         self.kept.add_all(all)
     }
 
-    /// Adds a name with its new name, if it isn't there.
+    /// Adds a name with its new name, unless it is known.
     fn put(&mut self, name: &'a [u8], new: &'a [u8]) -> Result<(), AllocError>
         ensures { OnOk result
             (AddsNames self.old self.new (λ q. if bytes_eq name.now q then Some new.now else None)) }
@@ -238,8 +238,7 @@ impl<'a> NewNames<'a> {
         Ok(())
     }
 
-    /// Adds the new names of things that have their names in the old LDF alone. Names that are there keep
-    /// their new names.
+    /// Adds the new names of things whose names only the old LDF has. Known names keep their new names.
     pub(crate) fn add_renamed(
         &mut self,
         alloc: Global,

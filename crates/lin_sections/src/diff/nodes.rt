@@ -66,7 +66,7 @@ fn nad_of(block: Option<&Attributes>) -> Option<Number>
     }
 }
 
-/// Adds the key of a responder that isn't among other names: its address, if it has one.
+/// Adds the key of a responder, its NAD, if it has one and its name isn't among `others`.
 #[tactic(auto, using(crate::proofs::StatementSteps::nothing_more))]
 fn add_key<'a>(
     alloc: Global,
@@ -83,7 +83,7 @@ fn add_key<'a>(
     }
 }
 
-/// Returns the key of the commander, if it isn't among other names.
+/// Returns the key of the commander if its name isn't among `others`.
 fn commander_keys<'a>(
     alloc: Global,
     description: &'a Description,
@@ -100,7 +100,8 @@ fn commander_keys<'a>(
     Ok(keys)
 }
 
-/// Adds the keys of the responders that aren't among other names. `attributes` are those of nodes.
+/// Adds the keys of the responders whose names aren't among `others`. `attributes` has the attributes of
+/// all nodes.
 fn add_responder_keys<'a>(
     alloc: Global,
     keys: &mut Vec<Keyed<'a>>,
@@ -123,7 +124,7 @@ fn add_responder_keys<'a>(
     Ok(())
 }
 
-/// Returns the keys of the nodes that aren't among other names: that it is the commander, or an address.
+/// Returns the keys of the nodes whose names aren't among `others`: the word `commander`, or a NAD.
 pub(crate) fn keys<'a>(
     alloc: Global,
     facts: &LdfFacts<'a>,
@@ -138,7 +139,7 @@ pub(crate) fn keys<'a>(
     Ok(keys)
 }
 
-/// Returns the value of an attribute, and its class.
+/// Returns the value and the class of an attribute.
 fn attribute_value<'a>(
     alloc: Global,
     attribute: &Attribute<'a>,
@@ -178,7 +179,7 @@ fn attribute_value<'a>(
     Ok((value, Class::Timing))
 }
 
-/// Adds an attribute, unless its value is a fact of the node itself.
+/// Adds an attribute, unless another fact of the node has its value.
 #[tactic(auto, using(crate::proofs::StatementSteps::nothing_more))]
 fn add_attribute<'a>(
     alloc: Global,
@@ -214,7 +215,7 @@ fn add_all<'a>(
     Ok(())
 }
 
-/// Adds the attributes of a node, if the text has any.
+/// Adds the attributes of a node if the LDF has any.
 #[tactic(auto, using(crate::proofs::StatementSteps::nothing_more))]
 fn add_attributes<'a>(
     alloc: Global,
@@ -231,7 +232,7 @@ fn add_attributes<'a>(
     }
 }
 
-/// Adds the version in the attributes of a node.
+/// Adds the `LIN_protocol` of a node if it has one.
 #[tactic(auto, using(crate::proofs::StatementSteps::nothing_more))]
 fn add_protocol<'a>(
     alloc: Global,
@@ -251,7 +252,7 @@ fn add_protocol<'a>(
     Ok(())
 }
 
-/// Returns what a node is in the cluster.
+/// Returns the role of a node in the cluster.
 fn role_fact<'a>(role: &'static [u8], name: &Name) -> Fact<'a>
     ensures { result ≡ role_fact role.now name.now }
 {
@@ -259,7 +260,7 @@ fn role_fact<'a>(role: &'static [u8], name: &Name) -> Fact<'a>
     Fact::new(FactText::lent(b"role"), value, place_of(name), Class::Bytes)
 }
 
-/// Adds the address of a responder.
+/// Adds the NAD of a responder if it has one.
 #[tactic(auto, using(crate::proofs::StatementSteps::nothing_more))]
 fn add_nad<'a>(
     alloc: Global,
@@ -275,7 +276,7 @@ fn add_nad<'a>(
     }
 }
 
-/// Returns a node with these facts.
+/// Returns a node as a thing with these facts.
 fn node_thing<'a>(
     alloc: Global,
     name: &'a Name,
@@ -290,14 +291,14 @@ fn node_thing<'a>(
     Ok(Thing::new(alloc, ThingKind::Node, names, place_of(name), found))
 }
 
-/// The attributes of nodes, found by their names: those of the description, and those of the text.
+/// The attributes of nodes by name: the ones of the description, and all attributes of the LDF.
 struct Blocks<'b, 'a> {
     facts: &'b LdfFacts<'a>,
     declared: Numbers<'a>,
     read: Numbers<'b>,
 }
 
-// Written out, so that what owns one lets it go in one step.
+// Written by hand, so that its owners drop it in one step.
 impl<'b, 'a> Drop for Blocks<'b, 'a> {
     fn drop(self) {
         let Blocks {
@@ -321,7 +322,7 @@ impl<'b, 'a> Blocks<'b, 'a> {
         })
     }
 
-    /// Returns the attributes of a node that the description has.
+    /// Returns the attributes of a node in the description.
     fn declared(&self, name: &Name) -> Option<&'a Attributes>
         requires { AreBlocks self.now }
         ensures { option_map (λ b. b.now) result ≡ block_named self.now.facts.now.ldf.description.now name.now }
@@ -331,7 +332,7 @@ impl<'b, 'a> Blocks<'b, 'a> {
         find_by(&self.declared, blocks, name)
     }
 
-    /// Returns the attributes of a node that the text has.
+    /// Returns all attributes of a node in the LDF.
     fn read(&self, name: &Name) -> Option<&'b NodeAttributes<'a>>
         requires { AreBlocks self.now }
         ensures { option_map (λ b. b.now) result ≡ find (λ b. same_name b.node name.now)
@@ -357,7 +358,7 @@ impl<'b, 'a> Blocks<'b, 'a> {
         add_attributes(alloc, found, self.read(name), renames)
     }
 
-    /// Returns the commander.
+    /// Returns the commander as a thing.
     fn commander(&self, alloc: Global, renames: &Renames<'a>) -> Result<Thing<'a>, AllocError>
         requires { AreBlocks self.now }
         ensures { IfOk result (λ t. t
@@ -371,7 +372,7 @@ impl<'b, 'a> Blocks<'b, 'a> {
         node_thing(alloc, name, found, renames)
     }
 
-    /// Returns a responder.
+    /// Returns a responder as a thing.
     fn responder(
         &self,
         alloc: Global,
@@ -390,7 +391,7 @@ impl<'b, 'a> Blocks<'b, 'a> {
     }
 }
 
-/// Returns the nodes, the commander first.
+/// Returns the nodes as things, the commander first.
 pub(crate) fn things<'a>(
     alloc: Global,
     facts: &LdfFacts<'a>,

@@ -1,4 +1,4 @@
-//! The numbers of keys and words that come several times.
+//! The numbers of repeated keys and words.
 
 ghost use Rattle.std.specs.Prelude.{◌≡◌, ◌+◌, ◌++◌, ◌∷◌, ◌<◌, ◌^◌, [], ℕ, IfOk, List, OnOk, length, map};
 ghost use Rattle.lin_sections.specs.Numbering.{again_text, count_of, numbered_facts, numbered_entries};
@@ -10,12 +10,12 @@ use indexmap::IndexMap;
 use lin_text::Text;
 use std::alloc::{AllocError, Global};
 
-/// How often each text came.
+/// How often each text occurred.
 struct TextCounts<'a> {
     map: IndexMap<&'a [u8], usize>,
 }
 
-// Written out, so that what owns one lets it go in one step.
+// Written by hand, so that its owners drop it in one step.
 impl<'a> Drop for TextCounts<'a> {
     fn drop(self) {
         let TextCounts { map: _map } = self;
@@ -23,7 +23,7 @@ impl<'a> Drop for TextCounts<'a> {
 }
 
 impl<'a> TextCounts<'a> {
-    /// Returns how often a text came, and counts it.
+    /// Returns how often a text occurred before, and counts it.
     fn count(&mut self, text: &'a [u8]) -> Result<usize, AllocError>
         ensures count { IfOk result (λ n. (texts : List (List ℕ)) → AreTextCounts texts self.old.map
             → n ≡ count_of texts text.now) }
@@ -36,7 +36,7 @@ impl<'a> TextCounts<'a> {
     }
 }
 
-/// Returns a text with its number, where so many earlier ones are the same. `numbered` is memory for it.
+/// Returns a text with its number if `count` earlier texts are the same. `numbered` is memory for the text.
 fn again_text(
     alloc: Global,
     numbered: &mut Vec<u8>,
@@ -53,7 +53,7 @@ fn again_text(
     Text::copied(alloc, numbered.as_slice())
 }
 
-/// Returns for each text how many earlier ones are the same.
+/// Returns for each text the number of earlier texts that are the same.
 fn repeats(alloc: Global, texts: &[&[u8]]) -> Result<Vec<usize>, AllocError>
     ensures { IfOk result (λ v. v.items ≡ repeats (map (λ t. t.now) texts.now)) }
 {
@@ -89,7 +89,7 @@ fn words_of<'t>(alloc: Global, entries: &'t [EntryFact<'_>]) -> Result<Vec<&'t [
     Ok(words)
 }
 
-/// Adds its number to the key of a fact, if so many earlier ones have the key.
+/// Adds a number to the key of a fact if `count`, the number of earlier facts with the key, isn't 0.
 fn number_fact(
     alloc: Global,
     text: &mut Vec<u8>,
@@ -106,7 +106,7 @@ fn number_fact(
     Ok(())
 }
 
-/// Adds its number to each key that an earlier fact has.
+/// Adds a number to each key that an earlier fact has.
 pub(crate) fn numbered<'a>(alloc: Global, facts: Vec<Fact<'a>>) -> Result<Vec<Fact<'a>>, AllocError>
     ensures { IfOk result (λ v. v.items ≡ numbered_facts facts.entry.items) }
 {
@@ -122,7 +122,7 @@ pub(crate) fn numbered<'a>(alloc: Global, facts: Vec<Fact<'a>>) -> Result<Vec<Fa
     Ok(facts)
 }
 
-/// Gives an entry its number, if so many earlier ones have its word.
+/// Adds a number to an entry if `count`, the number of earlier entries with its word, isn't 0.
 fn number_entry(
     alloc: Global,
     text: &mut Vec<u8>,
@@ -139,7 +139,7 @@ fn number_entry(
     Ok(())
 }
 
-/// Gives each entry whose word an earlier one has its number.
+/// Adds a number to each entry whose word an earlier entry has.
 pub(crate) fn numbered_entries<'a>(
     alloc: Global,
     entries: Vec<EntryFact<'a>>,

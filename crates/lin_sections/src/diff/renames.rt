@@ -1,5 +1,5 @@
-//! The things that have another name in the new LDF: their kinds in order, since the key of one has the
-//! new names of others.
+//! The things that have another name in the new LDF. They are found kind by kind, because the key of a
+//! thing contains the new names of things of earlier kinds.
 
 ghost use Rattle.std.specs.Prelude.{◌≡◌, ℕ, IfOk, List, OnOk, map};
 ghost use Rattle.std.specs.Option.{option_or};
@@ -17,8 +17,7 @@ use crate::diff::{encodings, frames, nodes, signals, tables};
 use lin_cluster::Named;
 use std::alloc::{AllocError, Global};
 
-/// The names that the new LDF has for the things of the old one, of each kind. Frames of all kinds are
-/// together.
+/// The new names of the old LDF's things by kind. Frames of all kinds share one collection.
 #[derive(Drop)]
 pub(crate) struct Renames<'a> {
     pub(crate) nodes: NewNames<'a>,
@@ -28,7 +27,7 @@ pub(crate) struct Renames<'a> {
     pub(crate) encodings: NewNames<'a>,
 }
 
-/// Two LDFs, and names of which each stays.
+/// Two LDFs, and renames that change no name.
 #[derive(Clone, Copy)]
 struct Ldfs<'l, 'a> {
     old: &'l LdfFacts<'a>,
@@ -36,7 +35,7 @@ struct Ldfs<'l, 'a> {
     none: &'l Renames<'a>,
 }
 
-/// Adds the new names of the things of a kind: of those with keys, and of the others, which stay.
+/// Adds the new names of the things of a kind. Only the names of things with keys can change.
 fn add_names<'a, T: Named>(
     alloc: Global,
     names: &mut NewNames<'a>,
@@ -52,7 +51,7 @@ fn add_names<'a, T: Named>(
 }
 
 impl<'a> Renames<'a> {
-    /// Each name stays.
+    /// Makes renames that change no name.
     pub(crate) fn none(alloc: Global) -> Result<Renames<'a>, AllocError>
         ensures { IfOk result (λ r. renames_data r ≡ no_renames) }
     {
@@ -65,7 +64,8 @@ impl<'a> Renames<'a> {
         })
     }
 
-    /// Returns the new name of a node, or else of a frame, or else of a signal, or else the word.
+    /// Returns the new name of a node, a frame or a signal. The first kind that knows the word decides;
+    /// otherwise the word doesn't change.
     pub(crate) fn any(&self, word: &'a [u8]) -> &'a [u8]
         ensures { result.now ≡ any_name (renames_data self.now) word.now }
     {

@@ -43,7 +43,7 @@ fn size_text<'a>(alloc: Global, signal: &Signal) -> Result<FactText<'a>, AllocEr
     }
 }
 
-/// Returns the bytes of an array as in scripts.
+/// Returns the bytes of an array in the syntax of scripts.
 fn array_text<'a>(alloc: Global, values: &[Number]) -> Result<FactText<'a>, AllocError>
     ensures { IfOk result (λ t. t ≡ array_text values.now) }
 {
@@ -54,7 +54,7 @@ fn array_text<'a>(alloc: Global, values: &[Number]) -> Result<FactText<'a>, Allo
     FactText::copied(alloc, text.as_slice())
 }
 
-/// Returns the initial value of a signal as in scripts.
+/// Returns the fact of a signal's initial value, in the syntax of scripts.
 fn initial_fact<'a>(alloc: Global, init: &Init) -> Result<Fact<'a>, AllocError>
     ensures { IfOk result (λ f. f ≡ initial_fact init.now) }
 {
@@ -75,7 +75,7 @@ fn is_known(facts: &[Fact<'_>], name: &[u8]) -> bool
     facts.iter().any(|fact| fact.class.is_compatible() && fact.value.as_slice() == name)
 }
 
-/// Adds a subscriber, if it isn't there already.
+/// Adds a subscriber unless an earlier fact has it.
 fn add_subscriber<'a>(
     alloc: Global,
     facts: &mut Vec<Fact<'a>>,
@@ -111,7 +111,7 @@ fn add_subscribers<'a>(
     Ok(())
 }
 
-/// Returns the size of a signal, its initial value and its publisher.
+/// Returns the facts of a signal's size, initial value and publisher.
 fn value_facts<'a>(
     alloc: Global,
     signal: &'a Signal,
@@ -130,7 +130,7 @@ fn value_facts<'a>(
     Ok(found)
 }
 
-/// Adds the encoding of a signal.
+/// Adds the encoding of a signal if it has one.
 #[tactic(auto, using(crate::proofs::StatementSteps::nothing_more))]
 fn add_encoding<'a>(
     facts: &mut Vec<Fact<'a>>,
@@ -160,7 +160,7 @@ fn encoding_of<'a>(facts: &LdfFacts<'a>, signal: &Signal) -> Option<&'a CodingTy
     }
 }
 
-/// Returns a signal.
+/// Returns a signal as a thing.
 fn thing<'a>(
     alloc: Global,
     facts: &LdfFacts<'a>,
@@ -180,7 +180,7 @@ fn thing<'a>(
     Ok(Thing::new(alloc, ThingKind::Signal, names, place, found))
 }
 
-/// Returns the signals.
+/// Returns the signals as things.
 pub(crate) fn things<'a>(
     alloc: Global,
     facts: &LdfFacts<'a>,
@@ -198,13 +198,13 @@ pub(crate) fn things<'a>(
     Ok(things)
 }
 
-/// The places of signals that aren't among other names, by their names.
+/// The places in frames of signals, by the names of the signals.
 struct Places<'a> {
     numbers: Index<'a>,
     all: Vec<Many<FactText<'a>>>,
 }
 
-// Written out, so that what owns one lets it go in one step.
+// Written by hand, so that its owners drop it in one step.
 impl<'a> Drop for Places<'a> {
     fn drop(self) {
         let Places {
@@ -214,7 +214,7 @@ impl<'a> Drop for Places<'a> {
     }
 }
 
-/// Adds a name that isn't among other names.
+/// Adds a name if it isn't among `others`.
 #[tactic(auto, using(crate::proofs::StatementSteps::nothing_more))]
 fn add_alone<'a>(
     names: &mut Vec<&'a [u8]>,
@@ -230,7 +230,7 @@ fn add_alone<'a>(
     Ok(())
 }
 
-/// Returns the names of signals that aren't among other names.
+/// Returns the names of the signals whose names aren't among `others`.
 fn alone<'a>(
     alloc: Global,
     signals: &'a [Signal],
@@ -246,7 +246,7 @@ fn alone<'a>(
     Ok(names)
 }
 
-/// Returns a place: the name of a frame, and an offset in it.
+/// Returns a place in a frame: the name of the frame and the offset.
 #[tactic(auto, using(crate::proofs::FactSteps::word_goes_on))]
 fn place_text<'a>(
     alloc: Global,
@@ -262,7 +262,7 @@ fn place_text<'a>(
 }
 
 impl<'a> Places<'a> {
-    /// No places of signals with these names.
+    /// Makes an empty collection for the signals with these names.
     fn new(alloc: Global, names: &[&'a [u8]]) -> Result<Places<'a>, AllocError>
         ensures { IfOk result (λ p. ArePlacesOf (map (λ n. n.now) names.now) (λ q. []) p) }
     {
@@ -276,7 +276,7 @@ impl<'a> Places<'a> {
         })
     }
 
-    /// Returns the number of a signal, or the one after the last.
+    /// Returns the number of a signal, or the number of all signals if it isn't among them.
     fn number_of(&self, signal: &[u8]) -> usize
         ensures { (names : List (List ℕ)) → ArePlaces names self.now.numbers.map
             → length self.now.all.items ≡ length names → result ≡ number_among names signal.now }
@@ -287,7 +287,7 @@ impl<'a> Places<'a> {
         }
     }
 
-    /// Adds a place of a signal.
+    /// Adds a place of a signal if the signal is among the collected ones.
     fn add(&mut self, signal: &[u8], place: FactText<'a>) -> Result<(), AllocError>
         ensures { OnOk result
             (AddsPlaces self.old self.new (λ places. with_place places signal.now place.entry)) }
@@ -330,7 +330,7 @@ impl<'a> Places<'a> {
     }
 }
 
-/// Returns the places of the signals that aren't among other names.
+/// Returns the places of the signals whose names aren't among `others`.
 fn placed_in_frames<'a>(
     alloc: Global,
     facts: &LdfFacts<'a>,
@@ -351,7 +351,7 @@ fn placed_in_frames<'a>(
     Ok(places)
 }
 
-/// Adds the key of a signal: its kind and size, and its places, if it has any.
+/// Adds the key of a signal, its kind, size and places, if it has any places.
 #[tactic(auto, using(crate::proofs::StatementSteps::nothing_more))]
 fn add_key<'a>(
     alloc: Global,
@@ -373,7 +373,7 @@ fn add_key<'a>(
     Ok(())
 }
 
-/// Adds the key of a signal, if it isn't among other names. `places` has those of the signals that aren't.
+/// Adds the key of a signal if its name isn't among `others`. Only then `places` has its places.
 fn add_key_if_alone<'a>(
     alloc: Global,
     keys: &mut Vec<Keyed<'a>>,
@@ -391,8 +391,8 @@ fn add_key_if_alone<'a>(
     add_key(alloc, keys, signal, places.of(name))
 }
 
-/// Returns the keys of the signals that aren't among other names and that a frame has: kind and size, and
-/// all places.
+/// Returns the keys of the signals that are in a frame and whose names aren't among `others`: kind, size
+/// and all places.
 pub(crate) fn keys<'a>(
     alloc: Global,
     facts: &LdfFacts<'a>,

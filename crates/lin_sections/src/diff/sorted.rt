@@ -1,4 +1,4 @@
-//! Texts in the order of their bytes.
+//! Texts that are sorted by their bytes.
 
 ghost use Rattle.std.specs.Prelude.{◌≡◌, ◌++◌, ◌∷◌, ◌≤◌, IfOk, OnOk, drop, length, take};
 ghost use Rattle.lin_sections.specs.FactTexts.{with_spaces};
@@ -9,7 +9,7 @@ use lin_text::Many;
 use std::alloc::{AllocError, Global};
 use std::cmp::Ordering;
 
-/// Whether a text isn't greater than another one.
+/// Whether a text isn't greater than the other text.
 fn is_at_most(text: &[u8], other: &[u8]) -> bool
     ensures { result ≡ is_at_most text.now other.now }
 {
@@ -19,7 +19,7 @@ fn is_at_most(text: &[u8], other: &[u8]) -> bool
     }
 }
 
-/// Returns how many texts are before the first one that is greater.
+/// Returns the number of texts before the first text that is greater.
 fn place_in(texts: &[FactText<'_>], text: &[u8]) -> usize
     ensures within { result ≤ length texts.now }
     ensures same { insert_text texts.now text.now
@@ -32,7 +32,7 @@ fn place_in(texts: &[FactText<'_>], text: &[u8]) -> usize
     index
 }
 
-/// Puts a text before the first one that is greater, or behind all.
+/// Inserts a text before the first text that is greater, or at the end.
 pub(crate) fn insert_sorted<'a>(
     texts: &mut Many<FactText<'a>>,
     text: FactText<'a>,
@@ -43,7 +43,7 @@ pub(crate) fn insert_sorted<'a>(
     texts.insert(index, text)
 }
 
-/// Returns texts with a space between them.
+/// Joins texts with a space between them.
 pub(crate) fn joined<'a>(alloc: Global, texts: &[FactText<'a>]) -> Result<FactText<'a>, AllocError>
     ensures { IfOk result (λ t. t ≡ with_spaces texts.now) }
 {

@@ -37,7 +37,7 @@ use lin_schedule::TableLoad;
 use lin_text::Many;
 use std::alloc::{AllocError, Global};
 
-/// Where the entries of a schedule table begin in a text.
+/// The place in an LDF where the entries of a schedule table begin.
 #[derive(Drop)]
 struct TableLines<'a> {
     name: Name,
@@ -52,7 +52,7 @@ impl<'a> Named for TableLines<'a> {
     }
 }
 
-/// Adds the next table, if a table is next.
+/// Adds the next statement if it is a table.
 #[tactic(auto, using(crate::proofs::StatementSteps::nothing_more))]
 fn add_table<'a>(parser: &Parser<'a>, tables: &mut Vec<TableLines<'a>>) -> Result<(), AllocError>
     ensures { OnOk result (tables.new.items ≡ tables.old.items ++ named_lines parser.now) }
@@ -81,7 +81,7 @@ fn add_tables<'a>(
     Ok(())
 }
 
-/// Adds the tables of the next section, if it is `Schedule_tables`.
+/// Adds the tables of the next section if it is `Schedule_tables`.
 #[tactic(auto, using(crate::proofs::StatementSteps::nothing_more))]
 fn add_section<'a>(parser: &Parser<'a>, tables: &mut Vec<TableLines<'a>>) -> Result<(), AllocError>
     ensures { OnOk result (tables.new.items ≡ tables.old.items ++ section_tables parser.now) }
@@ -99,14 +99,15 @@ fn has_command(table: &Table) -> bool
     table.entries.as_slice().iter().any(|entry| entry.has_group)
 }
 
-/// Whether one of some tables has a configuration entry.
+/// Whether one of the tables has a configuration entry.
 fn has_commands(tables: &[Table]) -> bool
     ensures { result ≡ list_any has_command tables.now }
 {
     tables.iter().any(|table| has_command(table))
 }
 
-/// Returns where the entries of tables begin; no tables if none has a configuration entry.
+/// Returns where the entries of the tables begin. The result is empty if no table has a configuration
+/// entry.
 fn text_tables<'a>(
     alloc: Global,
     source: &'a [u8],
@@ -127,7 +128,7 @@ fn text_tables<'a>(
     Ok(tables)
 }
 
-/// Returns a parser of the lines of a table.
+/// Returns a parser at the first entry of a table, or at the end of the LDF without that table.
 fn lines_of<'a>(
     alloc: Global,
     numbers: &Numbers<'_>,
@@ -143,8 +144,7 @@ fn lines_of<'a>(
     }
 }
 
-/// Returns what an entry is for: a frame by its new name, or a configuration command, whose tokens are next
-/// in its line.
+/// Returns the word of an entry: the new name of its frame, or the configuration command at `line`.
 fn entry_word<'a>(
     alloc: Global,
     entry: &'a TableEntry,
@@ -159,7 +159,7 @@ fn entry_word<'a>(
     Ok(FactText::lent(renames.frames.of(entry.name.text.as_slice())))
 }
 
-/// Returns an entry by what it is for, and how many are before it.
+/// Returns the fact of an entry. `position` is the number of entries before it.
 fn entry_fact<'a>(
     alloc: Global,
     word: FactText<'a>,
@@ -178,7 +178,7 @@ fn entry_fact<'a>(
     })
 }
 
-/// Returns entries, whose lines are next.
+/// Returns the facts of entries. `lines` is at the first entry.
 fn entries_of<'a>(
     alloc: Global,
     entries: &'a [TableEntry],
@@ -198,7 +198,7 @@ fn entries_of<'a>(
     numbered_entries(alloc, found)
 }
 
-/// Returns the time that a slot leaves, or `-` and the time that is missing.
+/// Returns the least slack of a table's slots in microseconds, with `-` if a delay is too short.
 fn slack_text<'a>(alloc: Global, load: TableLoad) -> Result<FactText<'a>, AllocError>
     ensures { IfOk result (λ t. t ≡ slack_text load) }
 {
@@ -210,7 +210,7 @@ fn slack_text<'a>(alloc: Global, load: TableLoad) -> Result<FactText<'a>, AllocE
     FactText::copied(alloc, text.as_slice())
 }
 
-/// Returns the facts of a table at its name.
+/// Returns the facts of a table's load. `place` is the place of its name.
 fn load_facts<'a>(
     alloc: Global,
     load: TableLoad,
@@ -228,7 +228,7 @@ fn load_facts<'a>(
     Ok(found)
 }
 
-/// Returns a table with these entries.
+/// Returns a table as a thing with these entries.
 fn thing<'a>(
     alloc: Global,
     table: &'a Table,
@@ -251,8 +251,8 @@ fn thing<'a>(
     })
 }
 
-/// Returns the entries of a table. `lines` are where the tables of the text begin, and `numbers` has their
-/// numbers.
+/// Returns the entries of a table. `lines` has where the tables of the LDF begin, and `numbers` has the
+/// number of each name.
 fn table_entries<'a>(
     alloc: Global,
     table: &'a Table,
@@ -267,7 +267,7 @@ fn table_entries<'a>(
     entries_of(alloc, table.entries.as_slice(), own, renames)
 }
 
-/// Adds a table, unless `--field` adds it.
+/// Adds a table, unless `--field` added it.
 #[tactic(auto, using(crate::proofs::StatementSteps::nothing_more))]
 fn add_thing<'a>(
     alloc: Global,
@@ -291,7 +291,7 @@ fn add_thing<'a>(
     Ok(())
 }
 
-/// Returns the schedule tables, without those that `--field` adds.
+/// Returns the schedule tables as things, without the tables that `--field` added.
 pub(crate) fn things<'a>(
     alloc: Global,
     facts: &LdfFacts<'a>,
@@ -331,7 +331,7 @@ fn words_text<'a>(alloc: Global, entries: &[EntryFact<'_>]) -> Result<FactText<'
     FactText::copied(alloc, text.as_slice())
 }
 
-/// Adds the key of a table that isn't among other names, unless `--field` adds it.
+/// Adds the key of a table if its name isn't among other names and `--field` didn't add it.
 #[tactic(auto, using(crate::proofs::StatementSteps::nothing_more))]
 fn add_key<'a>(
     alloc: Global,
@@ -355,7 +355,7 @@ fn add_key<'a>(
     Ok(())
 }
 
-/// Returns the keys of the tables that aren't among other names: the words of their entries.
+/// Returns the keys of the tables whose names aren't among `others`: the words of their entries.
 pub(crate) fn keys<'a>(
     alloc: Global,
     facts: &LdfFacts<'a>,

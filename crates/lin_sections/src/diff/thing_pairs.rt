@@ -43,7 +43,7 @@ fn names_of<'t>(alloc: Global, things: &'t [Thing<'_>]) -> Result<Vec<&'t [u8]>,
     Ok(names)
 }
 
-/// Returns the thing with a new name.
+/// Returns the thing with a new name. `index` has the places of all new names.
 fn thing_named<'t, 'a>(
     things: &'t [Thing<'a>],
     index: &Index<'_>,
@@ -58,7 +58,7 @@ fn thing_named<'t, 'a>(
     }
 }
 
-/// Adds the differences of a thing that the old LDF has.
+/// Adds the differences of a thing of the old LDF.
 fn add_old_thing<'t>(
     alloc: Global,
     found: &mut Vec<Difference<'t>>,
@@ -79,7 +79,7 @@ fn add_old_thing<'t>(
     }
 }
 
-/// Adds the differences of the things that the old LDF has.
+/// Adds the differences of the things of the old LDF.
 fn add_old_things<'t>(
     alloc: Global,
     found: &mut Vec<Difference<'t>>,
@@ -96,7 +96,7 @@ fn add_old_things<'t>(
     Ok(())
 }
 
-/// Adds a thing of the new LDF, if the old one doesn't have it.
+/// Adds a thing of the new LDF if the old LDF doesn't have it.
 fn add_new_thing<'t>(
     found: &mut Vec<Difference<'t>>,
     olds: &[Thing<'_>],
@@ -114,7 +114,7 @@ fn add_new_thing<'t>(
     Ok(())
 }
 
-/// Adds the things that the new LDF alone has.
+/// Adds the things that only the new LDF has.
 fn add_new_things<'t>(
     alloc: Global,
     found: &mut Vec<Difference<'t>>,
@@ -144,8 +144,8 @@ fn add_kind<'t>(
     add_new_things(alloc, found, olds, news)
 }
 
-/// Returns the differences between two LDFs: kind by kind in their order, of each first the things of the
-/// old LDF, then those that the new one alone has.
+/// Returns the differences between two LDFs, ordered by kind. In each kind, the things of the old LDF come
+/// first, then the things that only the new LDF has.
 ///
 /// An error means out of memory.
 pub fn differences<'t>(

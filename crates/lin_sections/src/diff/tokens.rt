@@ -1,5 +1,4 @@
-//! Values that are tokens of an LDF: those of attributes, of lines of the header, and of configuration
-//! entries.
+//! Values that consist of tokens of an LDF: of attributes, header lines and configuration entries.
 
 ghost use Rattle.std.specs.Prelude.{◌≡◌, ◌&&◌, ◌||◌, ◌∷◌, [], Some, IfOk, OnOk, fold};
 ghost use Rattle.lin_ldf.specs.Forms.{front, tail};
@@ -31,7 +30,7 @@ use std::alloc::{AllocError, Global};
 pub(crate) enum Spelling<'n, 'a> {
     /// As the LDF has them.
     AsTheyAre,
-    /// Integers in decimal, and no commas.
+    /// Integers in decimal, without commas.
     Numbers,
     /// Frames with their new names.
     Frames(&'n Renames<'a>),
@@ -73,7 +72,7 @@ impl<'n, 'a> Spelling<'n, 'a> {
     }
 }
 
-/// Returns what is between the quotes of a text.
+/// Returns the bytes between the quotes of a string.
 pub(crate) fn between_quotes(text: &[u8]) -> &[u8]
     ensures { result.now ≡ without_quotes text.now }
 {
@@ -84,7 +83,7 @@ pub(crate) fn between_quotes(text: &[u8]) -> &[u8]
     }
 }
 
-/// Puts a text in quotes, as it is shown.
+/// Appends the shown form of a string, in quotes.
 #[tactic(auto, using(crate::proofs::FactSteps::word_goes_on))]
 fn put_quoted(text: &mut Vec<u8>, alloc: Global, token: &[u8]) -> Result<(), AllocError>
     ensures { OnOk result
@@ -97,7 +96,7 @@ fn put_quoted(text: &mut Vec<u8>, alloc: Global, token: &[u8]) -> Result<(), All
     Ok(())
 }
 
-/// Puts a number: an integer of up to 32 bits in decimal, any other as the LDF has it.
+/// Appends a number: an integer of up to 32 bits in decimal, any other number as the LDF has it.
 #[tactic(auto, using(crate::proofs::FactSteps::word_goes_on))]
 fn put_decimal_token(text: &mut Vec<u8>, parser: &Parser<'_>) -> Result<(), AllocError>
     ensures { OnOk result (text.new.items ≡ with_word text.old.items (number_token parser.now)) }
@@ -112,14 +111,14 @@ fn put_decimal_token(text: &mut Vec<u8>, parser: &Parser<'_>) -> Result<(), Allo
     }
 }
 
-/// Whether a token ends a group, or a value that ends at a semicolon.
+/// Whether a token ends a group, or a value if `ends_at_semicolon` is set.
 fn ends_group(kind: TokenKind, ends_at_semicolon: bool) -> bool
     ensures { result ≡ (is_kind CloseBrace kind || ends_at_semicolon && is_kind Semicolon kind) }
 {
     kind == TokenKind::CloseBrace || ends_at_semicolon && kind == TokenKind::Semicolon
 }
 
-/// Puts the next token.
+/// Appends the next token.
 fn put_token<'a>(
     text: &mut Vec<u8>,
     parser: &Parser<'a>,
@@ -138,7 +137,7 @@ fn put_token<'a>(
     }
 }
 
-/// Puts the next token, unless it is left out.
+/// Appends the next token, unless its spelling omits it.
 #[tactic(auto, using(crate::proofs::TokenSteps::putting_one))]
 fn put_next<'a>(
     text: &mut Vec<u8>,
@@ -156,8 +155,8 @@ fn put_next<'a>(
     put_token(text, parser, kind, spelling)
 }
 
-/// Puts the tokens up to the brace that closes the group, or up to a semicolon outside of braces if that
-/// ends them.
+/// Appends the tokens up to the brace that closes the group, or up to a semicolon outside braces if
+/// `ends_at_semicolon` is set.
 #[tactic(auto, using(crate::proofs::TokenSteps::putting))]
 fn put_tokens<'a>(
     text: &mut Vec<u8>,
@@ -181,7 +180,7 @@ fn put_tokens<'a>(
     Ok(())
 }
 
-/// Puts a group, from its opening brace on.
+/// Appends a group with its braces.
 fn put_group<'a>(
     text: &mut Vec<u8>,
     parser: &mut Parser<'a>,
@@ -196,7 +195,7 @@ fn put_group<'a>(
     put_word(text, b"}")
 }
 
-/// Returns the tokens of a value with a space between them, and `yes` if there are none.
+/// Returns the tokens of a value with a space between them, or `yes` if there are no tokens.
 pub(crate) fn value_text<'a>(
     alloc: Global,
     attribute: &Attribute<'a>,
