@@ -1,4 +1,7 @@
-//! The slot that ended last, in logs that grow.
+//! The slot that ended last, found anew and from what was found before.
+
+ghost use Rattle.std.specs.Prelude.{IfOk, IfSome};
+ghost use Rattle.lin_export.specs.LastSlot.{IsKeptOf};
 
 use crate::clusters::{expect_bytes, run};
 use crate::samples;
@@ -17,7 +20,10 @@ fn expect_last(
     known: Option<LastSlot>,
     words: &[u8],
     value: &[u8],
-) -> Result<Option<LastSlot>, Fail> {
+) -> Result<Option<LastSlot>, Fail>
+    requires { IfSome known (IsKeptOf core.now.cluster core.now.log) }
+    ensures { IfOk result (λ last. IfSome last (IsKeptOf core.now.cluster core.now.log)) }
+{
     let last = LastSlot::find(alloc, core.cluster(), core.log(), known)?;
     let mut text = Vec::new(alloc);
     let mut buffer = TextBuffer::empty();
@@ -38,12 +44,12 @@ fn expect_last(
 fn the_last_slot_of_logs(rt: HostRuntime) -> Result<(), Fail> {
     let alloc = rt.alloc();
     let empty = run(alloc, samples::LIGHTS, b"")?;
-    let none = expect_last(&rt, alloc, &empty, None, b" none", b"null")?;
+    expect_last(&rt, alloc, &empty, None, b" none", b"null")?;
     let core = run(alloc, samples::LIGHTS, samples::KEYS_LOG)?;
     let words = b" 4 40000 Main 2 Light good 52D5";
     let value =
         b"{\"slot\":4,\"time_us\":40000,\"table\":\"Main\",\"entry\":2,\"frame\":\"Light\",\"seen\":\"good\",\"data\":\"52D5\"}";
-    let found = expect_last(&rt, alloc, &core, none, words, value)?;
+    let found = expect_last(&rt, alloc, &core, None, words, value)?;
     expect_last(&rt, alloc, &core, found, words, value)?;
     Ok(())
 }
