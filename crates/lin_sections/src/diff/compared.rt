@@ -31,7 +31,6 @@ pub struct ComparedLdf<'a> {
 }
 
 /// An LDF, with what it contains in addition to its description.
-#[derive(Drop)]
 pub(crate) struct LdfFacts<'a> {
     pub(crate) ldf: ComparedLdf<'a>,
     /// The lines of its header.
@@ -42,6 +41,19 @@ pub(crate) struct LdfFacts<'a> {
     pub(crate) types: Vec<&'a CodingType>,
     /// The encodings of signals.
     pub(crate) codings: NamedSignals<'a>,
+}
+
+// Written by hand, so that its owners drop it in one step.
+impl<'a> Drop for LdfFacts<'a> {
+    fn drop(self) {
+        let LdfFacts {
+            ldf: _,
+            lines: _lines,
+            blocks: _blocks,
+            types: _types,
+            codings: _codings,
+        } = self;
+    }
 }
 
 /// Reads the attributes of nodes. If the LDF doesn't contain the word `Node_attributes`, it isn't parsed.

@@ -8,7 +8,7 @@ use lin_parts::Location;
 
 /// A difference between two LDFs. If only one LDF has the thing, the other place is `None`. A value is
 /// `None` if that LDF doesn't have it.
-#[derive(Clone, Copy, Debug)]
+#[derive(Clone, Copy)]
 pub struct Difference<'t> {
     pub class: Class,
     pub kind: ThingKind,

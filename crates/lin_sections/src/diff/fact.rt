@@ -12,7 +12,7 @@ use lin_text::{Many, Text};
 use std::alloc::Global;
 
 /// What a difference means for the nodes of the cluster.
-#[derive(Clone, Copy, Debug, PartialEq, Eq)]
+#[derive(Clone, Copy)]
 pub enum Class {
     /// A node made for the old LDF may misinterpret or miss a response, or not respond.
     Bytes,
@@ -27,7 +27,7 @@ pub enum Class {
 }
 
 /// The kinds of things, in the order in which differences are listed.
-#[derive(Clone, Copy, Debug, PartialEq, Eq)]
+#[derive(Clone, Copy)]
 pub enum ThingKind {
     Header,
     Node,
@@ -40,14 +40,14 @@ pub enum ThingKind {
 }
 
 /// Data bits of a frame, from the bit `from` up to the bit before `end`.
-#[derive(Clone, Copy, Debug)]
+#[derive(Clone, Copy)]
 pub struct Bits {
     pub from: u64,
     pub end: u64,
 }
 
 /// A fact of a thing: a key, a value and its place in the LDF.
-#[derive(Debug, Drop)]
+#[derive(Drop)]
 pub struct Fact<'a> {
     /// Unique among the facts of a thing: the second fact with a key has ` #2` after the key.
     pub key: FactText<'a>,
@@ -59,7 +59,7 @@ pub struct Fact<'a> {
 }
 
 /// An entry of a schedule table.
-#[derive(Debug, Drop)]
+#[derive(Drop)]
 pub struct EntryFact<'a> {
     /// The new name of the frame, or the configuration command with its arguments.
     pub word: FactText<'a>,
@@ -74,7 +74,7 @@ pub struct EntryFact<'a> {
 }
 
 /// A thing that an LDF declares, with its facts.
-#[derive(Debug, Drop)]
+#[derive(Drop)]
 pub struct Thing<'a> {
     pub kind: ThingKind,
     pub name: FactText<'a>,

@@ -10,16 +10,22 @@ use std::alloc::{AllocError, Global};
 use std::marker::Model;
 
 /// The bytes of a text, borrowed or owned.
-#[derive(Debug, Drop)]
+#[derive(Drop)]
 enum TextBytes<'a> {
     Lent(&'a [u8]),
     Made(Text),
 }
 
 /// The text of a fact. Contracts see its bytes.
-#[derive(Debug, Drop)]
 pub struct FactText<'a> {
     kept: TextBytes<'a>,
+}
+
+// Written by hand, so that its owners drop it in one step.
+impl<'a> Drop for FactText<'a> {
+    fn drop(self) {
+        let FactText { kept: _kept } = self;
+    }
 }
 
 impl<'a> Model for FactText<'a> {

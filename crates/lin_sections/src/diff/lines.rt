@@ -14,7 +14,7 @@ use lin_text::{TextBuffer, TextWriter, WriteFailed};
 use std::io::Write;
 
 /// The classes of the differences that are listed.
-#[derive(Clone, Copy, Debug)]
+#[derive(Clone, Copy)]
 pub struct Classes {
     pub bytes: bool,
     pub timing: bool,

@@ -18,13 +18,25 @@ use lin_cluster::Named;
 use std::alloc::{AllocError, Global};
 
 /// The new names of the old LDF's things by kind. Frames of all kinds share one collection.
-#[derive(Drop)]
 pub(crate) struct Renames<'a> {
     pub(crate) nodes: NewNames<'a>,
     pub(crate) frames: NewNames<'a>,
     pub(crate) signals: NewNames<'a>,
     pub(crate) tables: NewNames<'a>,
     pub(crate) encodings: NewNames<'a>,
+}
+
+// Written by hand, so that its owners drop it in one step.
+impl<'a> Drop for Renames<'a> {
+    fn drop(self) {
+        let Renames {
+            nodes: _nodes,
+            frames: _frames,
+            signals: _signals,
+            tables: _tables,
+            encodings: _encodings,
+        } = self;
+    }
 }
 
 /// Two LDFs, and renames that change no name.
