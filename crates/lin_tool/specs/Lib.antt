@@ -22,5 +22,6 @@ pub mod Running
 pub mod Statuses
 pub mod Tally
 pub mod Telling
+pub mod campaign
 pub mod FaultText
 pub mod laws

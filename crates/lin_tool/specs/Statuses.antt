@@ -7,11 +7,12 @@ use Rattle.lin_tool.specs.declared.fault.Fault.TheVariants.{OutOfMemory, ReadFai
 use Rattle.lin_tool.specs.declared.fault.Fault.TheVariants.{TaskLimit, NoThread, LogFull}
 use Rattle.lin_tool.specs.declared.fault.Fault.TheVariants.{LogDiffers, BadBenchLine, SlotLimit}
 use Rattle.lin_tool.specs.declared.fault.Fault.TheVariants.{BadLines, Differs, Unmet, Remarks}
-use Rattle.lin_tool.specs.declared.fault.Fault.TheVariants.{BadFaults}
+use Rattle.lin_tool.specs.declared.fault.Fault.TheVariants.{BadFaults, Denied}
 
 -- 1 for a fault of the input, 3 for lack of memory, 4 where standard input, a file or standard
 -- output failed, 5 where a run met a limit, 6 where a log isn't the text of its own history, two LDFs
--- differ, an expectation failed or each fault of a bench script changed no slot
+-- differ, an expectation failed, each fault of a bench script changed no slot or a campaign has a
+-- denied result
 abbrev pub exit_status : Fault → ℕ
 exit_status (BadLine n) = 1
 exit_status (Ldf f) = 1
@@ -34,6 +35,7 @@ exit_status LogFull = 5
 exit_status (LogDiffers line) = 6
 exit_status Differs = 6
 exit_status (Unmet told) = 6
+exit_status Denied = 6
 
 -- the exit status of a run that ended so: 0 where it did all that was asked for
 abbrev pub end_status : Result Unit Fault → ℕ

@@ -15,7 +15,7 @@ use Rattle.lin_tool.specs.declared.fault.Fault.TheVariants.{OutOfMemory, ReadFai
 use Rattle.lin_tool.specs.declared.fault.Fault.TheVariants.{TaskLimit, NoThread, LogFull}
 use Rattle.lin_tool.specs.declared.fault.Fault.TheVariants.{LogDiffers, SlotLimit, BadBenchLine}
 use Rattle.lin_tool.specs.declared.fault.Fault.TheVariants.{BadLines, Differs, Unmet, Remarks}
-use Rattle.lin_tool.specs.declared.fault.Fault.TheVariants.{BadFaults}
+use Rattle.lin_tool.specs.declared.fault.Fault.TheVariants.{BadFaults, Denied}
 
 -- a line and a column
 abbrev pub place_word : ℕ → ℕ → List ℕ
@@ -81,3 +81,4 @@ fault_text BadLines = []
 fault_text Differs = []
 fault_text (Unmet told) = []
 fault_text (BadFaults told) = []
+fault_text Denied = []

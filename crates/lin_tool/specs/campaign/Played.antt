@@ -1,0 +1,59 @@
+-- The play of a row: the play of the script under its faults.
+use Rattle.std.specs.Prelude.{◌≡◌, ℕ, List, [], Option, Some, None, Result, Ok, Err}
+use Rattle.lin_parts.specs.declared.parts.Parts.{Parts}
+use Rattle.lin_values.specs.Coded.{CodedData}
+use Rattle.lin_bench.specs.Plays.{ComesUnder}
+use Rattle.lin_bench.specs.declared.faults.SlotFault.{SlotFault}
+use Rattle.lin_bench.specs.declared.line.ScriptLine.{ScriptLine}
+use Rattle.lin_bench.specs.declared.playing.PlayedUnder.{PlayedUnder}
+use Rattle.lin_export.specs.WhereTold.{given_coding}
+use Rattle.lin_tool.specs.Playing.{judgements_with_meanings}
+use Rattle.lin_tool.specs.campaign.Row.{row_of}
+use Rattle.lin_tool.specs.declared.campaign.Campaign.{Campaign}
+use Rattle.lin_tool.specs.declared.campaign.Play.{Play}
+use Rattle.lin_tool.specs.declared.fault.Fault.{Fault}
+use Rattle.lin_tool.specs.declared.fault.Fault.TheVariants.{LogFull, OutOfMemory, SlotLimit}
+
+-- what came of a script that was played: its core, its judgements with what values mean, and its row
+pub record IsPlayOf (k : Option CodedData) (it : PlayedUnder) (p : Play) : Type 0 where
+  pub core : p.core ≡ it.core
+  pub judgements : p.judgements ≡ judgements_with_meanings k it.judgements
+  pub row : p.row ≡ row_of it
+
+-- the faults of a play that isn't finished
+abbrev pub IsPlayFault : Fault → Type 0
+IsPlayFault LogFull = Unit {0}
+IsPlayFault OutOfMemory = Unit {0}
+IsPlayFault fault = ⊥
+
+-- a play of these lines under these faults
+pub record IsPlayUnder (on : Campaign) (c : Parts) (fs : List SlotFault) (ls : List (ℕ × ScriptLine))
+    (p : Play) : Type 0 where
+  pub it : PlayedUnder
+  pub comes : ComesUnder on.is_strict c on.table on.capacity fs ls it
+  pub is : IsPlayOf (given_coding on.coded) it p
+
+-- what playing a row answers
+abbrev pub PlaysRow : Campaign → Parts → List SlotFault → List (ℕ × ScriptLine)
+    → Result Play Fault → Type 0
+PlaysRow on c fs ls (Ok p) = IsPlayUnder on c fs ls p
+PlaysRow on c fs ls (Err fault) = IsPlayFault fault
+
+-- what playing the script without faults answers: the slot limit is an error here
+pub record ReachesLimit (on : Campaign) (c : Parts) (ls : List (ℕ × ScriptLine)) (n : ℕ) : Type 0
+  where
+    pub it : PlayedUnder
+    pub comes : ComesUnder on.is_strict c on.table on.capacity [] ls it
+    pub limit : it.limit ≡ Some n
+
+pub record IsUndisturbed (on : Campaign) (c : Parts) (ls : List (ℕ × ScriptLine)) (p : Play)
+    : Type 0 where
+  pub it : PlayedUnder
+  pub comes : ComesUnder on.is_strict c on.table on.capacity [] ls it
+  pub is : IsPlayOf (given_coding on.coded) it p
+  pub limit : it.limit ≡ None
+
+abbrev pub PlaysUndisturbed : Campaign → Parts → List (ℕ × ScriptLine) → Result Play Fault → Type 0
+PlaysUndisturbed on c ls (Ok p) = IsUndisturbed on c ls p
+PlaysUndisturbed on c ls (Err (SlotLimit n)) = ReachesLimit on c ls n
+PlaysUndisturbed on c ls (Err fault) = IsPlayFault fault

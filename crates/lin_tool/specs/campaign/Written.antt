@@ -1,0 +1,266 @@
+-- What a campaign answers and writes. A row is the play of the script under its faults.
+use Rattle.std.specs.Prelude.{◌≡◌, ℕ, suc, ◌-◌, ◌==◌, Bool, true, false, not, if◌then◌else◌, List, [], ◌∷◌, ◌++◌}
+use Rattle.std.specs.Prelude.{◌⊎◌, codes, filter, flat_map, length, map, reverse, Option, Some, None}
+use Rattle.std.specs.Prelude.{Result, Ok, Err}
+use Rattle.std.specs.Borrow.{Bor}
+use Rattle.std.specs.Io.KnownBytes.{Appends, Keeps}
+use Rattle.lin_parts.specs.declared.parts.Parts.{Parts}
+use Rattle.lin_core.specs.declared.log.LogEntry.{LogEntry}
+use Rattle.lin_log.specs.declared.fault.ScriptFault.TheVariants as script
+use Rattle.lin_text.specs.Written.{WritesText}
+use Rattle.lin_values.specs.Coded.{CodedData}
+use Rattle.lin_bench.specs.Played.{Run, some_unmet}
+use Rattle.lin_bench.specs.Plays.{ComesUnder}
+use Rattle.lin_bench.specs.declared.got.Judgement.{Judgement}
+use Rattle.lin_bench.specs.declared.line.ScriptLine.{ScriptLine}
+use Rattle.lin_bench.specs.declared.playing.PlayedUnder.{PlayedUnder}
+use Rattle.lin_bench.specs.declared.reason.Reason.{Reason}
+use Rattle.lin_tool.specs.Formats.{Begins}
+use Rattle.lin_tool.specs.Opening.{room_for}
+use Rattle.lin_tool.specs.Placing.{bad_text}
+use Rattle.lin_tool.specs.Playing.{ComesTo, Says, WritesTextOrPart, judgements_with_meanings, told_text}
+use Rattle.lin_tool.specs.Replaying.{RefusesScript}
+use Rattle.lin_tool.specs.campaign.Csv.{row_text as csv_text}
+use Rattle.lin_tool.specs.campaign.Jsonl.{head_object, row_object}
+use Rattle.lin_tool.specs.campaign.Junit.{report_end, report_head, row_case}
+use Rattle.lin_tool.specs.campaign.Page.{data_head, object_text}
+use Rattle.lin_tool.specs.campaign.Row.{row_of}
+use Rattle.lin_tool.specs.campaign.Rows.{bound, part_of, rows}
+use Rattle.lin_tool.specs.campaign.Shown.{RowData}
+use Rattle.lin_tool.specs.campaign.Singles.{faults_at, only_single, singles}
+use Rattle.lin_tool.specs.campaign.Summary.{NumberedRow, is_denied, lines_text, numbers_text, rows_of}
+use Rattle.lin_tool.specs.campaign.Text.{row_text}
+use Rattle.lin_tool.specs.declared.campaign.csv.TheConstants.{HEAD}
+use Rattle.lin_tool.specs.declared.campaign.pieces.TheConstants.{HEAD as PAGE, TAIL as PAGE_END}
+use Rattle.lin_tool.specs.declared.fault.Fault.{Fault}
+use Rattle.lin_tool.specs.declared.fault.Fault.TheVariants.{BadBenchLine, Denied, LogFull, OutOfMemory}
+use Rattle.lin_tool.specs.declared.fault.Fault.TheVariants.{ReadFailed, ScriptTooLong, SlotLimit, Unmet, WriteFailed}
+use Rattle.lin_tool.specs.declared.campaign.Plan.{Plan}
+use Rattle.lin_tool.specs.declared.campaign.RowFormat.{RowFormat}
+use Rattle.lin_tool.specs.declared.campaign.RowFormat.TheVariants.{Text, Csv, Jsonl, Junit, Html}
+use Rattle.lin_tool.specs.declared.campaign.row.LostMessage.{LostMessage}
+use Rattle.lin_tool.specs.declared.campaign.row.RefusedStep.{RefusedStep}
+use Rattle.lin_tool.specs.declared.campaign.row.Row.{Row}
+use Rattle.lin_tool.specs.declared.campaign.rows.Rows.{Rows}
+use Rattle.lin_tool.specs.declared.campaign.singles.Single.{Single}
+use Rattle.lin_tool.specs.declared.opening.Opened.{Opened}
+
+-- ---- plays
+-- what a script is played with
+pub record Stage : Type 0 where
+  pub strict : Bool
+  pub cluster : Parts
+  pub coded : Option CodedData
+  pub opening : ℕ
+  pub capacity : ℕ
+  pub lines : List (ℕ × ScriptLine)
+
+-- the play of row n, which has the single faults at these places
+pub record IsRowOf (on : Stage) (ss : List Single) (n : ℕ) (places : List ℕ) (p : RowData)
+    : Type 0 where
+  pub it : PlayedUnder
+  pub comes
+      : ComesUnder on.strict on.cluster on.opening on.capacity (faults_at ss places) on.lines it
+  pub number : p.number ≡ n
+  pub faults : p.faults ≡ faults_at ss places
+  pub single : p.single ≡ only_single ss places
+  pub row : p.row ≡ row_of it
+  pub log : p.log ≡ it.core.log
+  pub judgements : p.judgements ≡ judgements_with_meanings on.coded it.judgements
+
+-- the plays of rows, of which the first has number n
+abbrev pub AreRowsFrom : Stage → List Single → ℕ → List (List ℕ) → List RowData → Type 0
+AreRowsFrom on ss n [] [] = Unit {0}
+AreRowsFrom on ss n (places ∷ more) (p ∷ ps) =
+    IsRowOf on ss n places p × AreRowsFrom on ss (suc n) more ps
+AreRowsFrom on ss n more ps = ⊥
+
+-- ---- texts
+-- a row, without these messages among those that were lost, and without these refused steps
+abbrev pub row_as : RowFormat → List ℕ → Parts → List LostMessage → List RefusedStep → RowData → List ℕ
+row_as Text script c lost refused p = row_text c lost refused p
+row_as Csv script c lost refused p = csv_text c p
+row_as Jsonl script c lost refused p = row_object c p
+row_as Html script c lost refused p = object_text (row_object c p)
+row_as Junit script c lost refused p = row_case script c p
+
+-- a row; what the undisturbed play lost and refused isn't repeated in another one
+abbrev pub row_in_output : RowFormat → List ℕ → Parts → RowData → RowData → List ℕ
+row_in_output format script c calm p =
+    if p.number == 0 then row_as format script c [] [] p
+    else row_as format script c calm.row.lost calm.row.refused p
+
+-- all rows of a part, of which the first has number `from`: of a page also the undisturbed play
+abbrev pub rows_in_output : RowFormat → List ℕ → Parts → RowData → List RowData → List ℕ
+rows_in_output format script c calm ps = flat_map (row_in_output format script c calm) ps
+
+-- what stands before the rows, and after them. Of the parts of a table, and of objects, the first
+-- alone has it
+abbrev pub object_of : List ℕ → Rows → Parts → RowData → List ℕ
+object_of script t c calm = head_object c script t.singles (length (rows t)) calm
+
+abbrev pub before : RowFormat → Bool → List ℕ → List ℕ → List ℕ → ℕ → Rows → Parts → RowData
+    → List ℕ
+before Text first script file bytes cases t c calm = []
+before Csv first script file bytes cases t c calm = if first then HEAD.now else []
+before Jsonl first script file bytes cases t c calm = if first then object_of script t c calm else []
+before Junit first script file bytes cases t c calm = report_head script cases
+before Html first script file bytes cases t c calm =
+    PAGE.now ++ (data_head file bytes c calm.log ++ object_text (object_of script t c calm))
+
+abbrev pub behind : RowFormat → List ℕ
+behind Junit = report_end
+behind Html = PAGE_END.now
+behind format = []
+
+-- ---- the whole
+-- the plays of a campaign: the undisturbed one, of which each judgement is met, and those of the rows of
+-- a part
+pub record Plays (on : Stage) (plan : Plan) : Type 0 where
+  pub calm : RowData
+  pub undisturbed : IsRowOf on [] 0 [] calm
+  pub met : some_unmet calm.judgements ≡ false
+  pub singles_are : List Single
+  pub all : singles_are ≡ singles on.cluster plan.kinds calm.log
+  pub table : Rows
+  pub made : table
+      ≡ record { singles = length singles_are; pairs = plan.pairs; random = plan.random }
+  pub played : List RowData
+  pub rows_are : AreRowsFrom on singles_are
+      (bound (length (rows table)) (plan.part.number - 1) plan.part.count)
+      (part_of plan.part (rows table)) played
+
+-- the plays that are written: those of the part, and of a page also the undisturbed one before them
+abbrev pub plays_in_output : RowFormat → RowData → List RowData → List RowData
+plays_in_output Html calm (p ∷ ps) = if p.number == 0 then p ∷ ps else calm ∷ p ∷ ps
+plays_in_output Html calm [] = calm ∷ []
+plays_in_output format calm ps = ps
+
+-- those that count
+abbrev pub rows_with_faults : List RowData → List RowData
+rows_with_faults ps = filter (λ (p : RowData). not (p.number == 0)) ps
+
+abbrev pub campaign_output : {on : Stage} {plan : Plan} → List ℕ → List ℕ → List ℕ → Plays on plan → List ℕ
+campaign_output {on} {plan} script file bytes it =
+    before plan.format (plan.part.number == 1) script file bytes (length (rows_with_faults it.played))
+    it.table on.cluster it.calm
+    ++ (rows_in_output plan.format script on.cluster it.calm (plays_in_output plan.format it.calm it.played)
+    ++ behind plan.format)
+
+abbrev pub numbered_row : RowData → NumberedRow
+numbered_row p = record {
+  number = p.number;
+  faults = p.faults;
+  row = p.row;
+}
+
+abbrev pub numbered_rows : List RowData → List NumberedRow
+numbered_rows ps = map numbered_row (rows_with_faults ps)
+
+abbrev pub counts : {on : Stage} {plan : Plan} → List ℕ → Plays on plan → List ℕ
+counts {on} script it =
+    lines_text script on.cluster it.calm.judgements (rows_of (numbered_rows it.played))
+    ++ numbers_text on.cluster (numbered_rows it.played)
+
+abbrev pub denies : {on : Stage} {plan : Plan} → Plays on plan → Bool
+denies {on} {plan} it =
+    is_denied plan.denies_broken plan.denies_never it.calm.judgements
+    (rows_of (numbered_rows it.played))
+
+-- What writing the plays of a campaign answers: all was written, and nothing is denied or something is;
+-- or a beginning. Where rows are watched, the writer of errors also gets how many are done.
+abbrev pub Ends : Bool → Result Unit Fault → Bool → List ℕ → List ℕ → Option (List ℕ)
+    → Option (List ℕ) → Option (List ℕ) → Option (List ℕ) → Type 0
+Ends watched (Ok done) denied text told old new silent heard =
+    (denied ≡ false) × Appends old new text × (watched ≡ false → WritesTextOrPart silent heard told)
+Ends watched (Err Denied) denied text told old new silent heard =
+    (denied ≡ true) × Appends old new text × (watched ≡ false → WritesTextOrPart silent heard told)
+Ends watched (Err WriteFailed) denied text told old new silent heard = Begins old new text
+Ends watched (Err OutOfMemory) denied text told old new silent heard = Begins old new text
+Ends watched (Err LogFull) denied text told old new silent heard = Begins old new text
+Ends watched (Err fault) denied text told old new silent heard = ⊥
+
+-- the lines of a script that is read, and what is written of their plays
+abbrev pub WritesPlays : Stage → Plan → Bool → List ℕ → List ℕ → List ℕ → Result Unit Fault
+    → Option (List ℕ) → Option (List ℕ) → Option (List ℕ) → Option (List ℕ) → Type 0
+WritesPlays on plan watched script file bytes result old new silent heard =
+    (it : Plays on plan)
+    × Ends watched result (denies it) (campaign_output script file bytes it) (counts script it) old new
+    silent heard
+
+-- ---- the answer
+abbrev pub name_or : Option (Bor (List ℕ)) → List ℕ → List ℕ
+name_or None other = other
+name_or (Some name) other = name.now
+
+-- a script was read, and this is written of its plays
+abbrev pub WritesPlaysOfScript : Plan → Option CodedData → Option (Bor (List ℕ))
+    → Option (Bor (List ℕ)) → Bool → Parts → ℕ → ℕ → Result Unit Fault → Option (List ℕ)
+    → Option (List ℕ) → Option (List ℕ) → Option (List ℕ) → Option (List ℕ) → Type 0
+WritesPlaysOfScript plan k file named strict c opening capacity result told old new silent heard =
+    (ls : List (ℕ × ScriptLine)) × (it : Says c k told (Ok ls))
+    × WritesPlays (record {
+      strict = strict;
+      cluster = c;
+      coded = k;
+      opening = opening;
+      capacity = capacity;
+      lines = ls;
+    })
+    plan plan.is_watched (name_or named (codes "-")) (name_or file []) it.bytes result old new silent heard
+
+-- What a campaign answers, what the writer took (from old to new), and what the writer of errors took
+-- (from silent to heard). If the undisturbed play has a judgement that isn't met, or the script can't be
+-- played, the writer gets nothing.
+abbrev pub WritesCampaign : Plan → Option CodedData → Option (Bor (List ℕ))
+    → Option (Bor (List ℕ)) → Bool → Parts → ℕ → ℕ → Result Unit Fault → Option (List ℕ)
+    → Option (List ℕ) → Option (List ℕ) → Option (List ℕ) → Option (List ℕ) → Type 0
+WritesCampaign plan k file named strict c opening capacity
+    (Err (BadBenchLine n outcome)) told old new silent heard =
+    (why : Reason) × (it : Says c k told (Err (n, why))) × Keeps old new
+    × WritesText silent heard outcome (bad_text named c k it.bytes n why)
+WritesCampaign plan k file named strict c opening capacity
+    (Err (SlotLimit n)) told old new silent heard =
+    ComesTo [] strict k c opening capacity told (Err n) × Keeps old new × Keeps silent heard
+WritesCampaign plan k file named strict c opening capacity
+    (Err (Unmet outcome)) told old new silent heard =
+    (run : Run) × ComesTo [] strict k c opening capacity told (Ok run)
+    × (some_unmet (judgements_with_meanings k run.judgements) ≡ true) × Keeps old new
+    × WritesText silent heard outcome
+    (told_text named strict 0 0 c (reverse run.bench.past) (judgements_with_meanings k run.judgements))
+WritesCampaign plan k file named strict c opening capacity
+    (Err ScriptTooLong) told old new silent heard =
+    RefusesScript script.TooLong told old new × Keeps silent heard
+WritesCampaign plan k file named strict c opening capacity
+    (Err ReadFailed) told old new silent heard =
+    Keeps old new × Keeps silent heard
+WritesCampaign plan k file named strict c opening capacity
+    (Err OutOfMemory) told old new silent heard =
+    (Keeps old new × Keeps silent heard)
+    ⊎ WritesPlaysOfScript plan k file named strict c opening capacity (Err OutOfMemory)
+    told old new silent heard
+WritesCampaign plan k file named strict c opening capacity
+    (Err LogFull) told old new silent heard =
+    (Keeps old new × Keeps silent heard)
+    ⊎ WritesPlaysOfScript plan k file named strict c opening capacity (Err LogFull)
+    told old new silent heard
+WritesCampaign plan k file named strict c opening capacity
+    (Err WriteFailed) told old new silent heard =
+    WritesPlaysOfScript plan k file named strict c opening capacity (Err WriteFailed)
+    told old new silent heard
+WritesCampaign plan k file named strict c opening capacity
+    (Err Denied) told old new silent heard =
+    WritesPlaysOfScript plan k file named strict c opening capacity (Err Denied)
+    told old new silent heard
+WritesCampaign plan k file named strict c opening capacity
+    (Ok done) told old new silent heard =
+    WritesPlaysOfScript plan k file named strict c opening capacity (Ok done)
+    told old new silent heard
+WritesCampaign plan k file named strict c opening capacity (Err _) told old new silent heard = ⊥
+
+-- the same with what was opened
+abbrev pub WritesOpened : Plan → Opened → Option (Bor (List ℕ)) → Result Unit Fault → Option (List ℕ)
+    → Option (List ℕ) → Option (List ℕ) → Option (List ℕ) → Option (List ℕ) → Type 0
+WritesOpened plan o named result told old new silent heard =
+    WritesCampaign plan o.coded o.settings.file named o.settings.is_strict o.cluster o.table
+    (room_for o.settings.capacity) result told old new silent heard
