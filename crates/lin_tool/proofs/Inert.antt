@@ -49,10 +49,10 @@ abbrev are_inert : List (List ℕ) → Bool
 are_inert = list_all is_inert
 
 -- ---- texts of texts
-more : (a b : List ℕ) → is_inert a ≡ true → is_inert b ≡ true → is_inert (a ++ b) ≡ true
+pub more : (a b : List ℕ) → is_inert a ≡ true → is_inert b ≡ true → is_inert (a ++ b) ≡ true
 more a b h k = joined no_less a b h k
 
-each : {X : Type 0} (f : X → List ℕ) → ((x : X) → is_inert (f x) ≡ true) → (xs : List X) → is_inert (flat_map f xs) ≡ true
+pub each : {X : Type 0} (f : X → List ℕ) → ((x : X) → is_inert (f x) ≡ true) → (xs : List X) → is_inert (flat_map f xs) ≡ true
 each f h [] = refl
 each f h (x ∷ xs) = more (f x) (flat_map f xs) (h x) (each f h xs)
 
@@ -83,7 +83,7 @@ digits-inert (suc k) n acc h =
       | false ↦ digits-inert k (n / 10) (digit_glyph false (n % 10) ∷ acc) one
     ]
 
-number-inert : (n : ℕ) → is_inert (decimal n) ≡ true
+pub number-inert : (n : ℕ) → is_inert (decimal n) ≡ true
 unfolding digits
 number-inert n = digits-inert 64 n [] refl
 
@@ -127,14 +127,14 @@ plain-inert : (b : ℕ) (t : Bool) → is_unescaped b ≡ t → is_inert (if t t
 plain-inert b true h = let g : no_less b ≡ true = grind (arith, common_steps) in rw g refl
 plain-inert b false h = encoded-inert (b ∷ [])
 
-field-inert : (t : List ℕ) → is_inert (field t) ≡ true
+pub field-inert : (t : List ℕ) → is_inert (field t) ≡ true
 field-inert t = each page_byte (λ b. plain-inert b (is_unescaped b) refl) t
 
 guarded-by : (b : ℕ) (t : Bool) → (b == 60) ≡ t → is_inert (if t then codes "%3C" else b ∷ []) ≡ true
 guarded-by b true h = refl
 guarded-by b false h = let g : no_less b ≡ true = ap not h in rw g refl
 
-guarded-inert : (t : List ℕ) → is_inert (guarded_text t) ≡ true
+pub guarded-inert : (t : List ℕ) → is_inert (guarded_text t) ≡ true
 guarded-inert t = each guarded_byte (λ b. guarded-by b (b == 60) refl) t
 
 -- ---- what stands before the log

@@ -13,3 +13,16 @@ pub mod laws
 pub mod Remaining
 pub mod FaultTexts
 pub mod Differing
+pub mod CampaignRows
+pub mod CampaignPlays
+pub mod CampaignTexts
+pub mod CampaignLogs
+pub mod CampaignInert
+pub mod CampaignLines
+pub mod CampaignSlots
+pub mod CampaignSingles
+pub mod CampaignCounts
+pub mod CampaignSums
+pub mod CampaignWholes
+pub mod CampaignEnds
+pub mod CampaignScripts

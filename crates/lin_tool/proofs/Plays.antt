@@ -36,7 +36,7 @@ appends-after (Some x) None c part h k = absurd h
 appends-after (Some x) (Some y) None part h k = absurd k
 appends-after (Some x) (Some y) (Some z) part h k = k ∙ ap (λ l. l ++ part) h
 
-writes-after : {E : Type 0} {a b c : Option (List ℕ)} {r : Result Unit E} {text : List ℕ} → Keeps a b → WritesText b c r text → WritesText a c r text
+pub writes-after : {E : Type 0} {a b c : Option (List ℕ)} {r : Result Unit E} {text : List ℕ} → Keeps a b → WritesText b c r text → WritesText a c r text
 writes-after {a = a} {b = b} {c = c} h k = record {
   part = k.part;
   rest = k.rest;

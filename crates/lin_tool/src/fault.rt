@@ -83,13 +83,15 @@ pub enum Fault {
     BadFaults {
         told: Result<(), WriteFailed>,
     },
+    /// What the rows of a campaign came to is denied. They were written.
+    Denied,
 }
 
 impl Fault {
     /// The exit status: 1 for a fault of the input, 3 where memory ran out, 4 for a failed read or
     /// write, 5 where a run met a limit, 6 where a log isn't the text of its own history, two LDFs
-    /// differ, an expectation failed or each fault of a bench script changed no slot. (0 is for a run
-    /// without a fault, and 2 for a wrong command line.)
+    /// differ, an expectation failed, each fault of a bench script changed no slot or a campaign has a
+    /// denied result. (0 is for a run without a fault, and 2 for a wrong command line.)
     pub fn status(&self) -> u8
         ensures { result ≡ exit_status self.now }
     {
@@ -109,7 +111,7 @@ impl Fault {
             Fault::OutOfMemory => 3,
             Fault::ReadFailed | Fault::WriteFailed => 4,
             Fault::TaskLimit | Fault::NoThread | Fault::LogFull => 5,
-            Fault::LogDiffers { .. } | Fault::Differs | Fault::Unmet { .. } => 6,
+            Fault::LogDiffers { .. } | Fault::Differs | Fault::Unmet { .. } | Fault::Denied => 6,
         }
     }
 }

@@ -74,7 +74,8 @@ pub(crate) fn put_fault<W: Write>(out: &mut TextWriter<'_, W>, fault: &Fault)
         | Fault::BadLines
         | Fault::Differs
         | Fault::Unmet { .. }
-        | Fault::BadFaults { .. } => {}
+        | Fault::BadFaults { .. }
+        | Fault::Denied => {}
     }
 }
 

@@ -17,7 +17,7 @@ use std::alloc::Global;
 use std::io::Write;
 
 /// The highest number of a slot that a fault can name.
-const LAST_SLOT: u32 = 999_999;
+pub(crate) const LAST_SLOT: u32 = 999_999;
 
 /// Why a fault isn't valid.
 #[derive(Debug, Drop)]

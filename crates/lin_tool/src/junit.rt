@@ -45,7 +45,7 @@ fn put_escaped_byte<W: Write>(out: &mut TextWriter<'_, W>, byte: u8, is_text: bo
     }
 }
 
-fn put_escaped<W: Write>(out: &mut TextWriter<'_, W>, text: &[u8])
+pub(crate) fn put_escaped<W: Write>(out: &mut TextWriter<'_, W>, text: &[u8])
     ensures { Grows W.contents out.old out.new (xml_text text.now) }
 {
     let is_text = is_utf8(text);
@@ -56,7 +56,7 @@ fn put_escaped<W: Write>(out: &mut TextWriter<'_, W>, text: &[u8])
 
 /// What is said of a judgement that isn't met, which was made at this moment of a log. An error
 /// means out of memory.
-fn missed_text(
+pub(crate) fn missed_text(
     alloc: Global,
     file: &str,
     cluster: &Cluster,

@@ -1,6 +1,7 @@
 //! What holds of logs with names, of transcripts, of pages, and of plain LDF texts.
 
 ghost use Rattle.lin_tool.specs.Page.{DataAreInert};
+ghost use Rattle.lin_tool.specs.campaign.Page.{CampaignDataAreInert};
 ghost use Rattle.lin_tool.specs.laws.NamedScripts.{CodingsAreOneLine, NamedLogs, NamedLogsOfTexts};
 ghost use Rattle.lin_tool.specs.laws.Texts.{PlainTextsAreRead, PlainTextsSayTheSame};
 ghost use Rattle.lin_tool.specs.laws.Transcripts.{LastLinesAreRemarks, LinesHaveNoLf};
@@ -40,6 +41,13 @@ pub fn transcripts_are_logs()
 /// are numbers and fixed words.
 pub fn page_data_are_inert()
     ensures { DataAreInert }
+{}
+
+/// No `<` stands in the data of the page of a campaign, whatever the names, the texts and the lines are,
+/// so that no script begins there: texts and lines are fields, names are guarded, objects have an
+/// escape, and the rest are numbers and fixed words.
+pub fn campaign_data_are_inert()
+    ensures { CampaignDataAreInert }
 {}
 
 /// What a plain LDF text describes, it says as a text of the field too, with the versions of its

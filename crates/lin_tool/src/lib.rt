@@ -10,6 +10,7 @@
 //! ```
 #![tactic(auto)]
 
+mod campaign;
 mod causes;
 mod checking;
 mod coding;
@@ -47,6 +48,9 @@ mod scripts;
 mod tally;
 mod wanted;
 
+pub use campaign::{
+    Kinds, Part, Plan, RandomSets, RowFormat, campaign_script, parts_are_the_whole, run_campaign,
+};
 pub use checking::{check, check_plain};
 pub use coding::{Described, Encodings, Extras};
 pub use comparing::{compare, compare_script, first_difference};
@@ -62,7 +66,8 @@ pub use findings::{Findings, Remarks};
 pub use formats::{Format, Shown, write_shown};
 pub use kinds::{BadKinds, KindsFault, read_levels};
 pub use law::{
-    named_logs_say_the_same, page_data_are_inert, plain_texts_are_read, transcripts_are_logs,
+    campaign_data_are_inert, named_logs_say_the_same, page_data_are_inert, plain_texts_are_read,
+    transcripts_are_logs,
 };
 pub use levels::{Levels, NumberRange};
 pub use lin_export::write_list;

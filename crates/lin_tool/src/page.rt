@@ -7,7 +7,7 @@ ghost use Rattle.lin_text.specs.Written.{WritesText};
 ghost use Rattle.lin_tool.specs.Page.{page, page_data, summary};
 
 pub(crate) mod data;
-mod field;
+pub(crate) mod field;
 mod meanings;
 mod pieces;
 pub(crate) mod summary;

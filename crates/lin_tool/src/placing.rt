@@ -60,6 +60,13 @@ impl Moment {
         }
     }
 
+    /// How many slots are finished.
+    pub(crate) fn slots(&self) -> u64
+        ensures { result ≡ self.now.slots }
+    {
+        self.slots
+    }
+
     /// That after a finish.
     fn finished(self, cluster: &Cluster) -> Moment
         requires time { self.time_us < 2 ^ 63 }

@@ -34,16 +34,16 @@ use std::mem;
 
 /// A bench script, as it is played.
 #[derive(Clone, Copy)]
-struct Script<'a> {
-    bytes: &'a [u8],
+pub(crate) struct Script<'a> {
+    pub(crate) bytes: &'a [u8],
     /// The name of its file, with which lines begin that tell of the script, where it is given.
-    name: Option<&'a str>,
+    pub(crate) name: Option<&'a str>,
     /// Whether the play is strict, as `lin_bench::play` says.
-    is_strict: bool,
+    pub(crate) is_strict: bool,
     /// How many faults its steps are made under.
-    faults: usize,
+    pub(crate) faults: usize,
     /// How many of these changed no slot, as far as it was played.
-    missed: usize,
+    pub(crate) missed: usize,
 }
 
 /// Writes to `errors` what is wrong with a bench script, of which this line is the first bad one:
@@ -86,7 +86,7 @@ fn tell_bad<E: Write>(
 /// # Errors
 /// `BadBenchLine` for the first line that is bad, after its line, or where the script has a name
 /// those of all bad lines, was written to `errors`; `OutOfMemory`.
-fn bench_lines<E: Write>(
+pub(crate) fn bench_lines<E: Write>(
     alloc: Global,
     opened: &Opened<'_>,
     script: Script<'_>,
@@ -185,7 +185,7 @@ fn fails(script: Script<'_>, judgements: &[Judgement]) -> bool
 ///
 /// # Errors
 /// `Unmet` if it fails.
-fn judge<E: Write>(
+pub(crate) fn judge<E: Write>(
     core: &Core,
     script: Script<'_>,
     judgements: &[Judgement],
@@ -227,7 +227,7 @@ fn put_played<W: Write, E: Write>(
 /// What was judged; where words were expected, with what values mean.
 ///
 /// An error means out of memory.
-fn in_words(
+pub(crate) fn in_words(
     alloc: Global,
     coded: Option<&Coded>,
     judgements: Many<Judgement>,

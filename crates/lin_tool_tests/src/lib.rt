@@ -1,10 +1,12 @@
-//! Tests of what stands on logs: formats, lists, bench scripts, faults, lines in hand, and the
+//! Tests of what stands on logs: formats, lists, bench scripts, faults, campaigns, lines in hand, and the
 //! program's calls; of texts of the field; and of what values mean. They are apart from the crates of
 //! these, so that those aren't proved a second time with them.
 #![tactic(auto)]
 
 #[cfg(test)]
 mod bench;
+#[cfg(test)]
+mod campaign;
 #[cfg(test)]
 mod clusters;
 #[cfg(test)]

@@ -2,13 +2,13 @@
 
 use clap::{Arg, ArgAction, ArgMatches, Command, value_parser};
 use lin_tool::{
-    BadKinds, Classes, Encodings, Extras, Format, Levels, Lists, Reading, Settings, Wanted,
-    read_levels,
+    BadKinds, Classes, Encodings, Extras, Format, Kinds, Levels, Lists, Part, Plan, RandomSets,
+    Reading, RowFormat, Settings, Wanted, read_levels,
 };
 use std::alloc::{AllocError, Global};
 
 const STATUS_NOTE: &str =
-    "Exit status: 0 success; 1 invalid input; 2 invalid command line; 3 out of memory; 4 read or write error;\n5 a limit of the run was reached; 6 an expectation failed or each fault changed no slot (play, live), the log\ndiffers (replay --same), the LDF files differ (diff) or a denied warning is reported (check --deny).\nEach error is one line on standard error. With --explain, more lines explain it.";
+    "Exit status: 0 success; 1 invalid input; 2 invalid command line; 3 out of memory; 4 read or write error;\n5 a limit of the run was reached; 6 an expectation failed or each fault changed no slot (play, live), the log\ndiffers (replay --same), the LDF files differ (diff), a denied warning is reported (check --deny), or a campaign\nhas a denied result (campaign --deny).\nEach error is one line on standard error. With --explain, more lines explain it.";
 
 const REPLAY_NOTE: &str =
     "The script is read from standard input. A log is a script too, so this command also converts logs.\n\nThe built-in cluster has the commander cem, the responder door (NAD 1) and the schedule table diag, with a master\nrequest and a slave response of 10 ms each.\n\nExample: linsim replay door.ldf --to csv < door.script > door.csv";
@@ -18,6 +18,9 @@ const RUN_NOTE: &str =
 
 const PLAY_NOTE: &str =
     "Lines of a bench script:\n  the steps of replay's scripts, by name or number\n  slot, slot hurt BYTES, slot leave NODE.., slots N, slots N ms, slots idle\n  slots N until FORM, slots N while FORM, slots N leave NODE..\n  expect FORM, forget\n  when NODE PATTERN answer BYTES, when NODE PATTERN silent, timeouts N ms, every N ms STEP,\n  response_errors on, services on\n\nValues are numbers, or physical values and texts after = or ~: write Temp = 5 degC.\n\nThe log is written first, then one line on standard error for each expectation that failed. The format junit is a\ntest report instead of the log.\n\nExample: linsim play door.ldf door.bench --where > door.log";
+
+const CAMPAIGN_NOTE: &str =
+    "The script is played as it is, and once under each single fault: damage corrupts the only response of a slot, absent\nomits the response of a node in a slot, gone omits its responses from that slot on. Each play is one row of the output.\n\nAfter the rows, standard error has one line for each line of the script with an expectation: how many rows break it.\nlinsim play --fault FAULTS writes the complete log of a row.\n\nExample: linsim campaign door.ldf door.bench --faults damage,absent,gone";
 
 const LIVE_NOTE: &str =
     "Each line of standard input is answered before the next one is read. The answer is the log of that line, then one\nline that begins with #: ok, is VALUE, expected WHAT: GOT, refused NUMBER NAME, bad line: REASON or slot limit.\nWith --to jsonl, the answer is JSON objects, the last one of the type answer.\n\nQuestions: ? signal NODE SIGNAL, ? waiting NODE, ? idle, ? time, ? asleep, ? next, ? slot, ? rules,\n? nodes, ? version.\n\nExample: linsim live door.ldf < door.bench";
@@ -60,6 +63,15 @@ static FORMATS: [&str; 7] = ["log", "named", "csv", "jsonl", "pcap", "vcd", "htm
 static PLAY_FORMATS: [&str; 8] = [
     "log", "named", "csv", "jsonl", "pcap", "vcd", "html", "junit",
 ];
+
+/// The values of `--to` of `campaign`.
+static ROW_FORMATS: [&str; 5] = ["text", "csv", "jsonl", "junit", "html"];
+
+/// The values of `--faults`.
+static FAULT_KINDS: [&str; 3] = ["damage", "absent", "gone"];
+
+/// The values of `--deny` of `campaign`.
+static DENIED_RESULTS: [&str; 2] = ["broken", "never"];
 
 /// The values of `--to` of `live`.
 static ANSWER_FORMATS: [&str; 3] = ["log", "named", "jsonl"];
@@ -352,6 +364,100 @@ fn faults<'a>(alloc: Global) -> Arg<'a> {
         .help("Faults in slots: 17:damage, 17..19:damage or 17..:absent:NODE; + between faults")
 }
 
+/// An option with words as its values, with commas between them.
+fn words<'a>(alloc: Global, name: &'a str, help: &'a str, words: &'a [&'a str]) -> Arg<'a> {
+    Arg::new(alloc, name)
+        .long(name)
+        .value_name("KINDS")
+        .value_delimiter(',')
+        .value_parser(words)
+        .help(help)
+}
+
+fn fault_kinds<'a>(alloc: Global) -> Arg<'a> {
+    let help = "Single faults, with commas [default: damage,absent]";
+    words(alloc, "faults", help, FAULT_KINDS.as_slice())
+}
+
+fn denied_results<'a>(alloc: Global) -> Arg<'a> {
+    let help = "Exit with status 6 for broken rows, or lines never broken";
+    words(alloc, "deny", help, DENIED_RESULTS.as_slice())
+}
+
+fn strict_rows<'a>(alloc: Global) -> Arg<'a> {
+    let help = "Also fail for unexpected refusals, leave without effect, no expectations";
+    flag(alloc, "strict", help)
+}
+
+fn pairs<'a>(alloc: Global) -> Arg<'a> {
+    flag(alloc, "pairs", "Also play each two of the single faults")
+}
+
+fn random<'a>(alloc: Global) -> Arg<'a> {
+    Arg::new(alloc, "random")
+        .long("random")
+        .value_name("N")
+        .value_parser(value_parser!(u32).range(1..=1_000_000_000))
+        .help("Also play N random sets of the single faults, 1 to 1000000000")
+}
+
+fn seed<'a>(alloc: Global) -> Arg<'a> {
+    Arg::new(alloc, "seed")
+        .long("seed")
+        .value_name("S")
+        .value_parser(value_parser!(u64))
+        .default_value("1")
+        .help("Seed of the random sets, 64 bits")
+}
+
+fn rate<'a>(alloc: Global) -> Arg<'a> {
+    Arg::new(alloc, "rate")
+        .long("rate")
+        .value_name("R")
+        .value_parser(value_parser!(u16).range(1..=1000))
+        .default_value("20")
+        .help("How many of 1000 single faults are in a random set, 1 to 1000")
+}
+
+fn part<'a>(alloc: Global) -> Arg<'a> {
+    Arg::new(alloc, "part")
+        .long("part")
+        .value_name("K/N")
+        .default_value("1/1")
+        .help("Play only the K-th of N parts of the rows, N up to 1000000")
+}
+
+fn row_format<'a>(alloc: Global) -> Arg<'a> {
+    Arg::new(alloc, "to")
+        .long("to")
+        .value_name("FORMAT")
+        .value_parser(ROW_FORMATS.as_slice())
+        .default_value("text")
+        .help("Output format")
+}
+
+fn campaign<'a>(alloc: Global) -> Result<Command<'a>, AllocError> {
+    Command::new(alloc, "campaign")
+        .about("Run a bench script under each single fault and list which expectations fail")
+        .after_help(CAMPAIGN_NOTE)
+        .arg(file(alloc, "LDF file").required(true))?
+        .arg(script(alloc))?
+        .arg(fault_kinds(alloc))?
+        .arg(pairs(alloc))?
+        .arg(random(alloc))?
+        .arg(seed(alloc))?
+        .arg(rate(alloc))?
+        .arg(part(alloc))?
+        .arg(denied_results(alloc))?
+        .arg(table(alloc))?
+        .arg(capacity(alloc))?
+        .arg(row_format(alloc))?
+        .arg(field(alloc))?
+        .arg(configuration(alloc))?
+        .arg(strict_rows(alloc))?
+        .arg(explain(alloc))
+}
+
 fn live<'a>(alloc: Global) -> Result<Command<'a>, AllocError> {
     Command::new(alloc, "live")
         .about("Run the lines of a bench script interactively")
@@ -373,6 +479,7 @@ fn command<'a>(alloc: Global) -> Result<Command<'a>, AllocError> {
         .about("Simulate a LIN cluster: its schedule tables, signals and diagnostic messages")
         .after_help(STATUS_NOTE)
         .subcommand_required(true)
+        .subcommand(campaign(alloc)?)?
         .subcommand(check(alloc)?)?
         .subcommand(diff(alloc)?)?
         .subcommand(live(alloc)?)?
@@ -398,11 +505,21 @@ pub(crate) enum Invalid<'a> {
     Kinds(BadKinds<'a>),
     /// Both LDFs of `diff` are standard input.
     TwoInputs,
+    /// The value of `--part` isn't valid.
+    Part(&'a str),
 }
 
 /// The subcommand with its settings.
 #[derive(Clone, Copy)]
 pub(crate) enum Request<'a> {
+    /// `linsim campaign FILE [SCRIPT] [--faults KINDS] [--pairs] [--random N [--seed S] [--rate R]]
+    /// [--part K/N] [--deny KINDS] [--to FORMAT] [--table T] [--capacity N] [--field]
+    /// [--configuration] [--strict]`. `script` is `None` for standard input.
+    Campaign {
+        settings: Settings<'a>,
+        plan: Plan,
+        script: Option<&'a str>,
+    },
     /// `linsim check FILE [--field] [--frames] [--map] [--slots] [--physical [--signals]]
     /// [--timing [--bytes N]] [--lint] [--configuration] [--deny KINDS] [--allow KINDS]`. `timing` is
     /// the number of data bytes of messages, `None` without `--timing`.
@@ -467,7 +584,7 @@ fn format_of<'a>(word: Option<&str>, file: Option<&'a str>) -> Format<'a> {
 }
 
 /// Returns what standard error has to contain: `[--explain]` of each subcommand, `[--where]` of
-/// `check` and `play`.
+/// `check` and `play`. A campaign reports problems of its script with their places.
 fn wanted_of<'a>(matches: &ArgMatches<'a>) -> Wanted<'a> {
     let Some((name, found)) = matches.subcommand() else {
         return Wanted::default();
@@ -485,6 +602,11 @@ fn wanted_of<'a>(matches: &ArgMatches<'a>) -> Wanted<'a> {
         "play" if found.get_flag("where") => Wanted {
             explained,
             file: found.get_str("file"),
+            script: Some(script_of(found)),
+        },
+        "campaign" => Wanted {
+            explained,
+            file: None,
             script: Some(script_of(found)),
         },
         _ => Wanted {
@@ -545,6 +667,102 @@ fn play_settings_of<'a>(found: &ArgMatches<'a>) -> Settings<'a> {
     settings
 }
 
+/// Returns the settings of `campaign`, whose rows have formats of their own.
+fn campaign_settings_of<'a>(found: &ArgMatches<'a>) -> Settings<'a> {
+    let file = found.get_str("file");
+    Settings {
+        file,
+        reading: reading_of(found),
+        table: found.get_str("table"),
+        capacity: found.get_one::<u16>("capacity").unwrap_or(16),
+        format: Format::Log,
+        is_physical: false,
+        is_configured: found.get_flag("configuration"),
+        is_strict: found.get_flag("strict"),
+    }
+}
+
+/// Returns whether an option has a word among its values.
+fn has_word(found: &ArgMatches<'_>, option: &str, word: &str) -> bool {
+    match found.get_strs(option) {
+        Some(words) => words.iter().any(|other| *other == word),
+        None => false,
+    }
+}
+
+/// Returns the kinds of single faults: `[--faults]`.
+fn kinds_of(found: &ArgMatches<'_>) -> Kinds {
+    if found.get_strs("faults").is_none() {
+        return Kinds {
+            damage: true,
+            absent: true,
+            gone: false,
+        };
+    }
+    Kinds {
+        damage: has_word(found, "faults", "damage"),
+        absent: has_word(found, "faults", "absent"),
+        gone: has_word(found, "faults", "gone"),
+    }
+}
+
+/// Returns the random sets: `[--random] [--seed] [--rate]`.
+fn random_of(found: &ArgMatches<'_>) -> Option<RandomSets> {
+    let Some(count) = found.get_one::<u32>("random") else {
+        return None;
+    };
+    Some(RandomSets {
+        count,
+        seed: found.get_one::<u64>("seed").unwrap_or(1),
+        rate: found.get_one::<u16>("rate").unwrap_or(20),
+    })
+}
+
+/// Returns the part of the rows: `[--part]`; `None` if it isn't one of at most 1,000,000.
+fn part_of(text: &str) -> Option<Part> {
+    let (number, count) = text.split_once('/')?;
+    let part = Part {
+        number: number.parse::<u32>().ok()?,
+        count: count.parse::<u32>().ok()?,
+    };
+    if 1 <= part.number && part.number <= part.count && part.count <= 1_000_000 {
+        Some(part)
+    } else {
+        None
+    }
+}
+
+fn row_format_of(word: Option<&str>) -> RowFormat {
+    match word {
+        Some("csv") => RowFormat::Csv,
+        Some("jsonl") => RowFormat::Jsonl,
+        Some("junit") => RowFormat::Junit,
+        Some("html") => RowFormat::Html,
+        _ => RowFormat::Text,
+    }
+}
+
+/// Returns the plan of a campaign.
+///
+/// # Errors
+/// `Part`.
+fn plan_of<'a>(found: &ArgMatches<'a>) -> Result<Plan, Invalid<'a>> {
+    let part = found.get_str("part").unwrap_or("1/1");
+    Ok(Plan {
+        kinds: kinds_of(found),
+        pairs: found.get_flag("pairs"),
+        random: random_of(found),
+        part: match part_of(part) {
+            Some(part) => part,
+            None => return Err(Invalid::Part(part)),
+        },
+        format: row_format_of(found.get_str("to")),
+        denies_broken: has_word(found, "deny", "broken"),
+        denies_never: has_word(found, "deny", "never"),
+        is_watched: false,
+    })
+}
+
 /// Returns the name of the bench script: its file as it was given, `-` for standard input.
 fn script_of<'a>(found: &ArgMatches<'a>) -> &'a str {
     found.get_str("script").unwrap_or("-")
@@ -579,6 +797,11 @@ fn classes_of(found: &ArgMatches<'_>) -> Classes {
     }
 }
 
+/// Returns the file of the bench script; `None` for standard input.
+fn script_file_of<'a>(found: &ArgMatches<'a>) -> Option<&'a str> {
+    found.get_str("script").filter(|path| *path != "-")
+}
+
 fn request_of<'a>(matches: &ArgMatches<'a>) -> Option<Request<'a>> {
     match matches.subcommand() {
         Some(("check", found)) if found.get_flag("plain") => {
@@ -610,7 +833,7 @@ fn request_of<'a>(matches: &ArgMatches<'a>) -> Option<Request<'a>> {
         Some(("live", found)) => Some(Request::Live(settings_of(found))),
         Some(("play", found)) => Some(Request::Play {
             settings: play_settings_of(found),
-            script: found.get_str("script").filter(|path| *path != "-"),
+            script: script_file_of(found),
             faults: found.get_str("fault"),
         }),
         Some(("replay", found)) if found.get_flag("same") => {
@@ -643,7 +866,7 @@ fn levels_of<'a>(alloc: Global, matches: &ArgMatches<'a>) -> Result<Levels, Inva
 ///
 /// # Errors
 /// `Clap`: an invalid command line, a requested help or version text, or out of memory. `Kinds`, also
-/// if memory for the kinds runs out. `TwoInputs`.
+/// if memory for the kinds runs out. `Part`. `TwoInputs`.
 pub(crate) fn read_words<'a>(
     alloc: Global,
     words: &'a [String],
@@ -656,8 +879,16 @@ pub(crate) fn read_words<'a>(
         Ok(matches) => matches,
         Err(error) => return Err(Invalid::Clap(error)),
     };
-    let Some(request) = request_of(&matches) else {
-        return Ok(None);
+    let request = match matches.subcommand() {
+        Some(("campaign", found)) => Request::Campaign {
+            settings: campaign_settings_of(found),
+            plan: plan_of(found)?,
+            script: script_file_of(found),
+        },
+        _ => match request_of(&matches) {
+            Some(request) => request,
+            None => return Ok(None),
+        },
     };
     if let Request::Diff {
         old: "-",

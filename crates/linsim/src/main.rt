@@ -6,7 +6,7 @@ mod arguments;
 
 use crate::arguments::{Asked, Invalid, Request, read_words};
 use clap::error::ErrorKind;
-use lin_tool::{BadKinds, Fault, KindsFault, Notes, write_fault};
+use lin_tool::{BadKinds, Fault, KindsFault, Notes, Plan, write_fault};
 use std::env::Env;
 use std::fs::Files;
 use std::io::{self, IsTerminal, Write};
@@ -21,11 +21,19 @@ const COMMAND_LINE: u8 = 2;
 #[derive(Clone, Copy)]
 struct Terminals {
     input: bool,
+    output: bool,
     error: bool,
 }
 
-/// Does what is asked for; where standard error is watched, a run says there that it begins. A play
-/// says there what is wrong with its script.
+impl Terminals {
+    /// Whether a user sees standard error, and no output between its lines.
+    fn are_rows_watched(self) -> bool {
+        self.error && !self.output
+    }
+}
+
+/// Does what is asked for; where standard error is watched, a run says there that it begins, and a
+/// campaign how far it is. A play says there what is wrong with its script.
 fn perform<
     'a,
     R: AllocGlobal + Files + Input + Print + Eprint + Threads + Wait + Copy + Send + 'static,
@@ -33,11 +41,22 @@ fn perform<
 >(
     rt: &R,
     request: Request<'a>,
-    is_watched: bool,
+    terminals: Terminals,
     notes: &mut Notes<'a>,
     errors: &mut W,
 ) -> Result<(), Fault> {
     match request {
+        Request::Campaign {
+            settings,
+            plan,
+            script,
+        } => {
+            let plan = Plan {
+                is_watched: terminals.are_rows_watched(),
+                ..plan
+            };
+            lin_tool::run_campaign(rt, &settings, &plan, script, errors, notes)
+        }
         Request::Check {
             file,
             reading,
@@ -66,7 +85,7 @@ fn perform<
         Request::Replay(settings) => lin_tool::replay(rt, &settings, notes),
         Request::Compare(settings) => lin_tool::compare(rt, &settings, notes),
         Request::Run { settings, slots } => {
-            lin_tool::run(rt, &settings, slots, is_watched, notes)
+            lin_tool::run(rt, &settings, slots, terminals.error, notes)
         }
     }
 }
@@ -78,7 +97,7 @@ fn is_read(request: Request<'_>) -> bool {
         | Request::CheckObject { file, .. }
         | Request::CheckPlain(file) => file == "-",
         Request::Diff { old, new, .. } => old == "-" || new == "-",
-        Request::Play { script, .. } => script.is_none(),
+        Request::Play { script, .. } | Request::Campaign { script, .. } => script.is_none(),
         Request::Live(_) | Request::Replay(_) | Request::Compare(_) | Request::Run { .. } => true,
     }
 }
@@ -99,7 +118,7 @@ fn answer<
     }
     let mut notes = Notes::new(rt.alloc(), wanted);
     notes.levels = levels;
-    let done = perform(rt, request, terminals.error, &mut notes, errors);
+    let done = perform(rt, request, terminals, &mut notes, errors);
     let _ = notes.write(done.as_ref().err(), errors);
     ExitCode::from(notes.status(&done))
 }
@@ -140,6 +159,14 @@ fn two_inputs<R: Eprint>(rt: &R) -> ExitCode {
     ExitCode::from(COMMAND_LINE)
 }
 
+/// Prints why the value of `--part` isn't valid, and gives the exit status.
+fn bad_part<R: Eprint>(rt: &R, part: &str) -> ExitCode {
+    let _ = eprintln!(rt;
+        "error: --part {part}: expected K/N, where K is from 1 to N, and N is at most 1000000"
+    );
+    ExitCode::from(COMMAND_LINE)
+}
+
 /// The exit status where the words of the command line couldn't be read: for lack of memory, or
 /// since one isn't UTF-8.
 fn unread<R: Eprint>(rt: &R, error: &io::Error) -> Result<ExitCode, Fault> {
@@ -165,12 +192,14 @@ fn run<
         Err(Invalid::Clap(error)) => refused(rt, &error),
         Err(Invalid::Kinds(bad)) => unknown_kinds(rt, bad),
         Err(Invalid::TwoInputs) => Ok(two_inputs(rt)),
+        Err(Invalid::Part(part)) => Ok(bad_part(rt, part)),
     }
 }
 
 fn main(rt: HostRuntime) -> ExitCode {
     let terminals = Terminals {
         input: rt.stdin().is_terminal(),
+        output: rt.stdout().is_terminal(),
         error: rt.stderr().is_terminal(),
     };
     let mut errors = rt.stderr();

@@ -1,0 +1,209 @@
+-- What a campaign of a bench script answers.
+use Rattle.std.proofs.Common.{◌≡◌, ◌∙◌, ◌≤◌, ℕ, Bool, true, false, List, [], Option, Some, None, IfSome, Result, Ok, Err, refl, sym, ap, ap₂, inl, inr, length, reverse, subst}
+use Rattle.std.specs.Prelude.{codes, IfErr, IfOk}
+use Rattle.std.specs.Borrow.{Bor}
+use Rattle.std.specs.Io.KnownBytes.{Keeps}
+use Rattle.std.proofs.KnownBytes.{Keeps-refl}
+use Rattle.lin_parts.specs.declared.parts.Parts.{Parts}
+use Rattle.lin_text.specs.Written.{WritesText}
+use Rattle.lin_values.specs.Coded.{CodedData}
+use Rattle.lin_bench.specs.Played.{Run, played_under, some_unmet}
+use Rattle.lin_bench.specs.Plays.{ComesUnder, PlaysUnder, run_or_limit}
+use Rattle.lin_bench.specs.Scripts.{Script, read}
+use Rattle.lin_bench.specs.declared.fault.PlayFault.{PlayFault}
+use Rattle.lin_bench.specs.declared.fault.PlayFault.TheVariants as play
+use Rattle.lin_bench.specs.declared.faults.SlotFault.{SlotFault}
+use Rattle.lin_bench.specs.declared.got.Judgement.{Judgement}
+use Rattle.lin_bench.specs.declared.line.ScriptLine.{ScriptLine}
+use Rattle.lin_bench.specs.declared.playing.PlayedUnder.{PlayedUnder}
+use Rattle.lin_export.specs.WhereTold.{given_coding}
+use Rattle.lin_tool.specs.Playing.{IsUnread, ReportsJudgements, Says, WritesTextOrPart, fails, judgements_with_meanings, play_fault, told_text}
+use Rattle.lin_tool.specs.campaign.Played.{IsPlayFault, IsPlayOf, IsUndisturbed, PlaysRow, PlaysUndisturbed}
+use Rattle.lin_tool.specs.campaign.Steps.{IsBegun, SaysLines, row_of_play, stage_of}
+use Rattle.lin_tool.specs.campaign.Written.{Ends, IsRowOf, Stage, WritesCampaign, WritesPlays, WritesPlaysOfScript, counts, denies, name_or, campaign_output}
+use Rattle.lin_tool.specs.declared.campaign.Campaign.{Campaign}
+use Rattle.lin_tool.specs.declared.campaign.Plan.{Plan}
+use Rattle.lin_tool.specs.declared.campaign.Play.{Play}
+use Rattle.lin_tool.specs.declared.fault.Fault.{Fault}
+use Rattle.lin_tool.specs.declared.fault.Fault.TheVariants.{BadBenchLine, Denied, LogFull, OutOfMemory, SlotLimit, Unmet, WriteFailed}
+use Rattle.lin_tool.proofs.Plays.{writes-after}
+use Rattle.lin_tool.proofs.CampaignEnds.{text-after}
+
+-- a script whose lines weren't read
+pub campaign-unread : (plan : Plan) (k : Option CodedData) (file named : Option (Bor (List ℕ))) (strict : Bool) (c : Parts) (opening capacity : ℕ) (fault : Fault)
+    (told old silent heard : Option (List ℕ)) (bytes text : List ℕ) → text ≡ bytes → IfSome told (λ b. bytes ≡ b) → length bytes ≤ 16777216
+    → IsUnread named c k text fault silent heard → WritesCampaign plan k file named strict c opening capacity (Err fault) told old old silent heard
+campaign-unread plan k file named strict c opening capacity (BadBenchLine n outcome) told old silent heard bytes text same known short (why, is, said) =
+    (why, record { bytes = text; known = subst (λ (t : List ℕ). IfSome told (λ b. t ≡ b)) (sym same) known; short = rw same short; all = is }, Keeps-refl old, said)
+campaign-unread plan k file named strict c opening capacity OutOfMemory told old silent heard bytes text same known short h = inl (Keeps-refl old, h)
+campaign-unread plan k file named strict c opening capacity fault told old silent heard bytes text same known short h = absurd h
+
+-- a campaign of these options
+pub record IsCampaign (on : Campaign) (k : Option CodedData) (path named : Option (Bor (List ℕ))) (strict : Bool) (opening capacity : ℕ) : Type 0 where
+  pub coded : given_coding on.coded ≡ k
+  pub script : on.script.now ≡ name_or named (codes "-")
+  pub file : on.file.now ≡ name_or path []
+  pub strictly : on.is_strict ≡ strict
+  pub table : on.table ≡ opening
+  pub room : on.capacity ≡ capacity
+
+-- lines that can't be played undisturbed
+pub campaign-unplayable : (plan : Plan) (k : Option CodedData) (file named : Option (Bor (List ℕ))) (on : Campaign) (strict : Bool) (c : Parts) (opening capacity : ℕ) (fault : Fault)
+    (told old silent heard : Option (List ℕ)) (ls : List (ℕ × ScriptLine)) → IsCampaign on k file named strict opening capacity → Says c k told (Ok ls)
+    → PlaysUndisturbed on c ls (Err fault) → Keeps silent heard → WritesCampaign plan k file named strict c opening capacity (Err fault) told old old silent heard
+campaign-unplayable plan k file named on strict c opening capacity (SlotLimit n) told old silent heard ls is says h kept =
+    let came : played_under strict c opening capacity [] ls ≡ Err n =
+    rw (is.strictly, is.table, is.room) at (h.comes.lines ∙ ap (run_or_limit (record { bench = h.comes.bench; judgements = h.it.judgements })) h.limit) in
+    ((ls, says, came), Keeps-refl old, kept)
+campaign-unplayable plan k file named on strict c opening capacity OutOfMemory told old silent heard ls is says h kept = inl (Keeps-refl old, kept)
+campaign-unplayable plan k file named on strict c opening capacity LogFull told old silent heard ls is says h kept = inl (Keeps-refl old, kept)
+campaign-unplayable plan k file named on strict c opening capacity fault told old silent heard ls is says h kept = absurd h
+
+-- a play with a judgement that isn't met fails, whatever its faults changed
+fails-unmet : (faults missed : ℕ) (js : List Judgement) → some_unmet js ≡ true → fails faults missed js ≡ true
+fails-unmet faults missed js unmet = rw unmet refl
+
+never-both : {X : Type 0} (b : Bool) → b ≡ true → b ≡ false → X
+never-both true h k = absurd (cc)
+never-both false h k = absurd (cc)
+
+-- the undisturbed play has a judgement that isn't met
+pub campaign-unmet : (plan : Plan) (k : Option CodedData) (file named : Option (Bor (List ℕ))) (on : Campaign) (strict : Bool) (c : Parts) (opening capacity : ℕ) (calm : Play)
+    (result : Result Unit Fault) (told old silent mid heard : Option (List ℕ)) (ls : List (ℕ × ScriptLine)) → IsCampaign on k file named strict opening capacity → Says c k told (Ok ls)
+    → IsUndisturbed on c ls calm → Keeps silent mid → some_unmet calm.judgements ≡ true
+    → ReportsJudgements result (fails 0 0 calm.judgements) (told_text named strict 0 0 calm.core.cluster calm.core.log calm.judgements) mid heard
+    → WritesCampaign plan k file named strict c opening capacity result told old old silent heard
+campaign-unmet plan k file named on strict c opening capacity calm (Ok done) told old silent mid heard ls is says h kept unmet (met, text) =
+    never-both (fails 0 0 calm.judgements) (fails-unmet 0 0 calm.judgements unmet) met
+campaign-unmet plan k file named on strict c opening capacity calm (Err (Unmet outcome)) told old silent mid heard ls is says h kept unmet (missed, text) =
+    let run : Run = record { bench = h.comes.bench; judgements = h.it.judgements } in
+    let came : played_under strict c opening capacity [] ls ≡ Ok run = rw (is.strictly, is.table, is.room) at (h.comes.lines ∙ ap (run_or_limit run) h.limit) in
+    let judged : calm.judgements ≡ judgements_with_meanings k run.judgements = h.is.judgements ∙ ap (λ x. judgements_with_meanings x run.judgements) is.coded in
+    let cluster : calm.core.cluster ≡ c = ap (λ x. x.cluster) h.is.core ∙ h.comes.cluster in
+    let log : calm.core.log ≡ reverse run.bench.past = ap (λ x. x.log) h.is.core ∙ h.comes.log in
+    let same : told_text named strict 0 0 calm.core.cluster calm.core.log calm.judgements ≡ told_text named strict 0 0 c (reverse run.bench.past) (judgements_with_meanings k run.judgements) =
+    ap (λ x. told_text named strict 0 0 x calm.core.log calm.judgements) cluster ∙ ap₂ (λ x y. told_text named strict 0 0 c x y) log judged in (
+      run,
+      (ls, says, came),
+      ap some_unmet (sym judged) ∙ unmet,
+      Keeps-refl old,
+      writes-after kept (subst (λ t. WritesText mid heard outcome t) same text),
+    )
+campaign-unmet plan k file named on strict c opening capacity calm (Err fault) told old silent mid heard ls is says h kept unmet text = absurd text
+
+-- the undisturbed play is row 0
+pub same-cluster : (on : Campaign) (c : Parts) (ls : List (ℕ × ScriptLine)) (calm : Play) → IsUndisturbed on c ls calm → calm.core.cluster ≡ c
+same-cluster on c ls calm h = ap (λ x. x.cluster) h.is.core ∙ h.comes.cluster
+
+pub begun : (on : Campaign) (plan : Plan) (c : Parts) (ls : List (ℕ × ScriptLine)) (calm : Play) → on.format ≡ plan.format → SaysLines on c ls → some_unmet calm.judgements ≡ false → IsUndisturbed on c ls calm
+    → IsBegun on plan calm ls
+begun on plan c ls calm format says met h =
+    let same = sym (same-cluster on c ls calm h) in
+    let row : IsRowOf (stage_of on c ls) [] 0 [] (row_of_play calm) = record {
+      it = h.it;
+      comes = h.comes;
+      number = refl;
+      faults = refl;
+      single = refl;
+      row = h.is.row;
+      log = ap (λ x. x.log) h.is.core;
+      judgements = h.is.judgements;
+    } in record {
+      says = subst (λ x. SaysLines on x ls) same says;
+      undisturbed = subst (λ x. IsRowOf (stage_of on x ls) [] 0 [] (row_of_play calm)) same row;
+      met = met;
+      format = format;
+    }
+
+-- ---- rows that were written
+ends-after : (watched denied : Bool) (result : Result Unit Fault) (text told : List ℕ) (old new silent mid heard : Option (List ℕ)) → Keeps silent mid
+    → Ends watched result denied text told old new mid heard → Ends watched result denied text told old new silent heard
+ends-after watched denied (Ok done) text told old new silent mid heard kept h = (h.0, h.1, λ quiet. text-after silent mid heard told kept (h.2 quiet))
+ends-after watched denied (Err Denied) text told old new silent mid heard kept h = (h.0, h.1, λ quiet. text-after silent mid heard told kept (h.2 quiet))
+ends-after watched denied (Err WriteFailed) text told old new silent mid heard kept h = h
+ends-after watched denied (Err OutOfMemory) text told old new silent mid heard kept h = h
+ends-after watched denied (Err LogFull) text told old new silent mid heard kept h = h
+ends-after watched denied (Err fault) text told old new silent mid heard kept h = absurd h
+
+-- rows of the lines of a script
+rows-of-script : (plan : Plan) (k : Option CodedData) (file named : Option (Bor (List ℕ))) (on : Campaign) (strict : Bool) (c : Parts) (opening capacity : ℕ) (result : Result Unit Fault)
+    (told old new silent mid heard : Option (List ℕ)) (ls : List (ℕ × ScriptLine)) (it : Says c k told (Ok ls)) (calm : Parts) → calm ≡ c → IsCampaign on k file named strict opening capacity
+    → on.bytes.now ≡ it.bytes → Keeps silent mid → WritesPlays (stage_of on calm ls) plan plan.is_watched on.script.now on.file.now on.bytes.now result old new mid heard
+    → WritesPlaysOfScript plan k file named strict c opening capacity result told old new silent heard
+rows-of-script plan k file named on strict c opening capacity result told old new silent mid heard ls it calm same is bytes kept h =
+    let h1 =
+    subst (λ x. WritesPlays (record { strict = on.is_strict; cluster = x; coded = given_coding on.coded; opening = on.table; capacity = on.capacity; lines = ls }) plan plan.is_watched on.script.now on.file.now on.bytes.now result old new mid heard)
+    same h in
+    let h2 =
+    subst (λ x. WritesPlays (record { strict = x; cluster = c; coded = given_coding on.coded; opening = on.table; capacity = on.capacity; lines = ls }) plan plan.is_watched on.script.now on.file.now on.bytes.now result old new mid heard)
+    is.strictly h1 in
+    let h3 =
+    subst (λ x. WritesPlays (record { strict = strict; cluster = c; coded = x; opening = on.table; capacity = on.capacity; lines = ls }) plan plan.is_watched on.script.now on.file.now on.bytes.now result old new mid heard)
+    is.coded h2 in
+    let h4 =
+    subst (λ x. WritesPlays (record { strict = strict; cluster = c; coded = k; opening = x; capacity = on.capacity; lines = ls }) plan plan.is_watched on.script.now on.file.now on.bytes.now result old new mid heard)
+    is.table h3 in
+    let h5 =
+    subst (λ x. WritesPlays (record { strict = strict; cluster = c; coded = k; opening = opening; capacity = x; lines = ls }) plan plan.is_watched on.script.now on.file.now on.bytes.now result old new mid heard)
+    is.room h4 in
+    let h6 =
+    subst (λ x. WritesPlays (record { strict = strict; cluster = c; coded = k; opening = opening; capacity = capacity; lines = ls }) plan plan.is_watched x on.file.now on.bytes.now result old new mid heard)
+    is.script h5 in
+    let h7 =
+    subst (λ x. WritesPlays (record { strict = strict; cluster = c; coded = k; opening = opening; capacity = capacity; lines = ls }) plan plan.is_watched (name_or named (codes "-")) x on.bytes.now result old new mid heard)
+    is.file h6 in
+    let there =
+    subst (λ x. WritesPlays (record { strict = strict; cluster = c; coded = k; opening = opening; capacity = capacity; lines = ls }) plan plan.is_watched (name_or named (codes "-")) (name_or file []) x result old new mid heard)
+    bytes h7 in
+    (ls, it, (there.0, ends-after plan.is_watched (denies there.0) result (campaign_output (name_or named (codes "-")) (name_or file []) it.bytes there.0) (counts (name_or named (codes "-")) there.0) old new silent mid heard kept there.1))
+
+written-by : (plan : Plan) (k : Option CodedData) (file named : Option (Bor (List ℕ))) (strict : Bool) (c : Parts) (opening capacity : ℕ) (result : Result Unit Fault)
+    (told old new silent heard : Option (List ℕ)) → WritesPlaysOfScript plan k file named strict c opening capacity result told old new silent heard
+    → WritesCampaign plan k file named strict c opening capacity result told old new silent heard
+written-by plan k file named strict c opening capacity (Ok done) told old new silent heard h = h
+written-by plan k file named strict c opening capacity (Err Denied) told old new silent heard h = h
+written-by plan k file named strict c opening capacity (Err WriteFailed) told old new silent heard h = h
+written-by plan k file named strict c opening capacity (Err OutOfMemory) told old new silent heard h = inr h
+written-by plan k file named strict c opening capacity (Err LogFull) told old new silent heard h = inr h
+written-by plan k file named strict c opening capacity (Err fault) told old new silent heard (ls, it, (plays, ends)) = absurd ends
+
+pub campaign-written : (plan : Plan) (k : Option CodedData) (file named : Option (Bor (List ℕ))) (on : Campaign) (strict : Bool) (c : Parts) (opening capacity : ℕ) (result : Result Unit Fault)
+    (told old new silent mid heard : Option (List ℕ)) (ls : List (ℕ × ScriptLine)) (it : Says c k told (Ok ls)) (calm : Parts) → calm ≡ c → IsCampaign on k file named strict opening capacity
+    → on.bytes.now ≡ it.bytes → Keeps silent mid → WritesPlays (stage_of on calm ls) plan plan.is_watched on.script.now on.file.now on.bytes.now result old new mid heard
+    → WritesCampaign plan k file named strict c opening capacity result told old new silent heard
+campaign-written plan k file named on strict c opening capacity result told old new silent mid heard ls it calm same is bytes kept h =
+    written-by plan k file named strict c opening capacity result told old new silent heard
+    (rows-of-script plan k file named on strict c opening capacity result told old new silent mid heard ls it calm same is bytes kept h)
+
+-- lines that can't be played under faults
+pub unplayed-fault : (strict : Bool) (c : Parts) (opening capacity : ℕ) (fs : List SlotFault) (ls : List (ℕ × ScriptLine)) (fault : PlayFault) → PlaysUnder strict c opening capacity fs ls (Err fault)
+    → IsPlayFault (play_fault fault)
+unplayed-fault strict c opening capacity fs ls (play.SlotLimit n) h = absurd h
+unplayed-fault strict c opening capacity fs ls play.LogFull h = tt
+unplayed-fault strict c opening capacity fs ls play.OutOfMemory h = tt
+
+pub same-ok : {X E : Type 0} (r : Result X E) (x y : X) → r ≡ Ok x → r ≡ Ok y → x ≡ y
+same-ok r x y e f = cc
+
+-- a play and its row, or the fault of one
+pub judged-row : (on : Campaign) (c : Parts) (fs : List SlotFault) (said ls : List (ℕ × ScriptLine)) (it : PlayedUnder) (r : Result Play Fault) → said ≡ ls
+    → ComesUnder on.is_strict c on.table on.capacity fs said it → IfOk r (λ p. IsPlayOf (given_coding on.coded) it p) → IfErr r IsPlayFault → PlaysRow on c fs ls r
+judged-row on c fs said ls it (Ok p) same comes is fails =
+    record { it = it; comes = subst (λ l. ComesUnder on.is_strict c on.table on.capacity fs l it) same comes; is = is }
+judged-row on c fs said ls it (Err fault) same comes is fails = fails
+
+pub judged-cluster : (k : Option CodedData) (c : Parts) (it : PlayedUnder) (r : Result Play Fault) → it.core.cluster ≡ c → IfOk r (λ p. IsPlayOf k it p) → IfOk r (λ p. p.core.cluster ≡ c)
+judged-cluster k c it (Ok p) same is = ap (λ x. x.cluster) is.core ∙ same
+judged-cluster k c it (Err fault) same is = tt
+
+pub undisturbed-fault : (on : Campaign) (c : Parts) (ls : List (ℕ × ScriptLine)) (fault : Fault) → IsPlayFault fault → PlaysUndisturbed on c ls (Err fault)
+undisturbed-fault on c ls (SlotLimit n) h = absurd h
+undisturbed-fault on c ls LogFull h = tt
+undisturbed-fault on c ls OutOfMemory h = tt
+undisturbed-fault on c ls fault h = absurd h
+
+-- without the limit
+pub judged-undisturbed : (on : Campaign) (c : Parts) (ls : List (ℕ × ScriptLine)) (it : PlayedUnder) (r : Result Play Fault) → ComesUnder on.is_strict c on.table on.capacity [] ls it → it.limit ≡ None
+    → IfOk r (λ p. IsPlayOf (given_coding on.coded) it p) → IfErr r IsPlayFault → PlaysUndisturbed on c ls r
+judged-undisturbed on c ls it (Ok p) comes limit is fails = record { it = it; comes = comes; is = is; limit = limit }
+judged-undisturbed on c ls it (Err fault) comes limit is fails = undisturbed-fault on c ls fault fails

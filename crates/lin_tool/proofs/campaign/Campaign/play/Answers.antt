@@ -1,0 +1,17 @@
+use Rattle.std.proofs.Common.{◌≡◌, Global, List, Vec, subst, ℕ}
+use Rattle.lin_bench.specs.declared.line.ScriptLine.{ScriptLine}
+use Rattle.lin_bench.specs.Read.{ReadsBenchScript}
+use Rattle.lin_bench.specs.Scripts.{read}
+use Rattle.lin_export.specs.WhereTold.{given_coding}
+use Rattle.lin_tool.proofs.CampaignScripts.{judged-cluster, judged-row, same-ok}
+use Rattle.lin_tool.proofs.campaign.Campaign.play.Goals as goal
+
+pub returns-clause-plays : goal.returns-clause-plays
+returns-clause-plays c = λ ls says.
+    let said = subst (λ r. ReadsBenchScript (λ (v : Vec (ℕ × ScriptLine) Global). v.items) r (read c.args.cluster (given_coding c.args.self.now.coded) c.args.self.now.bytes.now)) c.in-Ok.is c.read.ensures.said in
+    let same = same-ok (read c.args.cluster (given_coding c.args.self.now.coded) c.args.self.now.bytes.now) c.in-Ok.lines.items ls said says in
+    judged-row c.args.self.now c.args.cluster c.args.faults.now c.in-Ok.lines.items ls c.in_ok-played.played c.judged.result same c.in_ok-played.ensures.plays c.judged.ensures.row c.judged.ensures.fails
+
+pub returns-clause-same : goal.returns-clause-same
+returns-clause-same c =
+    judged-cluster (given_coding c.args.self.now.coded) c.args.cluster c.in_ok-played.played c.judged.result c.in_ok-played.ensures.plays.cluster c.judged.ensures.row

@@ -1,0 +1,10 @@
+use Rattle.std.proofs.Common.{refl}
+use Rattle.lin_text.proofs.Growing.{grows-nothing}
+use Rattle.lin_export.proofs.Puttings.{puts-all}
+use Rattle.lin_tool.proofs.campaign.Campaign.put_first.Goals as goal
+
+pub returns-then-not-is_first : goal.returns-then-not-is_first
+returns-then-not-is_first g c = rw c.if-not-is_first.true (puts-all refl (grows-nothing c.args.out.now))
+
+pub returns : goal.returns
+returns g c = rw c.if-not-is_first.false c.put_object.ensures
