@@ -179,7 +179,7 @@ fn check_parsed(
 
 /// Whether the version in the header of a text begins with `1.`, as in LIN 1.2 and 1.3. A version that
 /// isn't among the first 64 tokens isn't found.
-fn is_old(alloc: Global, text: &[u8]) -> bool {
+pub(crate) fn is_old(alloc: Global, text: &[u8]) -> bool {
     let mut parser = Parser::new(alloc, text);
     let mut is_version = false;
     for _ in 0..64 {

@@ -10,7 +10,7 @@ ghost use Rattle.lin_sections.specs.Differences.{differences_data};
 ghost use Rattle.lin_sections.specs.Things.{compared_data};
 
 use crate::checking::text_at;
-use crate::describing::{Reading, description_of};
+use crate::describing::{Reading, description_of, is_old};
 use crate::fault::Fault;
 use crate::field::{check_settled, settled_of};
 use crate::findings::Findings;
@@ -173,19 +173,43 @@ pub fn read_ldf(
     }
 }
 
+/// Writes that an LDF of LIN 1.x was read as one of LIN 2.x, if `--field` accepts it and reads another
+/// cluster. A failed write is ignored.
+///
+/// An error means out of memory.
+fn tell_old<W: Write>(
+    alloc: Global,
+    ldf: &ReadLdf,
+    notes: &mut Notes<'_>,
+    errors: &mut W,
+) -> Result<(), AllocError> {
+    if is_old(alloc, ldf.text.as_slice()) {
+        // (what `--field` reads, it changes)
+        let mut text = Vec::from_slice(alloc, ldf.text.as_slice())?;
+        notes.add_old(alloc, text.as_mut_slice(), &ldf.cluster);
+        notes.tell_warnings(errors);
+    }
+    Ok(())
+}
+
 /// Reads the LDF in a file. If the path is `-`, it is read from standard input.
 ///
 /// # Errors
 /// `LdfTooLong`, `ReadFailed`, and those of `read_ldf`.
-fn read<'a, R: AllocGlobal + Files + Input>(
+fn read<'a, R: AllocGlobal + Files + Input, W: Write>(
     rt: &R,
     path: &'a str,
     reading: Reading,
     notes: &mut Notes<'a>,
+    errors: &mut W,
 ) -> Result<ReadLdf, Fault> {
     notes.wanted.file = Some(path);
     let text = text_at(rt, path)?;
-    read_ldf(rt.alloc(), text, reading, notes)
+    let ldf = read_ldf(rt.alloc(), text, reading, notes)?;
+    if reading == Reading::Plain {
+        tell_old(rt.alloc(), &ldf, notes, errors)?;
+    }
+    Ok(ldf)
 }
 
 /// Writes a line for each difference of these classes.
@@ -254,24 +278,17 @@ fn all_allowed(alloc: Global) -> Result<Levels, AllocError>
 /// `Ldf`, `Findings`, `Remarks`, `LdfTooLong` and `ReadFailed` for the first file that has a fault or
 /// findings, after which nothing was written; `WriteFailed`, where what was written is the beginning of the
 /// lines; `Differs` after all lines, if there is one; `OutOfMemory`.
-pub fn diff<'a, R: AllocGlobal + Files + Input + Print>(
+pub fn diff<'a, R: AllocGlobal + Files + Input + Print, W: Write>(
     rt: &R,
-    old_path: &'a str,
-    new_path: &'a str,
+    files: (&'a str, &'a str),
     reading: Reading,
     classes: Classes,
     notes: &mut Notes<'a>,
+    errors: &mut W,
 ) -> Result<(), Fault> {
     let alloc = rt.alloc();
     notes.levels = all_allowed(alloc)?;
-    let old = read(rt, old_path, reading, notes)?;
-    let new = read(rt, new_path, reading, notes)?;
-    write_compared(
-        alloc,
-        (old_path, new_path),
-        &old,
-        &new,
-        classes,
-        &mut io::writer(rt),
-    )
+    let old = read(rt, files.0, reading, notes, errors)?;
+    let new = read(rt, files.1, reading, notes, errors)?;
+    write_compared(alloc, files, &old, &new, classes, &mut io::writer(rt))
 }

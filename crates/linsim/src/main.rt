@@ -75,7 +75,7 @@ fn perform<
             new,
             reading,
             classes,
-        } => lin_tool::diff(rt, old, new, reading, classes, notes),
+        } => lin_tool::diff(rt, (old, new), reading, classes, notes, errors),
         Request::Live(settings) => lin_tool::live(rt, &settings, errors, notes),
         Request::Play {
             settings,
