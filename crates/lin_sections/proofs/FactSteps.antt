@@ -45,14 +45,6 @@ pub flat-kept : {X Y : Type 0} (p : Y → Bool) (f : X → List Y) (xs : List X)
 flat-kept p f xs i d lt =
     ap (filter p) (flat-more f xs i d lt) ∙ filter-append p (flat_map f (take i xs)) (f (get_or xs i d))
 
--- the same behind others
-pub flat-kept-behind : {X Y : Type 0} (p : Y → Bool) (ys : List Y) (f : X → List Y) (xs : List X) (i : ℕ) (d : X) → i < length xs
-    → filter p (ys ++ flat_map f (take (i + 1) xs)) ≡ filter p (ys ++ flat_map f (take i xs)) ++ filter p (f (get_or xs i d))
-flat-kept-behind p ys f xs i d lt =
-    ap (λ zs. filter p (ys ++ zs)) (flat-more f xs i d lt)
-    ∙ ap (filter p) (sym (append_assoc ys (flat_map f (take i xs)) (f (get_or xs i d))))
-    ∙ filter-append p (ys ++ flat_map f (take i xs)) (f (get_or xs i d))
-
 mapped-if : {X Y : Type 0} (b : Bool) (f : X → Y) (x : X) → map f (cond b (x ∷ []) []) ≡ cond b (f x ∷ []) []
 mapped-if true f x = refl
 mapped-if false f x = refl

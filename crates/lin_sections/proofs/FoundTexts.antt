@@ -1,7 +1,6 @@
 -- What is found by its text among others.
 use Rattle.std.proofs.Common.{◌≡◌, ◌≢◌, ◌∙◌, ◌<◌, ℕ, zero, suc, Bool, true, false, cond, List, [], ◌∷◌, ◌++◌, length, get_or, map, flat_map, refl, sym, ap, subst, arith}
 use Rattle.std.specs.Prelude.{◌||◌, find, is_some, All, AllPairs, Contains, Option, Some, None}
-use Rattle.std.specs.List.{list_any}
 use Rattle.std.specs.Str.{bytes_eq}
 use Rattle.lin_cluster.proofs.NamesFound.{same-text, text-same}
 use Rattle.lin_sections.specs.NewNames.{is_among}

@@ -1,5 +1,5 @@
 -- The statements up to the first one that fails a test, one by one.
-use Rattle.std.proofs.Common.{◌≡◌, ◌∙◌, Bool, true, false, cond, List, [], ◌∷◌, ◌++◌, append-nil, append_assoc, one-add, refl, sym, ap}
+use Rattle.std.proofs.Common.{◌≡◌, ◌∙◌, Bool, true, false, List, [], ◌∷◌, ◌++◌, append-nil, append_assoc, one-add, refl, sym, ap}
 use Rattle.std.specs.Prelude.{take_while}
 use Rattle.lin_ldf.specs.Symbols.{Symbol}
 use Rattle.lin_sections.specs.Passed.{has_line}

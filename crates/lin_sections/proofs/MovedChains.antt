@@ -1,5 +1,5 @@
 -- The lengths of chains of entries.
-use Rattle.std.proofs.Common.{◌≡◌, ◌+◌, ◌-◌, ◌<◌, ◌≤◌, ℕ, zero, suc, Bool, true, false, List, [], ◌∷◌, length, drop, arith, refl, rules, sym, ap, subst, zero-add, ◌∙◌}
+use Rattle.std.proofs.Common.{◌≡◌, ◌+◌, ◌-◌, ◌<◌, ◌≤◌, ℕ, zero, suc, Bool, true, false, List, [], ◌∷◌, length, drop, arith, refl, sym, ap, subst, zero-add, ◌∙◌}
 use Rattle.std.specs.Prelude.{All, max, nat_lt, position, slice_index, if◌then◌else◌, Option, Some, None}
 use Rattle.std.specs.List.{position_or_len, range_with_len}
 use Rattle.std.specs.Option.{option_map_or}

@@ -1,10 +1,9 @@
 -- New names, one by one.
-use Rattle.std.proofs.Common.{◌≡◌, ◌∙◌, ◌+◌, ◌<◌, ℕ, Bool, true, false, cond, List, [], ◌∷◌, ◌++◌, length, map, take, get_or, Option, Some, None, option_map, refl, sym, ap, append-nil}
+use Rattle.std.proofs.Common.{◌≡◌, ◌∙◌, ℕ, Bool, true, false, cond, List, [], ◌∷◌, ◌++◌, length, Option, Some, None, option_map, refl, sym, ap, append-nil}
 use Rattle.std.specs.Prelude.{◌||◌, filter, find, is_some, option_and_then}
 use Rattle.std.specs.List.{list_any}
 use Rattle.std.specs.Option.{option_map_or, option_or}
 use Rattle.std.specs.Str.{bytes_eq}
-use Rattle.std.proofs.lemmas.List.{map_more}
 use Rattle.std.proofs.lemmas.List.Elements.{filter-append}
 use Rattle.std.proofs.lemmas.List.Folds.{find-append}
 use Rattle.std.specs.Map.{lookup}
@@ -39,73 +38,6 @@ or-nothing false = refl
 -- with the same entries there are the same names
 pub names-kept : {V S : Type 0} (m n : IndexMap (Bor (List ℕ)) V S) (q : List ℕ) → n.entries ≡ m.entries → has_in n q ≡ (has_in m q || is_among [] q)
 names-kept m n q e = ap (λ es. is_some (lookup (λ (k : Bor (List ℕ)). bytes_eq q k.now) es)) e ∙ or-nothing (has_in m q)
-
-or-assoc : (a b c : Bool) → ((a || b) || c) ≡ (a || (b || c))
-or-assoc true b c = refl
-or-assoc false b c = refl
-
--- one name more
-pub among-more : {X : Type 0} (text_of : X → List ℕ) (xs : List X) (i : ℕ) (d : X) (q text : List ℕ) (first old new : Bool) → i < length xs → text ≡ text_of (get_or xs i d)
-    → old ≡ (first || is_among (map text_of (take i xs)) q) → new ≡ (old || bytes_eq text q)
-    → new ≡ (first || is_among (map text_of (take (i + 1) xs)) q)
-among-more text_of xs i d q text first old new lt is so here =
-    here ∙ (λ j. so j || bytes_eq (is j) q)
-    ∙ or-assoc first (is_among (map text_of (take i xs)) q) (bytes_eq (text_of (get_or xs i d)) q)
-    ∙ ap (λ b. first || b) (sym (any-append (λ n. bytes_eq n q) (map text_of (take i xs)) (text_of (get_or xs i d))))
-    ∙ ap (λ ns. first || is_among ns q) (sym (map_more text_of xs i d lt))
-
--- ---- names that stay
-
-kept : (r : Option (List ℕ)) (has b : Bool) (q : List ℕ) → option_or r (cond (has || b) (Some q) None) ≡ option_or (option_or r (cond has (Some q) None)) (cond b (Some q) None)
-kept (Some n) has b q = refl
-kept None true b q = refl
-kept None false b q = refl
-
--- one or more that stay, among those that do
-pub kept-more : (r : Option (List ℕ)) (has b more : Bool) (q : List ℕ) → more ≡ (has || b)
-    → option_or r (cond more (Some q) None) ≡ option_or (option_or r (cond has (Some q) None)) (cond b (Some q) None)
-kept-more r has b more q is = ap (λ c. option_or r (cond c (Some q) None)) is ∙ kept r has b q
-
--- a name that stays is its own new name
-pub own-name : (name new q : List ℕ) → new ≡ name → cond {A = Option (List ℕ)} (bytes_eq name q) (Some q) None ≡ cond (bytes_eq name q) (Some new) None
-own-name name new q is = elim (bytes_eq name q) as (λ b. (bytes_eq name q ≡ b) → cond {A = Option (List ℕ)} b (Some q) None ≡ cond b (Some new) None) [
-  | true ↦ λ e. ap (λ n. Some n) (sym (is ∙ same-text name q e))
-  | false ↦ λ e. refl
-] refl
-
--- ---- new names
-
-put-by : (b : Bool) (r r2 : Option (List ℕ)) (has : Bool) (q new : List ℕ) → r2 ≡ option_or r (cond b (Some new) None) → (b ≡ true → has ≡ false)
-    → option_or r2 (cond has (Some q) None) ≡ option_or (option_or r (cond has (Some q) None)) (cond b (Some new) None)
-put-by true (Some n) r2 has q new is none = ap (λ o. option_or o (cond has (Some q) None)) is
-put-by true None r2 has q new is none =
-    ap (λ o. option_or o (cond has (Some q) None)) is ∙ ap (λ h. option_or (cond {A = Option (List ℕ)} h (Some q) None) (Some new)) (sym (none refl))
-put-by false (Some n) r2 has q new is none = ap (λ o. option_or o (cond has (Some q) None)) is
-put-by false None r2 has q new is none =
-    ap (λ o. option_or o (cond has (Some q) None)) is ∙ elim has as (λ h. cond {A = Option (List ℕ)} h (Some q) None ≡ option_or (cond h (Some q) None) None) [
-      | true ↦ refl
-      | false ↦ refl
-    ]
-
--- a new name, of one that doesn't stay
-pub put-new : (r r2 : List ℕ → Option (List ℕ)) (has : List ℕ → Bool) (name new : List ℕ) → has name ≡ false
-    → ((q : List ℕ) → r2 q ≡ option_or (r q) (cond (bytes_eq name q) (Some new) None))
-    → (q : List ℕ) → option_or (r2 q) (cond (has q) (Some q) None) ≡ option_or (option_or (r q) (cond (has q) (Some q) None)) (cond (bytes_eq name q) (Some new) None)
-put-new r r2 has name new none is q =
-    put-by (bytes_eq name q) (r q) (r2 q) (has q) q new (is q) (λ e. ap has (sym (same-text name q e)) ∙ none)
-
-there-by : (b : Bool) (r : Option (List ℕ)) (has : Bool) (q new : List ℕ) → (b ≡ true → has ≡ true)
-    → option_or r (cond has (Some q) None) ≡ option_or (option_or r (cond has (Some q) None)) (cond b (Some new) None)
-there-by b (Some n) has q new there = refl
-there-by b None true q new there = refl
-there-by true None false q new there = let no : false ≡ true = there refl in absurd cc
-there-by false None false q new there = refl
-
--- and of one that stays
-pub put-there : (r : Option (List ℕ)) (has : List ℕ → Bool) (name new q : List ℕ) → has name ≡ true
-    → option_or r (cond (has q) (Some q) None) ≡ option_or (option_or r (cond (has q) (Some q) None)) (cond (bytes_eq name q) (Some new) None)
-put-there r has name new q there =
-    there-by (bytes_eq name q) r (has q) q new (λ e. ap has (sym (same-text name q e)) ∙ there)
 
 -- ---- no new names
 

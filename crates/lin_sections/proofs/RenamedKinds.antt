@@ -1,24 +1,16 @@
 -- The new names of the things of a kind.
-use Rattle.std.proofs.Common.{◌≡◌, ◌∙◌, ℕ, Bool, true, false, cond, List, [], ◌∷◌, Option, Some, None, option_map, refl, sym, ap}
-use Rattle.std.specs.Prelude.{◌||◌, if◌then◌else◌}
+use Rattle.std.proofs.Common.{◌≡◌, ◌∙◌, ℕ, Bool, true, false, cond, List, ◌∷◌, Option, Some, None, refl, ap}
+use Rattle.std.specs.Prelude.{if◌then◌else◌}
 use Rattle.std.specs.Option.{option_or}
 use Rattle.std.specs.Str.{bytes_eq}
 use Rattle.std.proofs.Math.Path.{fun_ext}
-use Rattle.lin_sections.specs.NewNames.{alone, is_among, new_names, no_names, no_renames, renamed_in, stays, KeyedName, NameMap, RenamesData}
+use Rattle.lin_sections.specs.NewNames.{alone, is_among, new_names, renamed_in, stays, KeyedName, NameMap}
 use Rattle.lin_sections.specs.Renames.{and_names, renamed_names}
 
 -- names after those that are known, and after both
 pub or-after : (a b c : Option (List ℕ)) → option_or (option_or a b) c ≡ option_or a (option_or b c)
 or-after None b c = refl
 or-after (Some x) b c = refl
-
-pub renames-are : (r s : RenamesData) → r.nodes ≡ s.nodes → r.frames ≡ s.frames → r.signals ≡ s.signals → r.tables ≡ s.tables → r.encodings ≡ s.encodings → r ≡ s
-renames-are r s n f g t e =
-    ap (λ (x : NameMap). record r { nodes = x }) n
-    ∙ ap (λ (x : NameMap). record r { nodes = s.nodes; frames = x }) f
-    ∙ ap (λ (x : NameMap). record r { nodes = s.nodes; frames = s.frames; signals = x }) g
-    ∙ ap (λ (x : NameMap). record s { tables = x; encodings = r.encodings }) t
-    ∙ ap (λ (x : NameMap). record s { encodings = x }) e
 
 same-names : (names others : List (List ℕ)) (has_old has_new : List ℕ → Bool) (old_keys keys olds news : List KeyedName)
     → ((q : List ℕ) → has_old q ≡ is_among names q) → ((q : List ℕ) → has_new q ≡ is_among others q)

@@ -1,5 +1,5 @@
 -- The encoding that a signal has, by its number.
-use Rattle.std.proofs.Common.{◌≡◌, ◌∙◌, ◌+◌, ◌<◌, ◌≤◌, ℕ, Bool, List, length, refl, sym, ap, arith}
+use Rattle.std.proofs.Common.{◌≡◌, ◌∙◌, ℕ, Bool, List, length, refl, sym, ap, arith}
 use Rattle.std.specs.Prelude.{find, option_and_then, option_map, slice_get, Option, Some, None}
 use Rattle.std.specs.List.{position_or_len}
 use Rattle.std.proofs.lemmas.Iterator.Adapters.{position_from-zero}

@@ -1,7 +1,6 @@
 -- The entries of schedule tables, and tables, one by one.
-use Rattle.std.proofs.Common.{◌≡◌, ◌∙◌, ◌+◌, ◌<◌, ◌≤◌, ℕ, List, [], ◌∷◌, ◌++◌, length, take, drop, get_or, add-one, append-nil, append_assoc, drop-cons, refl, sym, ap}
+use Rattle.std.proofs.Common.{◌≡◌, ◌∙◌, ◌+◌, ◌<◌, ℕ, List, [], ◌∷◌, ◌++◌, length, take, drop, get_or, add-one, append-nil, append_assoc, drop-cons, sym, ap}
 use Rattle.std.specs.Prelude.{flat_map, zip}
-use Rattle.std.proofs.lemmas.List.{drop_all}
 use Rattle.std.proofs.lemmas.List.Concat.{flat_map-append}
 use Rattle.lin_ldf.specs.Symbols.{Symbol}
 use Rattle.lin_parts.specs.declared.description.TableEntry.{TableEntry}
@@ -21,11 +20,6 @@ entries-more r es i e line next x old new total lt is passed made added so_far =
     ap (entry_facts r i line) (drop-cons es i e lt ∙ (λ j. sym is j ∷ drop (sym (add-one i) j) es)) ∙ ap (λ (f : EntryFact). f ∷ rest) (sym made) in
     (λ j. added j ++ entry_facts r (i + 1) (passed j) (drop (i + 1) es))
     ∙ append_assoc old (x ∷ []) rest ∙ ap (λ fs. old ++ fs) (sym first) ∙ so_far
-
-pub entries-all : (r : RenamesData) (es : List TableEntry) (i : ℕ) (line : List Symbol) (found total : List EntryFact) → length es ≤ i
-    → found ++ entry_facts r i line (drop i es) ≡ total → found ≡ total
-entries-all r es i line found total past so_far =
-    sym (append-nil found) ∙ ap (λ xs. found ++ entry_facts r i line xs) (sym (drop_all i es past)) ∙ so_far
 
 -- what is made of a pair more
 pub pairs-more : {X Y Z : Type 0} (f : X × Y → List Z) (xs : List X) (ys : List Y) (i : ℕ) (x : X) (y : Y) (old new : List Z) → i < length xs → i < length ys

@@ -1,6 +1,6 @@
 -- Texts that come several times, and their places.
 use Rattle.std.proofs.Common.{◌≡◌, ◌+◌, ◌<◌, ◌≤◌, ◌++◌, ℕ, zero, suc, Bool, true, false, cond, List, [], ◌∷◌, length, map, min, take, drop, get_or, set, arith, refl, sym, ap, subst, append-nil, append_assoc, length-append, ◌∙◌}
-use Rattle.std.specs.Prelude.{count_by, if◌then◌else◌, Option, Some, None, unwrap_or, zip}
+use Rattle.std.specs.Prelude.{if◌then◌else◌, Option, Some, unwrap_or, zip}
 use Rattle.std.specs.Str.{bytes_eq}
 use Rattle.std.proofs.lemmas.List.{drop_all, get_or_default, take_all, take_more}
 use Rattle.std.proofs.lemmas.List.Sums.{count_by-le-length, sum_by-append}

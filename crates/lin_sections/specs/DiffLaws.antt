@@ -7,7 +7,7 @@ use Rattle.lin_parts.specs.declared.description.Frame.{Frame}
 use Rattle.lin_parts.specs.declared.description.PlacedSignal.{PlacedSignal}
 use Rattle.lin_parts.specs.declared.description.Signal.{Signal}
 use Rattle.lin_parts.specs.declared.description.Table.{Table}
-use Rattle.lin_sections.specs.Differences.{all_differences, fact_with, kind_differences, thing_named, DifferenceData}
+use Rattle.lin_sections.specs.Differences.{all_differences, fact_with, kind_differences, thing_named}
 use Rattle.lin_sections.specs.NewNames.{name_in, no_renames, RenamesData}
 use Rattle.lin_sections.specs.Numbering.{entry_id}
 use Rattle.lin_sections.specs.Renames.{all_renames}

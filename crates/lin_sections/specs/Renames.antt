@@ -1,7 +1,7 @@
 -- The things of the old LDF that have another name in the new one, kind by kind: the key of one has the new names
 -- of others.
-use Rattle.std.specs.Prelude.{◌≡◌, ℕ, ◌&&◌, ◌++◌, Bool, List, [], ◌∷◌, codes, filter, find, flat_map, fold, if◌then◌else◌, map}
-use Rattle.std.specs.Prelude.{not, Option}
+use Rattle.std.specs.Prelude.{◌≡◌, ℕ, ◌++◌, List, [], ◌∷◌, codes, filter, find, flat_map, fold, if◌then◌else◌, map}
+use Rattle.std.specs.Prelude.{Option}
 use Rattle.std.specs.Fmt.{decimal}
 use Rattle.std.specs.Option.{option_map_or, option_or}
 use Rattle.std.specs.Str.{bytes_eq}

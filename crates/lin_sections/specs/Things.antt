@@ -2,11 +2,11 @@
 -- those that the new LDF has.
 use Rattle.std.specs.Prelude.{◌≡◌, ℕ, ◌+◌, ◌-◌, ◌%◌, ◌&&◌, ◌||◌, ◌++◌, Bool, List, [], ◌∷◌, codes, filter, find}
 use Rattle.std.specs.Prelude.{flat_map}
-use Rattle.std.specs.Prelude.{fold, if◌then◌else◌, map, nat_le, not, option_and_then, option_map, slice_get, zip}
-use Rattle.std.specs.Prelude.{Option, Some, None, is_some}
+use Rattle.std.specs.Prelude.{fold, if◌then◌else◌, map, nat_le, not, option_and_then, slice_get, zip}
+use Rattle.std.specs.Prelude.{Option, Some, None}
 use Rattle.std.specs.Fmt.{decimal}
 use Rattle.std.specs.List.{list_any}
-use Rattle.std.specs.Option.{option_map_or, option_to_list}
+use Rattle.std.specs.Option.{option_map_or}
 use Rattle.std.specs.Str.{bytes_eq}
 use Rattle.lin_cluster.specs.FindingsNames.{same_name, signal_named}
 use Rattle.lin_cluster.specs.LintNames.{has_dot}

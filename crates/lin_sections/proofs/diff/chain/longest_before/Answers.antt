@@ -1,6 +1,4 @@
-use Rattle.std.proofs.Common.{◌≡◌, ◌+◌, ◌-◌, ◌≤◌, ◌<◌, All, length, drop, arith, rules, sym}
-use Rattle.std.proofs.lemmas.Grind.{common_steps}
-use Rattle.std.specs.Prelude.{slice_index}
+use Rattle.std.proofs.Common.{◌-◌, ◌≤◌, drop, arith}
 use Rattle.lin_sections.specs.Moved.{longest_before}
 use Rattle.lin_sections.proofs.MovedChains.{longest-few, longest-init, longest-more, longest-part}
 use Rattle.lin_sections.proofs.diff.chain.longest_before.Goals as goal

@@ -1,4 +1,4 @@
-use Rattle.std.proofs.Common.{◌≡◌, Bool, ap, arith, sym, ◌∙◌}
+use Rattle.std.proofs.Common.{Bool, ap, arith, sym, ◌∙◌}
 use Rattle.std.proofs.Math.ListN.{length-set}
 use Rattle.lin_sections.specs.Moved.{without_marks}
 use Rattle.lin_sections.proofs.MovedChains.{chain-ends, chain-goes-on}

@@ -1,4 +1,4 @@
-use Rattle.std.proofs.Common.{◌≡◌, ◌∙◌, List, map, ap}
+use Rattle.std.proofs.Common.{◌∙◌, List, map, ap}
 use Rattle.std.proofs.lemmas.List.{take_all}
 use denote.Ref.{Bor}
 use Rattle.lin_sections.specs.NewNames.{alone, has_in, KeyedName}

@@ -1,6 +1,5 @@
-use Rattle.std.proofs.Common.{◌≡◌, ◌∙◌, ℕ, Bool, List, map, ap}
+use Rattle.std.proofs.Common.{◌∙◌, Bool, List, map, ap}
 use Rattle.std.specs.Prelude.{◌||◌}
-use Rattle.std.specs.List.{list_any}
 use Rattle.std.proofs.lemmas.List.{take_all}
 use Rattle.lin_parts.specs.declared.description.EventFrame.{EventFrame}
 use Rattle.lin_parts.specs.declared.description.Name.{Name}

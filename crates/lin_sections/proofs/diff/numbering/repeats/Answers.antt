@@ -1,4 +1,4 @@
-use Rattle.std.proofs.Common.{◌≡◌, ◌+◌, ◌<◌, ◌≤◌, ◌^◌, ℕ, List, [], ◌∷◌, ◌++◌, length, map, take, ap, arith, sym, subst, ◌∙◌}
+use Rattle.std.proofs.Common.{◌+◌, ◌<◌, ◌≤◌, ◌^◌, ℕ, List, [], ◌∷◌, ◌++◌, length, map, take, ap, arith, sym, subst, ◌∙◌}
 use denote.Ref.{Bor}
 use Rattle.std.proofs.lemmas.List.{length-take-le, take_more}
 use Rattle.lin_sections.specs.Numbering.{count_of, repeats, AreTextCounts}

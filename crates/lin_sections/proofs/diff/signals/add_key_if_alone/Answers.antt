@@ -1,7 +1,7 @@
-use Rattle.std.proofs.Common.{◌≡◌, ◌++◌, ◌∙◌, ℕ, Bool, true, false, List, map, append-nil, ap, sym}
+use Rattle.std.proofs.Common.{◌≡◌, ◌++◌, ◌∙◌, true, false, List, map, append-nil, ap, sym}
 use Rattle.std.proofs.lemmas.Result.{on_ok_weaker}
 use Rattle.lin_parts.specs.declared.description.Signal.{Signal}
-use Rattle.lin_sections.specs.NewNames.{alone, has_in, is_among, keyed_name, KeyedName}
+use Rattle.lin_sections.specs.NewNames.{has_in, is_among, keyed_name, KeyedName}
 use Rattle.lin_sections.specs.Renames.{signal_key}
 use Rattle.lin_sections.proofs.PlacesOfSignals.{key-kept, key-left}
 use Rattle.lin_sections.proofs.diff.signals.add_key_if_alone.Goals as goal

@@ -1,7 +1,6 @@
 use Rattle.std.proofs.Common.{◌≡◌, ◌∙◌, ℕ, List, ap}
-use Rattle.std.specs.Prelude.{find, option_and_then, option_map, slice_get, Option, Some, None}
+use Rattle.std.specs.Prelude.{find, option_and_then, option_map, slice_get, Option, Some}
 use Rattle.lin_cluster.proofs.NamesFound.{lent-at}
-use Rattle.lin_parts.specs.declared.description.Name.{Name}
 use Rattle.lin_values.specs.Coded.{is_named, named_in}
 use Rattle.lin_values.specs.Gathered.{encoding_in, type_number}
 use Rattle.lin_values.specs.declared.codings.Codings.{Codings}

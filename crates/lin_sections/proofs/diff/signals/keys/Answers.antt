@@ -1,4 +1,4 @@
-use Rattle.std.proofs.Common.{◌≡◌, ◌∙◌, ◌<◌, ℕ, Bool, true, false, List, [], length, get_or, flat_map, map, take, ap, sym, subst}
+use Rattle.std.proofs.Common.{◌≡◌, ◌∙◌, ◌<◌, ℕ, Bool, List, [], length, get_or, flat_map, map, ap, sym, subst}
 use Rattle.std.specs.Prelude.{filter, not}
 use Rattle.lin_parts.specs.declared.description.Signal.{Signal}
 use Rattle.lin_sections.specs.NewNames.{alone, has_in, is_among, keyed_name, renames_data, KeyedName, RenamesData}

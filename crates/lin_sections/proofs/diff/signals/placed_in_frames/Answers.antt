@@ -1,4 +1,4 @@
-use Rattle.std.proofs.Common.{◌≡◌, ◌∙◌, ◌<◌, ℕ, List, length, get_or, flat_map, map, take, ap, subst}
+use Rattle.std.proofs.Common.{◌≡◌, ◌∙◌, ◌<◌, ℕ, List, length, get_or, flat_map, take, ap, subst}
 use Rattle.std.specs.Prelude.{filter, fold, not}
 use Rattle.std.proofs.Math.Path.{fun_ext}
 use Rattle.lin_parts.specs.declared.description.Frame.{Frame}

@@ -1,4 +1,4 @@
-use Rattle.std.proofs.Common.{◌≡◌, flat_map, map, take}
+use Rattle.std.proofs.Common.{flat_map, take}
 use Rattle.std.specs.Prelude.{filter, not}
 use Rattle.lin_sections.specs.NewNames.{has_in, renames_data}
 use Rattle.lin_sections.specs.Renames.{places_in, all_signal_names}

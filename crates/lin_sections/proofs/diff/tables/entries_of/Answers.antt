@@ -1,7 +1,6 @@
-use Rattle.std.proofs.Common.{ap, ◌∙◌, sym}
-use Rattle.lin_parts.specs.declared.description.TableEntry.{TableEntry}
+use Rattle.std.proofs.Common.{ap, ◌∙◌}
 use Rattle.lin_sections.specs.NewNames.{renames_data}
-use Rattle.lin_sections.specs.Things.{entry_facts, entry_fact, entry_word}
+use Rattle.lin_sections.specs.Things.{entry_facts, entry_fact}
 use Rattle.lin_sections.proofs.TableSteps.{entries-more}
 use Rattle.lin_sections.proofs.diff.tables.entries_of.Goals as goal
 

@@ -1,4 +1,4 @@
-use Rattle.std.proofs.Common.{◌≡◌, ◌+◌, ◌++◌, drop}
+use Rattle.std.proofs.Common.{◌≡◌, ◌++◌, drop}
 use Rattle.lin_sections.specs.NewNames.{renames_data}
 use Rattle.lin_sections.specs.Things.{entry_facts}
 use Rattle.lin_sections.proofs.diff.tables.entries_of.Given as goal

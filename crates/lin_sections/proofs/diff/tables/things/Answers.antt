@@ -1,8 +1,6 @@
-use Rattle.std.proofs.Common.{◌≡◌, ◌∙◌, ◌++◌, ◌<◌, ◌≤◌, ℕ, List, length, flat_map, get_or, take, ap, arith, sym, subst}
-use Rattle.std.specs.Prelude.{min, zip}
+use Rattle.std.proofs.Common.{◌≡◌, ◌∙◌, ◌++◌, ◌<◌, ◌≤◌, ℕ, List, length, flat_map, get_or, ap, arith}
+use Rattle.std.specs.Prelude.{min}
 use Rattle.std.proofs.lemmas.List.{get_or_default}
-use Rattle.lin_ldf.specs.Stream.{start_of}
-use Rattle.lin_ldf.specs.Symbols.{symbols_in}
 use Rattle.lin_parts.specs.declared.description.Table.{Table}
 use Rattle.lin_sections.specs.NewNames.{renames_data, RenamesData}
 use Rattle.lin_sections.specs.Things.{compared_data, lines_in, table_thing_of, text_tables, ComparedData}

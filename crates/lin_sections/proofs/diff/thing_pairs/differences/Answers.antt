@@ -1,7 +1,7 @@
 use Rattle.std.proofs.Common.{◌≡◌, ◌∙◌, ◌+◌, ◌<◌, ◌++◌, ◌∷◌, [], ℕ, List, append-nil, length, flat_map, get_or, take, add-one, ap, arith, sym}
 use Rattle.std.specs.Prelude.{min, zip}
 use Rattle.std.proofs.lemmas.List.Concat.{flat_map-append}
-use Rattle.lin_sections.specs.Differences.{all_differences, differences_data, kind_differences}
+use Rattle.lin_sections.specs.Differences.{all_differences, kind_differences}
 use Rattle.lin_sections.specs.declared.diff.fact.Thing.{Thing}
 use Rattle.lin_sections.proofs.TextNumbers.{pairs-all, pairs-more}
 use Rattle.lin_sections.proofs.diff.thing_pairs.differences.Goals as goal

@@ -1,4 +1,3 @@
-use Rattle.std.proofs.Common.{◌≡◌, ap, sym, ◌∙◌}
 use Rattle.lin_sections.proofs.NewNameSteps.{names-kept}
 use Rattle.lin_sections.proofs.diff.new_names.KnownNames.add_all.Goals as goal
 

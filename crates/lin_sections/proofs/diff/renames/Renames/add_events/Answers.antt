@@ -1,11 +1,10 @@
-use Rattle.std.proofs.Common.{◌≡◌, ◌∙◌, List, map, ap}
+use Rattle.std.proofs.Common.{◌∙◌, List, map, ap}
 use Rattle.std.specs.Option.{option_or}
 use Rattle.std.proofs.lemmas.Result.{on_ok_weaker}
 use Rattle.lin_parts.specs.declared.description.EventFrame.{EventFrame}
 use Rattle.lin_sections.specs.NewNames.{has_in, is_among, keyed_name, known_by, new_names, renames_data, KeyedName, NameMap}
 use Rattle.lin_sections.specs.Renames.{event_keys, all_event_names}
 use Rattle.lin_sections.specs.Things.{compared_data, ComparedData}
-use Rattle.lin_sections.specs.declared.diff.new_names.Keyed.{Keyed}
 use Rattle.lin_sections.proofs.RenamedKinds.{kind-named}
 use Rattle.lin_sections.proofs.diff.renames.Renames.add_events.Goals as goal
 

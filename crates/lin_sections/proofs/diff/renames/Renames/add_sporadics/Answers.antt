@@ -1,11 +1,10 @@
-use Rattle.std.proofs.Common.{◌≡◌, ◌∙◌, List, map, ap}
+use Rattle.std.proofs.Common.{◌∙◌, List, map, ap}
 use Rattle.std.specs.Option.{option_or}
 use Rattle.std.proofs.lemmas.Result.{on_ok_weaker}
 use Rattle.lin_parts.specs.declared.description.Sporadic.{Sporadic}
 use Rattle.lin_sections.specs.NewNames.{alone, has_in, is_among, keyed_name, known_by, new_names, no_renames, renames_data, KeyedName, NameMap, RenamesData}
 use Rattle.lin_sections.specs.Renames.{sporadic_keys, all_sporadic_names}
 use Rattle.lin_sections.specs.Things.{compared_data, ComparedData}
-use Rattle.lin_sections.specs.declared.diff.new_names.Keyed.{Keyed}
 use Rattle.lin_sections.proofs.RenamedKinds.{kind-named}
 use Rattle.lin_sections.proofs.diff.renames.Renames.add_sporadics.Goals as goal
 

@@ -1,8 +1,7 @@
-use Rattle.std.proofs.Common.{◌≡◌, ◌<◌, ◌≤◌, ◌∙◌, List, ℕ, [], length, get_or, set, ap, sym, arith, subst}
+use Rattle.std.proofs.Common.{◌≡◌, ◌<◌, ◌≤◌, ◌∙◌, List, ℕ, [], length, get_or, set, ap, arith}
 use Rattle.std.proofs.Math.ListN.{length-set}
 use Rattle.std.proofs.lemmas.List.{get_or_default}
-use Rattle.lin_sections.specs.NewNames.{is_among}
-use Rattle.lin_sections.specs.SignalPlaces.{number_among, places_under, with_place}
+use Rattle.lin_sections.specs.SignalPlaces.{number_among, places_under}
 use Rattle.lin_sections.specs.SortedTexts.{insert_text}
 use Rattle.lin_sections.proofs.PlacesOfSignals.{place-added, place-left}
 use Rattle.lin_sections.proofs.diff.signals.Places.add.Goals as goal

@@ -1,4 +1,4 @@
-use Rattle.std.proofs.Common.{◌≡◌, List, ℕ, map, take}
+use Rattle.std.proofs.Common.{List, ℕ, map, take}
 use Rattle.std.specs.Prelude.{filter, fold}
 use Rattle.lin_sections.specs.SignalPlaces.{ArePlacesOf}
 use Rattle.lin_sections.specs.SortedTexts.{insert_text}
