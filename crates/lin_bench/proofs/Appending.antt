@@ -1,6 +1,7 @@
 -- Lines that are read, and those that are left.
 use Rattle.std.proofs.Common.{◌≡◌, ◌-◌, ◌≤◌, ℕ, List, [], ◌∷◌, ◌++◌, refl, ap, append_assoc, arith, drop, length, slice_index_or, sym, take, Result, Ok, Err}
 use Rattle.std.proofs.lemmas.Grind.{common_steps}
+use Rattle.lin_log.proofs.CallerTexts.{all-after}
 use Rattle.lin_bench.specs.Fields.{◌>>=◌}
 use Rattle.lin_bench.specs.Scripts.{Script, with_line}
 use Rattle.lin_bench.specs.declared.line.ScriptLine.{ScriptLine}
@@ -26,14 +27,6 @@ abbrev pub nodes_before : List ℕ → Result (List ℕ × List (List ℕ)) Reas
 nodes_before ns r = r >>= (λ p. Ok (ns ++ p.0, p.1))
 
 -- a list, by its first item and those after it
-all-after : {X : Type 0} (y : X) (ys : List X) → take (length (y ∷ ys) - 1) ys ≡ ys
-all-after y ys = grind (arith, common_steps)
-
-pub first-and-rest : {X : Type 0} (xs : List X) (x : X) → 1 ≤ length xs → x ≡ slice_index_or xs 0 x
-    → xs ≡ x ∷ take (length xs - 1) (drop 1 xs)
-first-and-rest [] x h e = absurd (omega arith)
-first-and-rest (y ∷ ys) x h e = let same : x ≡ y = e in rw same (ap (λ l. y ∷ l) (sym (all-after y ys)))
-
 pub head-and-rest : {X : Type 0} (xs : List X) (d : X) → 1 ≤ length xs → xs ≡ slice_index_or xs 0 d ∷ take (length xs - 1) (drop 1 xs)
 head-and-rest [] d h = absurd (omega arith)
 head-and-rest (y ∷ ys) d h = ap (λ l. y ∷ l) (sym (all-after y ys))

@@ -15,10 +15,6 @@ use Rattle.lin_bench.specs.declared.got.Got.TheVariants as got
 use Rattle.lin_bench.specs.declared.got.Pending.{Pending}
 use Rattle.lin_bench.specs.declared.got.Pending.TheVariants.{MessagesWait, AnswersNoted}
 
--- one byte more
-pub each-next : (f : ℕ → ℕ) (xs : List ℕ) (i d : ℕ) → i < length xs → map f (take (i + 1) xs) ≡ map f (take i xs) ++ f (get_or xs i d) ∷ []
-each-next f xs i d h = ap (map f) (take_more xs i d h) ∙ map-append f (take i xs) (get_or xs i d ∷ [])
-
 -- the text of one item more
 pub grows-copied : {W X : Type 0} {contents : W → Option (List ℕ)} {x y z : TextWriter W} (f : X → List ℕ) (xs : List X) (i : ℕ) (d : X) → i < length xs
     → Grows contents x y (flat_map f (take i xs)) → Grows contents y z (f (get_or xs i d)) → Grows contents x z (flat_map f (take (i + 1) xs))

@@ -1,8 +1,9 @@
 -- Lines as lists of words and marks.
-use Rattle.std.specs.Prelude.{ℕ, ◌==◌, Bool, true, false, if◌then◌else◌, List, [], ◌∷◌, ◌++◌, codes, flat_map, map, Option, Some, None}
+use Rattle.std.specs.Prelude.{ℕ, Bool, true, false, if◌then◌else◌, List, [], ◌∷◌, ◌++◌, codes, flat_map, map, Option, Some, None}
 use Rattle.std.specs.Fmt.{decimal}
 use Rattle.hex.specs.Hex.{encode_upper}
 use Rattle.lin_frame.specs.declared.value.Value.{Value}
+use Rattle.lin_log.specs.CallerTexts.{seen_text, seen_texts}
 use Rattle.lin_log.specs.Language.{Called, Language, word_of}
 use Rattle.lin_log.specs.Words.{hex_word, spaced_word, value_word}
 use Rattle.lin_bench.specs.declared.expected.Carried.{Carried}
@@ -49,21 +50,6 @@ as_word (code.Mark text) = Mark text.now
 abbrev pub fields_text : List (List ℕ) → List ℕ
 fields_text [] = []
 fields_text (f ∷ fs) = f ++ flat_map spaced_word fs
-
--- a caller's text is seen with `?` in the place of each LF, which no line has
-abbrev pub seen_byte : ℕ → ℕ
-seen_byte b = if b == 10 then 63 else b
-
-abbrev pub seen_text : List ℕ → List ℕ
-seen_text text = map seen_byte text
-
-abbrev pub seen_after : List ℕ → List ℕ → List ℕ
-seen_after gap text = gap ++ seen_text text
-
--- texts of a caller's, with what stands between two
-abbrev pub seen_texts : List ℕ → List (List ℕ) → List ℕ
-seen_texts gap [] = []
-seen_texts gap (t ∷ ts) = seen_text t ++ flat_map (seen_after gap) ts
 
 abbrev pub carried_word : Called → Carried → List ℕ
 carried_word frames (Signals f) = word_of frames f

@@ -67,7 +67,7 @@ pub use got_meanings::{told_meaning, told_meanings};
 pub use law::{faults_change_their_slots_alone, plain_scripts_say_the_same, rules_alone_add_steps};
 pub use lin_core::Look;
 pub use line::{Disturbance, Extent, ScriptLine, Slots};
-pub use line_words::{LineNaming, Word, put_seen, put_spaced, put_texts, put_words};
+pub use line_words::{LineNaming, Word, put_spaced, put_words};
 pub use lines::read_line;
 pub use marks::Mark;
 pub use meant::MeantValues;

@@ -7,14 +7,14 @@ ghost use Rattle.lin_log.specs.Language.{Called, name_at, nameless, word_of};
 ghost use Rattle.lin_log.specs.Words.{value_word};
 ghost use Rattle.lin_text.specs.Written.{Grows};
 ghost use Rattle.lin_bench.specs.Fields.{frames_called};
-ghost use Rattle.lin_bench.specs.LineWords.{byte_word, carried_word, is_mark_word, pattern_word, as_word, seen_after, seen_byte};
-ghost use Rattle.lin_bench.specs.LineWords.{seen_text, seen_texts, text_after_space, spaced_words, word_text};
+ghost use Rattle.lin_bench.specs.LineWords.{byte_word, carried_word, is_mark_word, pattern_word, as_word};
+ghost use Rattle.lin_bench.specs.LineWords.{text_after_space, spaced_words, word_text};
 ghost use Rattle.lin_bench.specs.LineWords.{words_text};
 
 use crate::expected::Carried;
 use crate::rules::Pattern;
 use lin_frame::Value;
-use lin_log::{Naming, NumberNaming, put_hex};
+use lin_log::{Naming, NumberNaming, put_hex, put_seen, put_texts};
 use lin_parts::Cluster;
 use lin_text::{Text, TextWriter};
 use std::io::Write;
@@ -175,43 +175,6 @@ pub(crate) fn put_pattern<W: Write>(out: &mut TextWriter<'_, W>, pattern: &Patte
     put_pattern_bytes(out, pattern.bytes.as_slice());
     if pattern.more {
         out.put_byte(b'*');
-    }
-}
-
-fn seen(byte: u8) -> u8
-    ensures { result ≡ seen_byte byte }
-{
-    if byte == b'\n' { b'?' } else { byte }
-}
-
-/// A text of the caller's, with `?` in the place of each LF.
-pub fn put_seen<W: Write>(out: &mut TextWriter<'_, W>, text: &[u8])
-    ensures { Grows W.contents out.old out.new (seen_text text.now) }
-{
-    for byte in text {
-        out.put_byte(seen(*byte));
-    }
-}
-
-fn put_all_seen<W: Write>(out: &mut TextWriter<'_, W>, gap: &str, texts: &[Text])
-    ensures { Grows W.contents out.old out.new (flat_map (seen_after gap.now) texts.now) }
-{
-    for text in texts {
-        out.put_text(gap);
-        put_seen(out, text.as_slice());
-    }
-}
-
-/// Texts of the caller's, with what stands between two.
-pub fn put_texts<W: Write>(out: &mut TextWriter<'_, W>, gap: &str, texts: &[Text])
-    ensures { Grows W.contents out.old out.new (seen_texts gap.now texts.now) }
-{
-    match texts {
-        [] => {}
-        [first, rest @ ..] => {
-            put_seen(out, first.as_slice());
-            put_all_seen(out, gap, rest);
-        }
     }
 }
 

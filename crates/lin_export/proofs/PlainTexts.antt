@@ -1,4 +1,4 @@
--- Decimals need neither quotes in a table nor escapes in JSON.
+-- Decimals need neither quotes in a table nor escapes in JSON, and have no LF.
 use Rattle.std.proofs.Common.{◌≡◌, ◌≤◌, ◌<◌, ◌+◌, ◌/◌, ◌%◌, ◌^◌, ◌==◌, ℕ, zero, suc, List, [], ◌∷◌, ◌++◌, refl, ap, ◌∙◌, add-one, arith}
 use Rattle.std.specs.Prelude.{◌||◌, nat_lt, All, Bool, true, false, ⊤, if◌then◌else◌}
 use Rattle.std.specs.Fmt.{decimal}
@@ -7,6 +7,7 @@ use Rattle.std.proofs.lemmas.Bool.Decides.{nat_tests}
 use Rattle.std.proofs.lemmas.Fmt.{decimal_by_steps_wide}
 use Rattle.std.proofs.lemmas.List.Folds.{list_any_none}
 use Rattle.lin_core.proofs.slots.ClusterFrames.{all-cons}
+use Rattle.lin_log.specs.CallerTexts.{seen_text}
 use Rattle.lin_values.specs.Shown.{decimal_shown, fraction, last_digits, sign}
 use Rattle.lin_values.specs.Value.{IsReadable}
 use Rattle.lin_values.specs.declared.decimals.Decimal.{Decimal}
@@ -82,3 +83,11 @@ none-quoted (b ∷ bs) h = all-cons (λ x. (x == 44 || x == 34) ≡ false) b bs 
 
 pub cell-plain : (text : List ℕ) → ArePlain text → text_cell text ≡ text
 cell-plain text h = if-false (needs_quotes text) _ text (list_any_none (λ b. b == 44 || b == 34) text (none-quoted text h))
+
+not-lf : (b : ℕ) (t : Bool) → IsPlain b → (b == 10) ≡ t → t ≡ false
+not-lf b true h e = absurd (grind (arith, nat_tests, e, h))
+not-lf b false h e = refl
+
+pub seen-plain : (text : List ℕ) → ArePlain text → seen_text text ≡ text
+seen-plain [] h = refl
+seen-plain (b ∷ bs) h = ap (λ x. x ∷ seen_text bs) (if-false (b == 10) 63 b (not-lf b (b == 10) h.0 refl)) ∙ ap (λ l. b ∷ l) (seen-plain bs h.1)

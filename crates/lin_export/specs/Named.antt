@@ -26,6 +26,7 @@ use Rattle.lin_core.specs.declared.reply.Reply.TheVariants.{Done, Refused}
 use Rattle.lin_core.specs.declared.step.Step.{Step}
 use Rattle.lin_core.specs.declared.step.Step.TheVariants.{Finish, Write}
 use Rattle.lin_core.specs.Tables.{refusal_number, refusal_word}
+use Rattle.lin_log.specs.CallerTexts.{seen_text}
 use Rattle.lin_log.specs.Language.{named_language}
 use Rattle.lin_log.specs.Words.{event_words, log_text, value_word}
 use Rattle.lin_values.specs.Coded.{CodedData}
@@ -110,7 +111,7 @@ words_after_event c o e = None
 abbrev pub value_lines : Parts → CodedData → ℕ → Value → List (List (List ℕ))
 value_lines c k s v =
     option_map_or
-    (λ m. (codes "value" ∷ (signal_of c s).name ∷ shown m ∷ []) ∷ []) (meaning k s v) []
+    (λ m. (codes "value" ∷ (signal_of c s).name ∷ seen_text (shown m) ∷ []) ∷ []) (meaning k s v) []
 
 -- the signals of a frame, in the order of the places
 abbrev pub place_values : Parts → CodedData → List ℕ → ℕ × Place → List (List (List ℕ))

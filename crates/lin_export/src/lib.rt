@@ -33,6 +33,7 @@ mod jsonl;
 mod kept_cells;
 mod last_slot;
 mod law;
+mod line_meanings;
 mod listing;
 mod meaning_cells;
 mod named;
@@ -58,6 +59,7 @@ pub use json::{
 pub use jsonl::{Counts, ObjectTrack, Opening, Unmet, objects_text, put_run, write_run};
 pub use last_slot::{LastSlot, put_last_slot, put_last_slot_value};
 pub use law::{captures_what_was_seen, dumps_last_values, maps_tell_places};
+pub use line_meanings::put_line_meaning;
 pub use listing::{
     FrameTiming, Latency, TableTiming, table_loads, table_timings, write_frames, write_list,
     write_maps, write_signals, write_slots, write_timing,

@@ -9,12 +9,13 @@ ghost use Rattle.lin_export.specs.Open.{tracked_slot};
 ghost use Rattle.lin_export.specs.WhereTold.{given_coding, where_told};
 
 use crate::frame_places::{place_count, value_at};
+use crate::line_meanings::put_line_meaning;
 use crate::slot::OpenSlot;
 use lin_core::{Event, Seen, Step};
 use lin_frame::{Answer, Value};
 use lin_parts::Cluster;
 use lin_text::TextWriter;
-use lin_values::{Coded, put_meaning};
+use lin_values::Coded;
 use std::io::Write;
 
 /// The line of what a value of a signal means, where it means something.
@@ -33,7 +34,7 @@ fn put_value<W: Write>(
         out.put(b"> value ");
         out.put(cluster.signal_name(signal));
         out.put_byte(b' ');
-        put_meaning(out, &meaning);
+        put_line_meaning(out, &meaning);
         out.put_byte(b'\n');
     }
 }

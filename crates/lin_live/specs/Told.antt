@@ -8,6 +8,7 @@ use Rattle.lin_parts.specs.declared.parts.Parts.{Parts}
 use Rattle.lin_core.specs.Tables.{refusal_number, refusal_word}
 use Rattle.lin_core.specs.declared.log.LogEntry.{LogEntry}
 use Rattle.lin_core.specs.declared.reply.Refusal.{Refusal}
+use Rattle.lin_log.specs.CallerTexts.{seen_texts}
 use Rattle.lin_log.specs.Words.{spaced_word, text}
 use Rattle.lin_export.specs.Csv.{after_comma}
 use Rattle.lin_export.specs.Json.{member, object_line, printable_text, quoted_text}
@@ -19,7 +20,6 @@ use Rattle.lin_bench.specs.Scripts.{without_mark}
 use Rattle.lin_bench.specs.Made.{BenchState, made}
 use Rattle.lin_bench.specs.Slots.{slot_limit}
 use Rattle.lin_bench.specs.Strict.{entries_since, first_refusal}
-use Rattle.lin_bench.specs.LineWords.{seen_texts}
 use Rattle.lin_bench.specs.Texts.{expected_text, got_text}
 use Rattle.lin_bench.specs.Texts.{reason_text as script_text, verdict_text}
 use Rattle.lin_bench.specs.declared.got.Verdict.{Verdict}

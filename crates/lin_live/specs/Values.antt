@@ -13,6 +13,7 @@ use Rattle.lin_core.specs.Next.{next_slot}
 use Rattle.lin_core.specs.Signals.{value_at}
 use Rattle.lin_core.specs.declared.event.Event.TheVariants.{Slot}
 use Rattle.lin_core.specs.declared.log.LogEntry.{LogEntry}
+use Rattle.lin_log.specs.CallerTexts.{seen_text, seen_texts}
 use Rattle.lin_log.specs.Words.{spaced_word, value_word}
 use Rattle.lin_values.specs.Coded.{CodedData}
 use Rattle.lin_values.specs.Meaning.{meaning_if_coded as meaning_of}
@@ -20,7 +21,6 @@ use Rattle.lin_values.specs.Shown.{shown as meaning_text}
 use Rattle.lin_bench.specs.Slots.{pending}
 use Rattle.lin_bench.specs.Texts.{pending_text, table_word}
 use Rattle.lin_bench.specs.declared.got.Pending.{Pending}
-use Rattle.lin_bench.specs.LineWords.{seen_texts}
 use Rattle.lin_bench.specs.RulesInForce.{lines_of_rules}
 use Rattle.lin_bench.specs.declared.rules.Rules.{Rules as RulesInForce}
 use Rattle.lin_export.specs.Json.{json_array, member, object, printable_text, quoted_text}
@@ -107,7 +107,7 @@ objects_version = 2
 abbrev pub shown_value : Option CodedData → ℕ → Value → List ℕ
 shown_value k signal value =
     value_word value
-    ++ option_map_or (λ m. spaced_word (meaning_text m)) (meaning_of k signal value) []
+    ++ option_map_or (λ m. spaced_word (seen_text (meaning_text m))) (meaning_of k signal value) []
 
 -- a node with its diagnostic address
 abbrev pub addressed_node : Parts → ℕ → List ℕ

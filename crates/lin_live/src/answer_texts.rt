@@ -20,14 +20,14 @@ ghost use Rattle.lin_values.specs.Coded.{CodedData};
 use crate::answer_value::AnswerValue;
 use crate::reason::Reason;
 use crate::versions::{OBJECTS_VERSION, PROGRAM_VERSION};
-use lin_bench::{Pending, Verdict, first_refusal, put_pending, put_reason, put_texts, put_verdict};
+use lin_bench::{Pending, Verdict, first_refusal, put_pending, put_reason, put_verdict};
 use lin_core::{Core, Event, Listed, Log, Refusal};
-use lin_export::{Track, named_text, put_last_slot, put_slot_names};
+use lin_export::{Track, named_text, put_last_slot, put_line_meaning, put_slot_names};
 use lin_frame::Value;
-use lin_log::{put_entries, put_number, put_table, put_value, put_word};
+use lin_log::{put_entries, put_number, put_table, put_texts, put_value, put_word};
 use lin_parts::Cluster;
 use lin_text::{Text, TextBuffer, TextWriter, WriteFailed};
-use lin_values::{Coded, put_meaning};
+use lin_values::Coded;
 use std::alloc::{AllocError, Global};
 use std::io::Write;
 
@@ -132,7 +132,7 @@ fn put_signal<W: Write>(
         return;
     };
     out.put_byte(b' ');
-    put_meaning(out, &meaning);
+    put_line_meaning(out, &meaning);
 }
 
 /// The versions of the program and of its objects, each after a space.

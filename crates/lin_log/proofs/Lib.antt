@@ -6,6 +6,7 @@ pub mod Items
 pub mod Decimals
 pub mod Again
 pub mod Quiet
+pub mod CallerTexts
 pub mod Texts
 pub mod Logs
 pub mod Ends

@@ -17,17 +17,17 @@ use Rattle.lin_log.specs.Words.{event_words, log_text, reply_line, reply_words, 
 use Rattle.lin_log.proofs.Quiet.{quiet-decimal, quiet-event}
 use Rattle.lin_log.proofs.Texts.{texts-again}
 
-no-names : AreNames nameless
+pub no-names : AreNames nameless
 no-names = record { words = λ k h. absurd (omega arith); unlike = λ i k h g e. absurd (omega arith) }
 
-plain-names : HasNames plain
+pub plain-names : HasNames plain
 plain-names = record { of_nodes = no-names; of_signals = no-names; of_tables = no-names }
 
 pub quiet-events : (l : Language) → HasNames l → (es : List Event) → IsQuiet (map (event_words l) es)
 quiet-events l a [] = All-nil (λ ws. are_quiet ws ≡ true)
 quiet-events l a (e ∷ es) = All-cons (λ ws. are_quiet ws ≡ true) (event_words l e) (map (event_words l) es) (quiet-event l a e) (quiet-events l a es)
 
-quiet-reply : (r : Reply) → IsQuiet (reply_words plain r)
+pub quiet-reply : (r : Reply) → IsQuiet (reply_words plain r)
 quiet-reply (Done events) = quiet-events plain plain-names events
 quiet-reply (Refused r) =
     let ws : List (List ℕ) = codes "refused" ∷ decimal (refusal_number r) ∷ [] in

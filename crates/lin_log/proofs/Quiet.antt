@@ -1,8 +1,7 @@
--- Words without ends of lines.
-use Rattle.std.proofs.Common.{◌≡◌, ℕ, zero, suc, List, [], ◌∷◌, ◌++◌, refl, ap, ◌∙◌, append_assoc, sym, length, ◌-◌, ◌/◌, ◌%◌, ◌<◌, ◌==◌, arith, Bool, true, false, nat_lt, slice_index, flat_map, Option, Some, None, if◌then◌else◌}
+-- Words without LF.
+use Rattle.std.proofs.Common.{◌≡◌, ℕ, zero, suc, List, [], ◌∷◌, ◌++◌, refl, ap, ◌∙◌, append_assoc, sym, ◌/◌, ◌%◌, ◌<◌, ◌==◌, arith, Bool, true, false, nat_lt, flat_map, Option, Some, None, if◌then◌else◌}
 use Rattle.std.specs.Fmt.{decimal, digits, digits_onto, digit_glyph}
-use Rattle.std.specs.List.{All}
-use Rattle.std.specs.Str.Lines.{strip_carriage_return}
+use Rattle.std.specs.List.{All, list_all}
 use Rattle.std.proofs.lemmas.Bool.{and_parts}
 use Rattle.std.proofs.lemmas.Grind.{common_steps}
 use Rattle.std.proofs.lemmas.List.Elements.{All-nil, All-cons}
@@ -17,15 +16,19 @@ use Rattle.lin_core.specs.declared.link.Cause.TheVariants as cause
 use Rattle.lin_log.specs.Language.{Called, Language, word_of}
 use Rattle.lin_log.specs.Laws.{AreNames, HasNames, all_visible, are_quiet, is_quiet, is_visible, no_end}
 use Rattle.lin_log.specs.Words.{event_words, header_word, hex_word, line_tail, seen_words, spaced_word}
-use Rattle.lin_log.proofs.Items.{at-place, item-name, joined, weaker}
+use Rattle.lin_log.proofs.Items.{at-place, both, item-name, joined, weaker}
+
+-- what holds of all bytes of words, and of a space
+pub spaced-keeps : (p : ℕ → Bool) → p 32 ≡ true → (ws : List (List ℕ)) → list_all (list_all p) ws ≡ true → list_all p (flat_map spaced_word ws) ≡ true
+spaced-keeps p s [] h = refl
+spaced-keeps p s (w ∷ ws) h =
+    let q = and_parts (list_all p w) (list_all (list_all p) ws) h in
+    both (p 32) (list_all p (w ++ flat_map spaced_word ws)) s (joined p w (flat_map spaced_word ws) q.0 (spaced-keeps p s ws q.1))
 
 pub quiet-spaced : (ws : List (List ℕ)) → are_quiet ws ≡ true → is_quiet (flat_map spaced_word ws) ≡ true
-quiet-spaced [] h = refl
-quiet-spaced (w ∷ ws) h =
-    let p = and_parts (is_quiet w) (are_quiet ws) h in
-    joined no_end w (flat_map spaced_word ws) p.0 (quiet-spaced ws p.1)
+quiet-spaced ws h = spaced-keeps no_end refl ws h
 
-visible-end : (x : ℕ) → is_visible x ≡ true → no_end x ≡ true
+pub visible-end : (x : ℕ) → is_visible x ≡ true → no_end x ≡ true
 visible-end x h = grind (arith, common_steps)
 
 pub quiet-visible : (w : List ℕ) → all_visible w ≡ true → is_quiet w ≡ true
@@ -37,12 +40,6 @@ no-end (x ∷ xs) h =
     let p = and_parts (no_end x) (is_quiet xs) h in
     let q : (x == 10) ≡ false = let r = p.0 in grind (arith, common_steps) in
     All-cons (λ x. (x == 10) ≡ false) x xs q (no-end xs p.1)
-
-no-return : (w : List ℕ) (i : ℕ) → is_quiet w ≡ true → (slice_index w i == 13) ≡ false
-no-return w i h = let r : no_end (slice_index w i) ≡ true = at-place no_end w i refl h in grind (arith, common_steps)
-
-pub not-stripped : (w : List ℕ) → is_quiet w ≡ true → strip_carriage_return w ≡ w
-not-stripped w h = rw (no-return w (length w - 1) h) refl
 
 -- the words of a line and its end, before a text
 pub line-end : (ws : List (List ℕ)) (rest : List ℕ) → line_tail ws ++ rest ≡ flat_map spaced_word ws ++ 10 ∷ rest

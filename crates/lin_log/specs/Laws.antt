@@ -41,9 +41,9 @@ abbrev pub LinesAgain : Type 0
 LinesAgain = (l : Language) (p : PortId) (s : Step) → HasNames l → FitsPort p → FitsStep s
     → line_says l (step_body l p s) ≡ Ok (Some (p, s))
 
--- words without ends of lines
+-- words without LF
 abbrev pub no_end : ℕ → Bool
-no_end b = not (b == 10) && not (b == 13)
+no_end b = not (b == 10)
 
 abbrev pub is_quiet : List ℕ → Bool
 is_quiet = list_all no_end

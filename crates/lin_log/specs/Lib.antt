@@ -1,6 +1,7 @@
 pub mod Language
 pub mod Said
 pub mod Words
+pub mod CallerTexts
 pub mod Script
 pub mod Read
 pub mod Judged

@@ -7,6 +7,7 @@
 //! ```
 #![tactic(auto)]
 
+mod caller_texts;
 mod digits;
 mod entries;
 mod fault;
@@ -23,6 +24,7 @@ mod slot_ends;
 mod values;
 mod writing;
 
+pub use caller_texts::{put_seen, put_texts};
 pub use digits::decoded;
 pub use entries::{put_entries, put_event_line, put_step_line, write_log};
 pub use fault::{ReplayFault, ScriptFault};

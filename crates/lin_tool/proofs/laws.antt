@@ -9,7 +9,6 @@ pub mod Remarks
 pub mod LogLines
 pub mod LastLines
 pub mod OneLine
-pub mod OneLines
 pub mod Transcripts
 pub mod Scripts
 pub mod Inputs

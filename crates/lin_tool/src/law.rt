@@ -2,7 +2,7 @@
 
 ghost use Rattle.lin_tool.specs.Page.{DataAreInert};
 ghost use Rattle.lin_tool.specs.campaign.Page.{CampaignDataAreInert};
-ghost use Rattle.lin_tool.specs.laws.NamedScripts.{CodingsAreOneLine, NamedLogs, NamedLogsOfTexts};
+ghost use Rattle.lin_tool.specs.laws.NamedScripts.{NamedLogs, NamedLogsOfTexts};
 ghost use Rattle.lin_tool.specs.laws.Texts.{PlainTextsAreRead, PlainTextsSayTheSame};
 ghost use Rattle.lin_tool.specs.laws.Transcripts.{LastLinesAreRemarks, LinesHaveNoLf};
 ghost use Rattle.lin_tool.specs.laws.Transcripts.{TranscriptsAreBenchScripts, TranscriptsAreLogs};
@@ -10,12 +10,11 @@ ghost use Rattle.lin_tool.specs.laws.Transcripts.{TranscriptsAreInputs, Transcri
 
 /// A log with names is a bench script of the log's own steps: it has no bad line, makes no slots
 /// of its own, and expects nothing. It holds wherever names are words and no two nodes, signals or
-/// schedule tables have the same one, and so of each cluster that an LDF text describes; where the
-/// log tells what values mean, no text of that has an end of a line in it, as none of an LDF text has.
+/// schedule tables have the same one, and so of each cluster that an LDF text describes, whether the
+/// log tells what values mean or not.
 pub fn named_logs_say_the_same()
     ensures of_words { NamedLogs }
     ensures of_texts { NamedLogsOfTexts }
-    ensures of_codings { CodingsAreOneLine }
 {}
 
 /// Without the lines that begin with `#`, the transcript of lines on a bench in hand that begins is
@@ -23,10 +22,9 @@ pub fn named_logs_say_the_same()
 /// tells. A transcript by numbers is a script of its run, each one is a bench script of it, and
 /// each is an input of lines again, which come to the same log: these three where the numbers and
 /// bytes of the log's entries are within their types, as each `LogEntry` has them. Each answer ends
-/// with one line that begins with `#`. All this holds of lines without an LF in them, bad ones too,
-/// and the lines of each input have none; wherever names are words and no two nodes, signals or
-/// schedule tables have the same one. Where what signals mean is known, no text of that has an end of
-/// a line in it, and no signal is called `=` or `~`.
+/// with one line that begins with `#`. All this holds of bad lines too, wherever names are words and
+/// no two nodes, signals or schedule tables have the same one. Where what signals mean is known, no
+/// signal is called `=` or `~`. The lines of each input have no LF in them.
 pub fn transcripts_are_logs()
     ensures logs { TranscriptsAreLogs }
     ensures scripts { TranscriptsAreScripts }

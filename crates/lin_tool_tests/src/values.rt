@@ -2,10 +2,11 @@
 
 use crate::clusters::{cluster_of, expect_bytes};
 use arrayvec::ArrayVec;
-use lin_export::write_signals;
+use lin_export::{put_line_meaning, write_signals};
 use lin_frame::{Value, ValueBytes};
 use lin_sections::read_codings;
-use lin_values::{Coded, coded_by, read_decimal, shown};
+use lin_text::{TextBuffer, TextWriter};
+use lin_values::{Coded, Meaning, coded_by, read_decimal, shown};
 use std::alloc::Global;
 use std::process::Abort;
 use std::test::Fail;
@@ -143,6 +144,17 @@ fn bytes(given: &[u8]) -> Result<Value, Fail> {
         Ok(bytes) => Ok(Value::Bytes(ValueBytes::new(bytes))),
         Err(_) => Err(Fail::from("too many bytes")),
     }
+}
+
+#[test]
+fn text_of_a_value_in_a_line(rt: HostRuntime) -> Result<(), Fail> {
+    let mut text = Vec::new(rt.alloc());
+    let mut buffer = TextBuffer::empty();
+    let mut out = TextWriter::new(&mut text, &mut buffer);
+    put_line_meaning(&mut out, &Meaning::Named(b"not\nvalid\n"));
+    out.finish()?;
+    expect_bytes(&rt, &text, b"not?valid?", "a text", "line");
+    Ok(())
 }
 
 #[test]

@@ -45,7 +45,7 @@ use Rattle.lin_live.specs.declared.answer_format.AnswerFormat.TheVariants.{Log, 
 use Rattle.lin_live.specs.declared.heard.Heard.{Heard}
 use Rattle.lin_live.specs.declared.heard.Heard.TheVariants.{Ask, Make}
 use Rattle.lin_live.specs.declared.reason.Reason.{Reason}
-use Rattle.lin_tool.specs.laws.Transcripts.{AreShort, FitsCluster, IsTranscript, TranscriptsAreInputs, anew, log_after}
+use Rattle.lin_tool.specs.laws.Transcripts.{AreShort, IsTranscript, TranscriptsAreInputs, anew, log_after}
 use Rattle.lin_tool.proofs.laws.LogLines.{plain_replies}
 use Rattle.lin_tool.proofs.laws.Scripts.{strip-first, transcripts-are-bench-scripts}
 
@@ -88,7 +88,7 @@ after-stays h (line ∷ more) =
     let rest = after-stays (reply h (short line)).0 more in
     (rest.0 ∙ one.0, rest.1 ∙ one.1, rest.2 ∙ one.2)
 
-log-again : (h : HandData) (ls : List (List ℕ)) → IsTranscript h ls
+log-again : (h : HandData) (ls : List (List ℕ)) → IsTranscript h
     → history h.cluster h.opening h.capacity (reverse (steps_of (log_after h ls))) ≡ (state_after reply h ls).bench.past
 log-again h ls t =
     let k = state_after reply h ls in
@@ -277,15 +277,15 @@ begun-same h ls x k b =
     ∙ ap (state_after reply k1) (sym b.2)
 
 -- ---- a transcript
-reads-coded : (c : Parts) (opening capacity : ℕ) (t : List ℕ) (steps : List (PortId × Step)) (k : Option CodedData) → IfSome k (FitsCluster c)
+reads-coded : (c : Parts) (opening capacity : ℕ) (t : List ℕ) (steps : List (PortId × Step)) (k : Option CodedData) → IfSome k (λ k. HasNoMarks c)
     → (says : SaysSteps c opening capacity t steps) → read c k t ≡ Ok says.lines
-reads-coded c opening capacity t steps None fits says = says.reading
-reads-coded c opening capacity t steps (Some k) fits says = says.coded fits.no_marks k
+reads-coded c opening capacity t steps None none says = says.reading
+reads-coded c opening capacity t steps (Some k) none says = says.coded none k
 
 abbrev Again : HandData → List (List ℕ) → HandData → Type 0
 Again h ls k = (reverse k.bench.past ≡ log_after h ls) × (k.was_bad ≡ false)
 
-again-by : (h : HandData) (ls : List (List ℕ)) → IsTranscript h ls → All FitsEntry (log_after h ls) → AreShort (transcript reply h ls)
+again-by : (h : HandData) (ls : List (List ℕ)) → IsTranscript h → All FitsEntry (log_after h ls) → AreShort (transcript reply h ls)
     → (b : Begins (transcript reply h ls)) → Again h ls (state_after reply (anew h) (lines (transcript reply h ls)))
 unfolding read
 again-by h ls t fits shorts b =
@@ -296,7 +296,7 @@ again-by h ls t fits shorts b =
     ap (λ (u : List ℕ). read_lines h.cluster None 1 (pieces_at_lf u)) (sym (begins-unmarked text b)) ∙ says.reading in
     let reading : read_lines h.cluster h.coded 1 (pieces_at_lf text) ≡ Ok says.lines =
     ap (λ (u : List ℕ). read_lines h.cluster h.coded 1 (pieces_at_lf u)) (sym (begins-unmarked text b))
-    ∙ reads-coded h.cluster h.opening h.capacity text (steps_of (log_after h ls)) h.coded t.coded says in
+    ∙ reads-coded h.cluster h.opening h.capacity text (steps_of (log_after h ls)) h.coded t.no_marks says in
     let some = pieces-some text in
     let played = live-is-play h.format h.coded h.is_physical h.cluster h.opening h.capacity (pieces_at_lf text) says.lines _
     (all-plain h.cluster 1 (pieces_at_lf text) says.lines shorts plain) reading says.steps_alone in

@@ -1,6 +1,5 @@
 -- The last lines of answers: each begins with `#`, and has no LF but at its end.
 use Rattle.std.proofs.Common.{◌≡◌, ℕ, true, List, [], ◌∷◌, ◌++◌, refl, ap, subst, append_assoc, codes, flat_map, length, map, Option, Some, None}
-use Rattle.std.specs.Prelude.{IfSome}
 use Rattle.std.specs.Fmt.{decimal}
 use Rattle.std.specs.Option.{option_map_or}
 use Rattle.lin_frame.specs.declared.value.Value.{Value}
@@ -16,8 +15,10 @@ use Rattle.lin_core.specs.declared.event.Event.TheVariants.{Slot}
 use Rattle.lin_core.specs.declared.log.LogEntry.{LogEntry}
 use Rattle.lin_core.specs.declared.reply.Refusal.{Refusal}
 use Rattle.lin_log.specs.Language.{named_language}
-use Rattle.lin_log.specs.Laws.{HasNames, is_quiet, no_end}
+use Rattle.lin_log.specs.Laws.{HasNames, no_end}
 use Rattle.lin_log.specs.Words.{spaced_word, value_word}
+use Rattle.lin_log.specs.CallerTexts.{seen_text}
+use Rattle.lin_log.proofs.CallerTexts.{quiet-seen-text, quiet-seen-texts}
 use Rattle.lin_log.proofs.Items.{joined}
 use Rattle.lin_log.proofs.Quiet.{quiet-called, quiet-decimal, quiet-spaced}
 use Rattle.lin_values.specs.Coded.{CodedData}
@@ -41,35 +42,28 @@ use Rattle.lin_live.specs.Told.{Is, hash_ending, hash_line, steps_ending, verdic
 use Rattle.lin_live.specs.Values.{addressed_node, after_gap, idle_text, objects_version, program_version, rules_text, said, said_text, slot_text, with_gaps}
 use Rattle.lin_live.specs.declared.question.Question.{Question}
 use Rattle.lin_live.specs.declared.question.Question.TheVariants as question
-use Rattle.lin_tool.specs.laws.NamedScripts.{AreOneLine, HasFrameNames, IsOneLine}
+use Rattle.lin_tool.specs.laws.NamedScripts.{HasFrameNames}
 use Rattle.lin_tool.specs.laws.Transcripts.{IsRemark}
-use Rattle.lin_tool.proofs.laws.OneLine.{expected-clean, got-clean, pending-clean, texts-clean}
-use Rattle.lin_tool.proofs.laws.Remarks.{Clean, a-remark, clean-both, each-way, is_clean, quiet-clean}
+use Rattle.lin_tool.proofs.laws.OneLine.{expected-quiet, got-quiet, pending-quiet}
+use Rattle.lin_tool.proofs.laws.Remarks.{Quiet, a-remark, each-way}
 use Rattle.lin_tool.proofs.laws.Replies.{ended-quiet, node-name, refusal-quiet, slot-quiet, value-quiet}
-
-abbrev Quiet : List ℕ → Type 0
-Quiet w = is_quiet w ≡ true
 
 both : (xs ys : List ℕ) → Quiet xs → Quiet ys → Quiet (xs ++ ys)
 both xs ys h k = joined no_end xs ys h k
 
 -- ---- what values mean
-told-one : (k : Option CodedData) → IfSome k AreOneLine → (s : ℕ) (v : Value) → IfSome (meaning_if_coded k s v) IsOneLine
-told-one None one s v = tt
-told-one (Some k) one s v = one s v
-
-meant-quiet : (o : Option Meant) → IfSome o IsOneLine → Quiet (option_map_or (λ (m : Meant). spaced_word (shown m)) o [])
-meant-quiet None h = refl
-meant-quiet (Some m) h = h
+meant-quiet : (o : Option Meant) → Quiet (option_map_or (λ (m : Meant). spaced_word (seen_text (shown m))) o [])
+meant-quiet None = refl
+meant-quiet (Some m) = quiet-seen-text (shown m)
 
 module _ (c : Parts) (a : HasNames (named_language c)) (b : HasFrameNames c) where
   table : (t : ℕ) → Quiet (table_word c t)
   table t = quiet-called (named_language c).tables a.of_tables t
 
   -- ---- what is said to questions
-  idle-clean : (ps : List Pending) → Clean (idle_text c ps)
-  idle-clean [] = refl
-  idle-clean (p ∷ ps) = pending-clean c a b (p ∷ ps)
+  idle-quiet : (ps : List Pending) → Quiet (idle_text c ps)
+  idle-quiet [] = refl
+  idle-quiet (p ∷ ps) = pending-quiet c a b (p ∷ ps)
 
   slot-said : (s : ℕ × ℕ × Option ℕ) → Quiet (slot_text c (s.0, s.1) s.2)
   slot-said s =
@@ -77,9 +71,9 @@ module _ (c : Parts) (a : HasNames (named_language c)) (b : HasFrameNames c) whe
       (both (spaced_word (decimal s.1)) _ (quiet-decimal s.1)
       (quiet-spaced (slot_names c (Slot s.0 s.1 s.2)) (slot-quiet c b (Slot s.0 s.1 s.2))))
 
-  next-said : (o : Option (ℕ × ℕ × Option ℕ)) → Clean (option_map_or (λ (s : ℕ × ℕ × Option ℕ). slot_text c (s.0, s.1) s.2) o (codes "open"))
+  next-said : (o : Option (ℕ × ℕ × Option ℕ)) → Quiet (option_map_or (λ (s : ℕ × ℕ × Option ℕ). slot_text c (s.0, s.1) s.2) o (codes "open"))
   next-said None = refl
-  next-said (Some s) = quiet-clean (slot_text c (s.0, s.1) s.2) (slot-said s)
+  next-said (Some s) = slot-said s
 
   address-quiet : (o : Option ℕ) → Quiet (spaced_word (address_word o))
   address-quiet None = refl
@@ -100,40 +94,37 @@ module _ (c : Parts) (a : HasNames (named_language c)) (b : HasFrameNames c) whe
   ended-said None = refl
   ended-said (Some e) = both (decimal e.number) _ (quiet-decimal e.number) (quiet-spaced (ended_words c e) (ended-quiet c a b e))
 
-  rules-clean : (lines : List (List ℕ)) → Clean (rules_text lines)
-  rules-clean [] = refl
-  rules-clean (line ∷ lines) = texts-clean (codes "; ") refl (line ∷ lines)
+  rules-quiet : (lines : List (List ℕ)) → Quiet (rules_text lines)
+  rules-quiet [] = refl
+  rules-quiet (line ∷ lines) = quiet-seen-texts (codes "; ") refl (line ∷ lines)
 
-  value-said : (k : Option CodedData) → IfSome k AreOneLine → (opening : ℕ) (past : List LogEntry) (rules : Rules) (q : Question) → Clean (said_text c k (said c opening past rules q))
-  value-said k one opening past rules (question.Signal n s) =
+  value-said : (k : Option CodedData) (opening : ℕ) (past : List LogEntry) (rules : Rules) (q : Question) → Quiet (said_text c k (said c opening past rules q))
+  value-said k opening past rules (question.Signal n s) =
       let v = value_at c past n s in
-      let meant = option_map_or (λ (m : Meant). spaced_word (shown m)) (meaning_if_coded k s v) [] in
-      quiet-clean (value_word v ++ meant) (both (value_word v) meant (value-quiet v) (meant-quiet (meaning_if_coded k s v) (told-one k one s v)))
-  value-said k one opening past rules (question.Waiting host) = quiet-clean (decimal (length (waiting c past host))) (quiet-decimal (length (waiting c past host)))
-  value-said k one opening past rules question.Idle = idle-clean (pending c past rules.noted)
-  value-said k one opening past rules question.Time = quiet-clean (decimal (time c past)) (quiet-decimal (time c past))
-  value-said k one opening past rules question.Asleep = each-way Clean (asleep past) (codes "asleep") (codes "awake") refl refl
-  value-said k one opening past rules question.Next =
-      each-way Clean (asleep past) (codes "asleep") (option_map_or (λ (s : ℕ × ℕ × Option ℕ). slot_text c (s.0, s.1) s.2) (next_slot c opening past) (codes "open")) refl
+      let meant = option_map_or (λ (m : Meant). spaced_word (seen_text (shown m))) (meaning_if_coded k s v) [] in
+      both (value_word v) meant (value-quiet v) (meant-quiet (meaning_if_coded k s v))
+  value-said k opening past rules (question.Waiting host) = quiet-decimal (length (waiting c past host))
+  value-said k opening past rules question.Idle = idle-quiet (pending c past rules.noted)
+  value-said k opening past rules question.Time = quiet-decimal (time c past)
+  value-said k opening past rules question.Asleep = each-way Quiet (asleep past) (codes "asleep") (codes "awake") refl refl
+  value-said k opening past rules question.Next =
+      each-way Quiet (asleep past) (codes "asleep") (option_map_or (λ (s : ℕ × ℕ × Option ℕ). slot_text c (s.0, s.1) s.2) (next_slot c opening past) (codes "open")) refl
       (next-said (next_slot c opening past))
-  value-said k one opening past rules question.Version =
+  value-said k opening past rules question.Version =
       let objects = decimal objects_version in
-      quiet-clean (program_version ++ spaced_word objects) (both program_version (spaced_word objects) refl (quiet-decimal objects_version))
-  value-said k one opening past rules question.Nodes = quiet-clean (with_gaps (map (addressed_node c) (numbers (nodes c)))) (nodes-said (numbers (nodes c)))
-  value-said k one opening past rules question.LastSlot = quiet-clean (last_slot_text c (last_slot c past)) (ended-said (last_slot c past))
-  value-said k one opening past rules question.Rules = rules-clean (lines_of_rules c rules)
+      both program_version (spaced_word objects) refl (quiet-decimal objects_version)
+  value-said k opening past rules question.Nodes = nodes-said (numbers (nodes c))
+  value-said k opening past rules question.LastSlot = ended-said (last_slot c past)
+  value-said k opening past rules question.Rules = rules-quiet (lines_of_rules c rules)
 
   -- ---- last lines
-  pub ending-remark : (words : List ℕ) → is_clean words ≡ true → IsRemark (hash_line words)
+  pub ending-remark : (words : List ℕ) → Quiet words → IsRemark (hash_line words)
   ending-remark words h = a-remark (32 ∷ words) h
 
-  quiet-remark : (words : List ℕ) → Quiet words → IsRemark (hash_line words)
-  quiet-remark words h = ending-remark words (quiet-clean words h)
-
   steps-remark : (k : Option CodedData) (o : Option Refusal) → IsRemark (hash_ending c k (steps_ending o))
-  steps-remark k None = quiet-remark (codes "ok") refl
+  steps-remark k None = ending-remark (codes "ok") refl
   steps-remark k (Some why) =
-      quiet-remark (codes "refused " ++ (decimal (refusal_number why) ++ spaced_word (refusal_word why)))
+      ending-remark (codes "refused " ++ (decimal (refusal_number why) ++ spaced_word (refusal_word why)))
       (both (decimal (refusal_number why)) _ (quiet-decimal (refusal_number why)) (refusal-quiet why))
 
   unmet-remark : (k : Option CodedData) (what : Expected) (is : Got) → IsRemark (hash_ending c k (verdict_ending c (Unmet what is) []))
@@ -142,15 +133,15 @@ module _ (c : Parts) (a : HasNames (named_language c)) (b : HasFrameNames c) whe
       let g = got_text c is in
       let body = codes " expected " ++ (w ++ (codes ": " ++ g)) in
       let same : body ++ 10 ∷ [] ≡ codes " expected " ++ (w ++ (codes ": " ++ (g ++ 10 ∷ []))) = ap (λ t. codes " expected " ++ t) (append_assoc w (codes ": " ++ g) (10 ∷ [])) in
-      subst (λ t. IsRemark (35 ∷ t)) same (a-remark body (clean-both w (codes ": " ++ g) (expected-clean c a b what) (got-clean c a b is)))
+      subst (λ t. IsRemark (35 ∷ t)) same (a-remark body (joined no_end w (codes ": " ++ g) (expected-quiet c a b what) (got-quiet c a b is)))
 
   -- what was judged of a line
   pub verdict-remark : (k : Option CodedData) (v : Verdict) (es : List LogEntry) → IsRemark (hash_ending c k (verdict_ending c v es))
-  verdict-remark k SlotLimit es = quiet-remark (codes "slot limit") refl
+  verdict-remark k SlotLimit es = ending-remark (codes "slot limit") refl
   verdict-remark k (Unmet what is) es = unmet-remark k what is
   verdict-remark k Nothing es = steps-remark k (first_refusal es)
   verdict-remark k (Met what) es = steps-remark k (first_refusal es)
 
-  pub value-remark : (k : Option CodedData) → IfSome k AreOneLine → (opening : ℕ) (past : List LogEntry) (rules : Rules) (q : Question)
+  pub value-remark : (k : Option CodedData) (opening : ℕ) (past : List LogEntry) (rules : Rules) (q : Question)
       → IsRemark (hash_ending c k (Is (said c opening past rules q)))
-  value-remark k one opening past rules q = ending-remark (codes "is " ++ said_text c k (said c opening past rules q)) (value-said k one opening past rules q)
+  value-remark k opening past rules q = ending-remark (codes "is " ++ said_text c k (said c opening past rules q)) (value-said k opening past rules q)

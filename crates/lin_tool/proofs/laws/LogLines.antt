@@ -1,25 +1,22 @@
 -- The lines of logs: none begins with `#`.
-use Rattle.std.proofs.Common.{◌≡◌, ◌∙◌, ℕ, ◌==◌, Bool, true, false, List, [], ◌∷◌, ◌++◌, refl, sym, ap, subst, append_assoc, append-nil, flat_map, nat_lt, reverse, codes, if◌then◌else◌, arith, Option}
-use Rattle.std.specs.Prelude.{IfSome}
+use Rattle.std.proofs.Common.{◌≡◌, ◌∙◌, ℕ, ◌==◌, Bool, true, false, List, [], ◌∷◌, ◌++◌, refl, sym, ap, subst, append_assoc, append-nil, flat_map, nat_lt, reverse, codes, if◌then◌else◌, Option}
 use Rattle.std.specs.Fmt.{decimal}
 use Rattle.std.proofs.lemmas.List.{reverse-append}
-use Rattle.std.proofs.lemmas.List.Elements.{All-cons, All-head, All-nil, All-tail}
+use Rattle.std.proofs.lemmas.List.Elements.{All-head, All-tail}
 use Rattle.lin_parts.specs.declared.parts.Parts.{Parts}
-use Rattle.lin_core.specs.Tables.{direction_word, refusal_number}
+use Rattle.lin_core.specs.Tables.{direction_word}
 use Rattle.lin_core.specs.declared.link.Direction.{Direction}
 use Rattle.lin_core.specs.declared.link.Direction.TheVariants as direction
 use Rattle.lin_core.specs.declared.log.LogEntry.{LogEntry}
 use Rattle.lin_core.specs.declared.port.PortId.{PortId}
 use Rattle.lin_core.specs.declared.port.PortId.TheVariants.{Bus, Host, Node}
-use Rattle.lin_core.specs.declared.reply.Reply.{Reply}
-use Rattle.lin_core.specs.declared.reply.Reply.TheVariants.{Done, Refused}
 use Rattle.lin_core.specs.declared.step.Step.{Step}
 use Rattle.lin_core.specs.declared.step.Step.TheVariants.{Send, Write, Answer, Leave, Hurt, Timeout, Switch, Close}
-use Rattle.lin_log.specs.Language.{Language, named_language, nameless, plain}
-use Rattle.lin_log.specs.Laws.{AreNames, HasNames, IsQuiet, are_quiet, is_quiet, no_end}
+use Rattle.lin_log.specs.Language.{Language, named_language, plain}
+use Rattle.lin_log.specs.Laws.{HasNames, IsQuiet, are_quiet, is_quiet, no_end}
 use Rattle.lin_log.specs.Words.{line_tail, log_text, port_number_word, port_word, reply_line, reply_words, spaced_word, step_line, step_words, text}
 use Rattle.lin_log.proofs.Items.{joined}
-use Rattle.lin_log.proofs.Logs.{entry_text, quiet-events, text-entries}
+use Rattle.lin_log.proofs.Logs.{entry_text, plain-names, quiet-reply, text-entries}
 use Rattle.lin_log.proofs.Quiet.{line-end, quiet-called, quiet-decimal, quiet-hex, quiet-spaced}
 use Rattle.lin_values.specs.Coded.{CodedData}
 use Rattle.lin_export.specs.Named.{reply_lines}
@@ -28,9 +25,9 @@ use Rattle.lin_export.proofs.Tellings.{each-append}
 use Rattle.lin_live.specs.Told.{entries_text, is_text}
 use Rattle.lin_live.specs.declared.answer_format.AnswerFormat.{AnswerFormat}
 use Rattle.lin_live.specs.declared.answer_format.AnswerFormat.TheVariants.{Log, Named, Jsonl}
-use Rattle.lin_tool.specs.laws.NamedScripts.{AreOneLine, HasFrameNames}
+use Rattle.lin_tool.specs.laws.NamedScripts.{HasFrameNames}
 use Rattle.lin_tool.specs.laws.Transcripts.{with_line_end}
-use Rattle.lin_tool.proofs.laws.Remarks.{Stays, quiet-clean, stays-both, stays-line, stays-nothing}
+use Rattle.lin_tool.proofs.laws.Remarks.{Stays, stays-both, stays-line, stays-nothing}
 use Rattle.std.proofs.lemmas.Grind.{flat_map-append}
 use Rattle.lin_tool.proofs.laws.Replies.{reply-quiet, value-quiet}
 
@@ -64,7 +61,7 @@ line-stays : (x : ℕ) (word : List ℕ) (words : List (List ℕ)) (t : List ℕ
 line-stays x word words t e h k is =
     let body = x ∷ (word ++ flat_map spaced_word words) in
     subst Stays (sym is)
-    (stays-line body (quiet-clean body (joined no_end (x ∷ word) (flat_map spaced_word words) h (quiet-spaced words k))) (rw e refl))
+    (stays-line body (joined no_end (x ∷ word) (flat_map spaced_word words) h (quiet-spaced words k)) (rw e refl))
 
 line-is : (word : List ℕ) (words : List (List ℕ)) → word ++ line_tail words ≡ with_line_end (word ++ flat_map spaced_word words)
 line-is word words =
@@ -104,24 +101,11 @@ log-stays l replies a q past (e ∷ es) =
 abbrev pub plain_replies : Replies
 plain_replies e past = reply_words plain e.reply
 
-pub no-names : AreNames nameless
-no-names = record { words = λ k h. absurd (omega arith); unlike = λ i k h g e. absurd (omega arith) }
-
-pub plain-names : HasNames plain
-plain-names = record { of_nodes = no-names; of_signals = no-names; of_tables = no-names }
-
-pub plain-quiet : (r : Reply) → IsQuiet (reply_words plain r)
-plain-quiet (Done events) = quiet-events plain plain-names events
-plain-quiet (Refused r) =
-    let ws : List (List ℕ) = codes "refused" ∷ decimal (refusal_number r) ∷ [] in
-    let q : are_quiet ws ≡ true = rw (quiet-decimal (refusal_number r)) refl in
-    All-cons (λ ws. are_quiet ws ≡ true) ws [] q (All-nil (λ ws. are_quiet ws ≡ true))
-
-pub entries-stay : (f : AnswerFormat) (c : Parts) (k : Option CodedData) → is_text f ≡ true → HasNames (named_language c) → HasFrameNames c → IfSome k AreOneLine → (past es : List LogEntry)
+pub entries-stay : (f : AnswerFormat) (c : Parts) (k : Option CodedData) → is_text f ≡ true → HasNames (named_language c) → HasFrameNames c → (past es : List LogEntry)
     → Stays (entries_text f c k past es)
-entries-stay Log c k text a b one past es = log-stays plain plain_replies plain-names (λ e p. plain-quiet e.reply) [] es
-entries-stay Named c k text a b one past es = log-stays (named_language c) (reply_lines c k) a (λ e p. reply-quiet c k a b one e p e.reply) past es
-entries-stay Jsonl c k text a b one past es = absurd (cc)
+entries-stay Log c k text a b past es = log-stays plain plain_replies plain-names (λ e p. quiet-reply e.reply) [] es
+entries-stay Named c k text a b past es = log-stays (named_language c) (reply_lines c k) a (λ e p. reply-quiet c k a b e p e.reply) past es
+entries-stay Jsonl c k text a b past es = absurd (cc)
 
 -- ---- entries, and then more
 back-to-front : (e : LogEntry) (es past : List LogEntry) → reverse (e ∷ es) ++ past ≡ reverse es ++ e ∷ past

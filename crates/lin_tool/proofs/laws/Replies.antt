@@ -1,6 +1,5 @@
 -- The lines of replies with names, which hold no end of a line within.
 use Rattle.std.proofs.Common.{◌≡◌, ◌+◌, ◌*◌, ◌/◌, ◌%◌, ◌<◌, ◌≤◌, ◌==◌, ◌++◌, ℕ, zero, suc, List, [], ◌∷◌, Bool, true, false, nat_lt, refl, ap, arith, Option, Some, None, length, slice_index, slice_index_or, flat_map, map, take, zip, codes, if◌then◌else◌}
-use Rattle.std.specs.Prelude.{IfSome}
 use Rattle.std.specs.Fmt.{decimal}
 use Rattle.std.specs.List.{All}
 use Rattle.std.specs.Option.{option_map_or, option_to_list}
@@ -42,6 +41,8 @@ use Rattle.lin_core.specs.declared.step.Step.TheVariants.{Finish, Write}
 use Rattle.lin_log.specs.Language.{named_language}
 use Rattle.lin_log.specs.Laws.{HasNames, IsQuiet, are_quiet, is_name, is_quiet}
 use Rattle.lin_log.specs.Words.{event_words, hex_word, value_word}
+use Rattle.lin_log.specs.CallerTexts.{seen_text}
+use Rattle.lin_log.proofs.CallerTexts.{quiet-seen-text}
 use Rattle.lin_log.proofs.Items.{item-name, joined}
 use Rattle.lin_log.proofs.Quiet.{quiet-decimal, quiet-encoded, quiet-event, quiet-hex, quiet-visible}
 use Rattle.lin_export.specs.Named.{words_after_event, control_words, event_lines, frame_values, frame_words, good_words, lines_of_reply, named_event, place_values, seen_values, signal_words, slot_values, slot_names, sporadic_frame_under, time_words, transport, transport_words, value_lines, who_word, written_values}
@@ -52,7 +53,7 @@ use Rattle.lin_values.specs.Coded.{CodedData}
 use Rattle.lin_values.specs.Meaning.{meaning}
 use Rattle.lin_values.specs.Meant.{Meant}
 use Rattle.lin_values.specs.Shown.{shown}
-use Rattle.lin_tool.specs.laws.NamedScripts.{AreOneLine, HasFrameNames, IsOneLine}
+use Rattle.lin_tool.specs.laws.NamedScripts.{HasFrameNames}
 
 quiet-name : (name : List ℕ) → is_name name ≡ true → is_quiet name ≡ true
 quiet-name name h = quiet-visible name (item-name name h).0.visible
@@ -216,14 +217,14 @@ one-quiet None h = All-nil IsQuietLine
 one-quiet (Some ws) h = All-cons IsQuietLine ws [] h (All-nil IsQuietLine)
 
 -- ---- what values mean
-meant-quiet : (name : List ℕ) (o : Option Meant) → is_quiet name ≡ true → IfSome o IsOneLine
-    → AreQuiet (option_map_or (λ (m : Meant). (codes "value" ∷ name ∷ shown m ∷ []) ∷ []) o [])
-meant-quiet name None h k = All-nil IsQuietLine
-meant-quiet name (Some m) h k = one-quiet (Some (codes "value" ∷ name ∷ shown m ∷ [])) (rw (h, k) refl)
+meant-quiet : (name : List ℕ) (o : Option Meant) → is_quiet name ≡ true
+    → AreQuiet (option_map_or (λ (m : Meant). (codes "value" ∷ name ∷ seen_text (shown m) ∷ []) ∷ []) o [])
+meant-quiet name None h = All-nil IsQuietLine
+meant-quiet name (Some m) h = one-quiet (Some (codes "value" ∷ name ∷ seen_text (shown m) ∷ [])) (rw (h, quiet-seen-text (shown m)) refl)
 
-module _ (c : Parts) (a : HasNames (named_language c)) (d : CodedData) (one : AreOneLine d) where
+module _ (c : Parts) (a : HasNames (named_language c)) (d : CodedData) where
   value_lines-quiet : (s : ℕ) (v : Value) → AreQuiet (value_lines c d s v)
-  value_lines-quiet s v = meant-quiet (signal_of c s).name (meaning d s v) (signal-name c a s) (one s v)
+  value_lines-quiet s v = meant-quiet (signal_of c s).name (meaning d s v) (signal-name c a s)
 
   frame_values-quiet : (answer : List ℕ) (f : ℕ) → AreQuiet (frame_values c d answer f)
   frame_values-quiet answer f =
@@ -249,32 +250,31 @@ module _ (c : Parts) (a : HasNames (named_language c)) (d : CodedData) (one : Ar
   written_values-quiet (Write by signal v) = written-by (nat_lt signal (length c.signals)) signal v
   written_values-quiet s = All-nil IsQuietLine
 
-where-quiet : (k : Option CodedData) (says : CodedData → List (List (List ℕ))) → IfSome k AreOneLine → ((d : CodedData) → AreOneLine d → AreQuiet (says d))
-    → AreQuiet (where_told k says)
-where-quiet None says one h = All-nil IsQuietLine
-where-quiet (Some d) says one h = h d one
+where-quiet : (k : Option CodedData) (says : CodedData → List (List (List ℕ))) → ((d : CodedData) → AreQuiet (says d)) → AreQuiet (where_told k says)
+where-quiet None says h = All-nil IsQuietLine
+where-quiet (Some d) says h = h d
 
-module _ (c : Parts) (k : Option CodedData) (a : HasNames (named_language c)) (b : HasFrameNames c) (one : IfSome k AreOneLine) where
+module _ (c : Parts) (k : Option CodedData) (a : HasNames (named_language c)) (b : HasFrameNames c) where
   lines-quiet : (o : Option Slot) (e : Event) → AreQuiet (event_lines c k o e)
   lines-quiet o e =
       All-cons IsQuietLine (named_event c e) (option_to_list (words_after_event c o e) ++ where_told k (λ d. seen_values c d o e)) (event-quiet c a b e)
       (quiet-both (option_to_list (words_after_event c o e)) (where_told k (λ d. seen_values c d o e)) (one-quiet (words_after_event c o e) (behind-quiet c a b o e))
-      (where-quiet k (λ d. seen_values c d o e) one (λ d q. seen_values-quiet c a d q o e)))
+      (where-quiet k (λ d. seen_values c d o e) (λ d. seen_values-quiet c a d o e)))
 
 pub refusal-quiet : (r : Refusal) → is_quiet (refusal_word r) ≡ true
 refusal-quiet refusal.NoSuchNode = refl
 refusal-quiet r = refl
 
-pub reply-quiet : (c : Parts) (k : Option CodedData) → HasNames (named_language c) → HasFrameNames c → IfSome k AreOneLine → (e : LogEntry) (past : List LogEntry) (r : Reply)
+pub reply-quiet : (c : Parts) (k : Option CodedData) → HasNames (named_language c) → HasFrameNames c → (e : LogEntry) (past : List LogEntry) (r : Reply)
     → IsQuiet (lines_of_reply c k e past r)
-reply-quiet c k a b one e past (Done events) =
+reply-quiet c k a b e past (Done events) =
     let t = time_words e.step (time c (e ∷ past)) in
     let lines = flat_map (event_lines c k (open_slot past)) events in
     quiet-both (where_told k (λ d. written_values c d e.step)) (lines ++ option_to_list t)
-    (where-quiet k (λ d. written_values c d e.step) one (λ d q. written_values-quiet c a d q e.step))
-    (quiet-both lines (option_to_list t) (quiet-each (event_lines c k (open_slot past)) events (lines-quiet c k a b one (open_slot past)))
+    (where-quiet k (λ d. written_values c d e.step) (λ d. written_values-quiet c a d e.step))
+    (quiet-both lines (option_to_list t) (quiet-each (event_lines c k (open_slot past)) events (lines-quiet c k a b (open_slot past)))
     (one-quiet t (time-quiet e.step (time c (e ∷ past)))))
-reply-quiet c k a b one e past (Refused r) =
+reply-quiet c k a b e past (Refused r) =
     let ws : List (List ℕ) = codes "refused" ∷ decimal (refusal_number r) ∷ refusal_word r ∷ [] in
     let q : are_quiet ws ≡ true = rw (quiet-decimal (refusal_number r), refusal-quiet r) refl in
     one-quiet (Some ws) q

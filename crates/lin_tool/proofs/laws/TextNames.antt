@@ -1,6 +1,5 @@
 -- The cluster of an LDF text has names that a bench script reads.
-use Rattle.std.proofs.Common.{◌≡◌, ◌∙◌, ◌+◌, ℕ, zero, suc, List, [], ◌∷◌, refl, sym, ap, subst, arith, Option, Some, None, true, length, get_or, map}
-use Rattle.std.specs.Prelude.{IfSome}
+use Rattle.std.proofs.Common.{◌≡◌, ◌∙◌, ◌+◌, ℕ, zero, suc, List, [], ◌∷◌, refl, sym, ap, arith, true, length, get_or, map}
 use Rattle.std.specs.List.{enumerate_from}
 use Rattle.std.proofs.lemmas.List.{length-map}
 use Rattle.std.proofs.lemmas.List.Elements.{All-map}
@@ -19,12 +18,10 @@ use Rattle.lin_parts.specs.declared.parts.Table.{Table}
 use Rattle.lin_cluster.specs.Described.{described_event, described_signal, described_sporadic, described_table, parts_of, responder}
 use Rattle.lin_cluster.proofs.DescribedFrames.{each-frame}
 use Rattle.lin_log.specs.Language.{named_language}
-use Rattle.lin_values.specs.Coded.{CodedData}
 use Rattle.lin_log.specs.Laws.{HasNames, is_name}
-use Rattle.lin_tool.specs.laws.NamedScripts.{AreOneLine, HasFrameNames, IsSaid, NamedLogsOfTexts}
+use Rattle.lin_tool.specs.laws.NamedScripts.{HasFrameNames, NamedLogsOfTexts}
 use Rattle.lin_tool.proofs.laws.LdfNames.{DeclaresNames, event_text, frame_text, name_text, names-of_new, signal_text, sporadic_text, table_text, text-declares}
 use Rattle.lin_tool.proofs.laws.NamedLogs.{named-logs}
-use Rattle.lin_tool.proofs.laws.OneLines.{codings-are-one-line}
 
 -- what is made of things has their names, and nothing else has one
 made-name : {A B : Type 0} (make : A → B) (name_of : B → List ℕ) (text_of : A → List ℕ) (other : B) → ((a : A) → name_of (make a) ≡ text_of a)
@@ -68,11 +65,7 @@ frames-of_text d p =
       of_events = All-map (λ (e : EventFrame). is_name e.name ≡ true) (described_event d) d.events (all-of-map is_name_so event_text d.events p.of_events);
     }
 
-said-one : (c : Parts) (k : Option CodedData) → IsSaid c k → IfSome k AreOneLine
-said-one c None h = tt
-said-one c (Some k) h = subst AreOneLine (sym h.1) (codings-are-one-line c h.0)
-
 pub named-logs-of_texts : NamedLogsOfTexts
-named-logs-of_texts text d k log opening capacity described said fits =
+named-logs-of_texts text d k log opening capacity described fits =
     let p = text-declares text d described in
-    named-logs (parts_of d) k log opening capacity (words-of_text d p) (frames-of_text d p) (said-one (parts_of d) k said) fits
+    named-logs (parts_of d) k log opening capacity (words-of_text d p) (frames-of_text d p) fits

@@ -1,6 +1,5 @@
 -- What a bench in hand answers to lines, without the lines that begin with `#`.
 use Rattle.std.proofs.Common.{◌≡◌, ◌∙◌, ℕ, ◌-◌, ◌==◌, Bool, true, false, List, [], ◌∷◌, ◌++◌, refl, sym, ap, subst, append_assoc, flat_map, length, map, reverse, take, codes, Option, Some, None, Result, Ok, Err, if◌then◌else◌}
-use Rattle.std.specs.Prelude.{IfSome}
 use Rattle.std.specs.List.{AllByRecursion}
 use Rattle.std.specs.Str.Lines.{strip_carriage_return}
 use Rattle.std.proofs.lemmas.List.Elements.{All-take}
@@ -22,24 +21,12 @@ use Rattle.lin_live.specs.declared.answer_format.AnswerFormat.TheVariants.{Log, 
 use Rattle.lin_live.specs.declared.heard.Heard.{Heard}
 use Rattle.lin_live.specs.declared.heard.Heard.TheVariants.{Ask, Make}
 use Rattle.lin_live.specs.declared.reason.Reason.{Reason}
-use Rattle.lin_tool.specs.laws.NamedScripts.{AreOneLine, HasFrameNames}
-use Rattle.lin_tool.specs.laws.Transcripts.{FitsCluster, IsRemark, LastLinesAreRemarks, LinesHaveNoLf, TranscriptsAreLogs, without_remarks}
+use Rattle.lin_tool.specs.laws.NamedScripts.{HasFrameNames}
+use Rattle.lin_tool.specs.laws.Transcripts.{IsRemark, LastLinesAreRemarks, LinesHaveNoLf, TranscriptsAreLogs, without_remarks}
 use Rattle.lin_tool.proofs.laws.LastLines.{ending-remark, value-remark, verdict-remark}
-use Rattle.lin_tool.proofs.laws.OneLine.{live-clean}
+use Rattle.lin_tool.proofs.laws.OneLine.{live-quiet}
 use Rattle.lin_tool.proofs.laws.LogLines.{entries-append, entries-stay}
 use Rattle.lin_tool.proofs.laws.Remarks.{each-way, remark-goes}
-
--- ---- what is told of values has no end of a line in it
-pub fits-one : (c : Parts) (k : Option CodedData) → IfSome k (FitsCluster c) → IfSome k AreOneLine
-fits-one c None h = tt
-fits-one c (Some k) h = h.one_line
-
-one-by : (t : Bool) (k : Option CodedData) → IfSome k AreOneLine → IfSome (if t then k else None) AreOneLine
-one-by true k h = h
-one-by false k h = tt
-
-pub shown-one : (h : HandData) → IfSome h.coded AreOneLine → IfSome (shown_coding h) AreOneLine
-shown-one h one = one-by h.is_physical h.coded one
 
 -- ---- the last lines of answers
 abbrev HasRemark : AnswerFormat → Parts → Option CodedData → Answer → Type 0
@@ -51,32 +38,31 @@ text-line Log c k e is h = h
 text-line Named c k e is h = h
 text-line Jsonl c k e is h = absurd (cc)
 
-told-remark : (h : HandData) → HasNames (named_language h.cluster) → HasFrameNames h.cluster → IfSome h.coded AreOneLine → (said : Result (Option Heard) Reason)
+told-remark : (h : HandData) → HasNames (named_language h.cluster) → HasFrameNames h.cluster → (said : Result (Option Heard) Reason)
     → IsRemark (hash_ending h.cluster (shown_coding h) (heard_answer h said).1.ending)
-told-remark h a b one (Err why) = ending-remark h.cluster a b (codes "bad line: " ++ question_reason_text why) (live-clean why)
-told-remark h a b one (Ok None) = ending-remark h.cluster a b (codes "ok") refl
-told-remark h a b one (Ok (Some (Ask asked))) =
-    value-remark h.cluster a b (shown_coding h) (shown-one h one) h.opening h.bench.past h.bench.rules asked
-told-remark h a b one (Ok (Some (Make line))) =
+told-remark h a b (Err why) = ending-remark h.cluster a b (codes "bad line: " ++ question_reason_text why) (live-quiet why)
+told-remark h a b (Ok None) = ending-remark h.cluster a b (codes "ok") refl
+told-remark h a b (Ok (Some (Ask asked))) =
+    value-remark h.cluster a b (shown_coding h) h.opening h.bench.past h.bench.rules asked
+told-remark h a b (Ok (Some (Make line))) =
     let m = made h.cluster h.opening h.capacity h.bench line in
     verdict-remark h.cluster a b (shown_coding h) (verdict_with_meaning h.coded m.1) (entries_since h.bench.past m.0.past)
 
 all-remarks : (h : HandData) (f : AnswerFormat) (physical : Bool) (c : Parts) (k : Option CodedData) → h.format ≡ f → h.is_physical ≡ physical → h.cluster ≡ c → h.coded ≡ k → is_text f ≡ true
-    → HasNames (named_language c) → HasFrameNames c → IfSome k AreOneLine → (ls : List (List ℕ)) → AllByRecursion (HasRemark f c (if physical then k else None)) (answers h ls)
-all-remarks h f physical c k form phys is so text a b one [] = tt
-all-remarks h f physical c k form phys is so text a b one (line ∷ more) =
+    → HasNames (named_language c) → HasFrameNames c → (ls : List (List ℕ)) → AllByRecursion (HasRemark f c (if physical then k else None)) (answers h ls)
+all-remarks h f physical c k form phys is so text a b [] = tt
+all-remarks h f physical c k form phys is so text a b (line ∷ more) =
     let begun = record h { begun = true } in
     let said = heard_as h.cluster h.coded (without_byte_order_mark h (short line)) in
-    let here : IfSome h.coded AreOneLine = subst (λ (o : Option CodedData). IfSome o AreOneLine) (sym so) one in
     let kept = told-kept begun said in (
       rw (sym is, sym so, sym phys)
           (text-line f h.cluster (shown_coding h) _ text
-          (told-remark begun (subst (λ (x : Parts). HasNames (named_language x)) (sym is) a) (subst HasFrameNames (sym is) b) here said)),
-      all-remarks (line_answer h (short line)).0 f physical c k (kept.0 ∙ form) (kept.3 ∙ phys) (kept.1 ∙ is) (kept.2 ∙ so) text a b one more,
+          (told-remark begun (subst (λ (x : Parts). HasNames (named_language x)) (sym is) a) (subst HasFrameNames (sym is) b) said)),
+      all-remarks (line_answer h (short line)).0 f physical c k (kept.0 ∙ form) (kept.3 ∙ phys) (kept.1 ∙ is) (kept.2 ∙ so) text a b more,
     )
 
 pub last-lines-are-remarks : LastLinesAreRemarks
-last-lines-are-remarks h ls t = all-remarks h h.format h.is_physical h.cluster h.coded refl refl refl refl t.of_text t.names t.frames (fits-one h.cluster h.coded t.coded) ls
+last-lines-are-remarks h ls t = all-remarks h h.format h.is_physical h.cluster h.coded refl refl refl refl t.of_text t.names t.frames ls
 
 -- ---- the entries of answers
 none-told : (f : AnswerFormat) (c : Parts) (k : Option CodedData) (past : List LogEntry) → [] ≡ entries_text f c k past []
@@ -84,16 +70,16 @@ none-told Log c k past = refl
 none-told Named c k past = refl
 none-told Jsonl c k past = refl
 
-answers-left : (f : AnswerFormat) (c : Parts) (k : Option CodedData) → HasNames (named_language c) → HasFrameNames c → IfSome k AreOneLine → (past : List LogEntry) (all : List Answer)
+answers-left : (f : AnswerFormat) (c : Parts) (k : Option CodedData) → HasNames (named_language c) → HasFrameNames c → (past : List LogEntry) (all : List Answer)
     → is_text f ≡ true → AllByRecursion (HasRemark f c k) all → without_remarks (answers_text f c k past all) ≡ entries_text f c k past (flat_map (λ a. a.entries) all)
-answers-left f c k a b one past [] text h = none-told f c k past
-answers-left f c k a b one past (x ∷ more) text h =
+answers-left f c k a b past [] text h = none-told f c k past
+answers-left f c k a b past (x ∷ more) text h =
     let told = entries_text f c k past x.entries in
     let rest = answers_text f c k (reverse x.entries ++ past) more in
     let last = last_line f c k x.ending in
     ap without_remarks (append_assoc told last rest)
-    ∙ entries-stay f c k text a b one past x.entries (last ++ rest)
-    ∙ ap (λ t. told ++ t) (remark-goes last h.0 rest ∙ answers-left f c k a b one (reverse x.entries ++ past) more text h.1)
+    ∙ entries-stay f c k text a b past x.entries (last ++ rest)
+    ∙ ap (λ t. told ++ t) (remark-goes last h.0 rest ∙ answers-left f c k a b (reverse x.entries ++ past) more text h.1)
     ∙ sym (entries-append f c k past x.entries (flat_map (λ y. y.entries) more))
 
 pub transcripts-are-logs : TranscriptsAreLogs
@@ -101,7 +87,7 @@ transcripts-are-logs h ls t =
     let all = flat_map (λ x. x.entries) (answers h ls) in
     let k = shown_coding h in
     ap without_remarks (answers-are-written h ls)
-    ∙ answers-left h.format h.cluster k t.names t.frames (shown-one h (fits-one h.cluster h.coded t.coded)) h.bench.past (answers h ls) t.of_text (last-lines-are-remarks h ls t)
+    ∙ answers-left h.format h.cluster k t.names t.frames h.bench.past (answers h ls) t.of_text (last-lines-are-remarks h ls t)
     ∙ ap (λ p. entries_text h.format h.cluster k p all) t.begins
     ∙ ap (entries_text h.format h.cluster k []) (sym (answers-are-the-log h ls ∙ ap (λ (p : List LogEntry). reverse p ++ all) t.begins))
 

@@ -1,21 +1,15 @@
 -- Logs with names as bench scripts.
-use Rattle.std.specs.Prelude.{◌≡◌, ℕ, true, List, Option, Some, None, IfSome}
+use Rattle.std.specs.Prelude.{◌≡◌, ℕ, true, List, Option}
 use Rattle.std.specs.List.{All}
 use Rattle.lin_parts.specs.declared.parts.Parts.{Parts}
 use Rattle.lin_parts.specs.declared.description.Description.{Description}
-use Rattle.lin_frame.specs.declared.value.Value.{Value}
 use Rattle.lin_ldf.specs.Describes.{Describes}
-use Rattle.lin_ldf.specs.Symbols.{Symbol}
 use Rattle.lin_cluster.specs.Described.{parts_of}
 use Rattle.lin_core.specs.Runs.{steps_of}
 use Rattle.lin_core.specs.declared.log.LogEntry.{LogEntry}
 use Rattle.lin_log.specs.Language.{named_language}
-use Rattle.lin_log.specs.Laws.{FitsEntry, HasNames, is_name, is_quiet}
-use Rattle.lin_values.specs.Coded.{CodedData, coded_signals}
-use Rattle.lin_values.specs.Meaning.{meaning}
-use Rattle.lin_values.specs.Meant.{Meant}
-use Rattle.lin_sections.specs.Reading.{codings}
-use Rattle.lin_values.specs.Shown.{shown}
+use Rattle.lin_log.specs.Laws.{FitsEntry, HasNames, is_name}
+use Rattle.lin_values.specs.Coded.{CodedData}
 use Rattle.lin_export.specs.Named.{named_log}
 use Rattle.lin_bench.specs.Plain.{SaysSteps}
 
@@ -25,32 +19,16 @@ pub record HasFrameNames (c : Parts) : Type 0 where
   pub of_sporadic : All (λ s. is_name s.name ≡ true) c.sporadic
   pub of_events : All (λ e. is_name e.name ≡ true) c.events
 
--- no text of what values mean has an end of a line in it
-abbrev pub IsOneLine : Meant → Type 0
-IsOneLine m = is_quiet (shown m) ≡ true
-
-abbrev pub AreOneLine : CodedData → Type 0
-AreOneLine k = (s : ℕ) (v : Value) → IfSome (meaning k s v) IsOneLine
-
--- so it is with all that an LDF text says of values (LIN 2.2A, section 9.2.6)
-abbrev pub CodingsAreOneLine : Type 0
-CodingsAreOneLine = (c : Parts) (ts : List Symbol) → AreOneLine (coded_signals c (codings ts))
-
 -- a log with names says the log's steps as a bench script, whether it tells what values mean or not
 abbrev pub NamedLogs : Type 0
 NamedLogs = (c : Parts) (k : Option CodedData) (log : List LogEntry) (opening capacity : ℕ)
-    → HasNames (named_language c) → HasFrameNames c → IfSome k AreOneLine → All FitsEntry log
+    → HasNames (named_language c) → HasFrameNames c → All FitsEntry log
     → SaysSteps c opening capacity (named_log c k log) (steps_of log)
-
--- what values mean isn't told, or is what an LDF text says
-abbrev pub IsSaid : Parts → Option CodedData → Type 0
-IsSaid c None = Unit {0}
-IsSaid c (Some k) = (ts : List Symbol) × (k ≡ coded_signals c (codings ts))
 
 -- the same of each cluster that an LDF text describes: its names are identifiers (ISO 17987-2; LIN
 -- 2.2A, section 9.2), and doubles are refused
 abbrev pub NamedLogsOfTexts : Type 0
 NamedLogsOfTexts = (text : List ℕ) (d : Description) (k : Option CodedData) (log : List LogEntry)
     (opening capacity : ℕ)
-    → Describes text d → IsSaid (parts_of d) k → All FitsEntry log
+    → Describes text d → All FitsEntry log
     → SaysSteps (parts_of d) opening capacity (named_log (parts_of d) k log) (steps_of log)

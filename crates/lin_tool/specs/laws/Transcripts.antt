@@ -9,7 +9,6 @@ use Rattle.lin_log.specs.Language.{named_language}
 use Rattle.lin_log.specs.Laws.{FitsEntry, HasNames}
 use Rattle.lin_log.specs.Script.{script}
 use Rattle.lin_parts.specs.declared.parts.Parts.{Parts}
-use Rattle.lin_values.specs.Coded.{CodedData}
 use Rattle.lin_bench.specs.Plain.{HasNoMarks, SaysSteps}
 use Rattle.lin_live.specs.Answers.{answers}
 use Rattle.lin_live.specs.Lines.{HasNoLf, but_last, lines, pieces_at_lf, after_last_lf}
@@ -17,7 +16,7 @@ use Rattle.lin_live.specs.Play.{in_hand_of, empty_run}
 use Rattle.lin_live.specs.Told.{HandData, entries_text, is_text, last_line, reply, shown_coding}
 use Rattle.lin_live.specs.Transcript.{state_after, most_bytes, transcript}
 use Rattle.lin_live.specs.declared.answer_format.AnswerFormat.TheVariants.{Log}
-use Rattle.lin_tool.specs.laws.NamedScripts.{AreOneLine, HasFrameNames}
+use Rattle.lin_tool.specs.laws.NamedScripts.{HasFrameNames}
 
 -- the lines of a text, each with the LF that ends it, and what stands after the last LF
 abbrev pub with_line_end : List ℕ → List ℕ
@@ -33,33 +32,27 @@ is_said line = not (slice_index line 0 == 35)
 abbrev pub without_remarks : List ℕ → List ℕ
 without_remarks bytes = flat_map (λ line. line) (filter is_said (lines_with_ends bytes))
 
--- no text of what values mean has an end of a line in it, and no signal is called as a mark
-pub record FitsCluster (c : Parts) (k : CodedData) : Type 0 where
-  pub one_line : AreOneLine k
-  pub no_marks : HasNoMarks c
-
--- names are words, and a bench in hand that begins has answered lines in texts, bad ones too, without
--- an LF in them
-pub record IsTranscript (h : HandData) (ls : List (List ℕ)) : Type 0 where
+-- names are words, and where what signals mean is known, none is called as a mark; a bench in hand that
+-- begins answers lines in texts
+pub record IsTranscript (h : HandData) : Type 0 where
   pub of_text : is_text h.format ≡ true
   pub names : HasNames (named_language h.cluster)
   pub frames : HasFrameNames h.cluster
-  pub coded : IfSome h.coded (FitsCluster h.cluster)
+  pub no_marks : IfSome h.coded (λ k. HasNoMarks h.cluster)
   pub begins : h.bench.past ≡ []
-  pub lines : AllByRecursion HasNoLf ls
 
 abbrev pub log_after : HandData → List (List ℕ) → List LogEntry
 log_after h ls = reverse (state_after reply h ls).bench.past
 
 -- without the lines that begin with `#`, a transcript is the text of the log, byte for byte
 abbrev pub TranscriptsAreLogs : Type 0
-TranscriptsAreLogs = (h : HandData) (ls : List (List ℕ)) → IsTranscript h ls
+TranscriptsAreLogs = (h : HandData) (ls : List (List ℕ)) → IsTranscript h
     → without_remarks (transcript reply h ls)
     ≡ entries_text h.format h.cluster (shown_coding h) [] (log_after h ls)
 
 -- a transcript by numbers is a script of its run
 abbrev pub TranscriptsAreScripts : Type 0
-TranscriptsAreScripts = (h : HandData) (ls : List (List ℕ)) → IsTranscript h ls
+TranscriptsAreScripts = (h : HandData) (ls : List (List ℕ)) → IsTranscript h
     → All FitsEntry (log_after h ls) → h.format ≡ Log
     → script (transcript reply h ls) ≡ Ok (steps_of (log_after h ls))
 
@@ -67,7 +60,7 @@ TranscriptsAreScripts = (h : HandData) (ls : List (List ℕ)) → IsTranscript h
 -- expects nothing
 abbrev pub TranscriptsAreBenchScripts : Type 0
 TranscriptsAreBenchScripts = (h : HandData) (ls : List (List ℕ)) (opening capacity : ℕ)
-    → IsTranscript h ls → All FitsEntry (log_after h ls)
+    → IsTranscript h → All FitsEntry (log_after h ls)
     → SaysSteps h.cluster opening capacity (transcript reply h ls) (steps_of (log_after h ls))
 
 -- a bench in hand that begins, with the same cluster, meanings and settings and without rules
@@ -86,7 +79,7 @@ AreShort bytes =
 -- them is bad
 abbrev pub TranscriptsAreInputs : Type 0
 TranscriptsAreInputs = (h : HandData) (ls : List (List ℕ))
-    → IsTranscript h ls → All FitsEntry (log_after h ls) → AreShort (transcript reply h ls)
+    → IsTranscript h → All FitsEntry (log_after h ls) → AreShort (transcript reply h ls)
     → (log_after (anew h) (lines (transcript reply h ls)) ≡ log_after h ls)
     × ((state_after reply (anew h) (lines (transcript reply h ls))).was_bad ≡ false)
 
@@ -97,7 +90,7 @@ pub record IsRemark (t : List ℕ) : Type 0 where
   pub whole : t ≡ 35 ∷ (words ++ 10 ∷ [])
 
 abbrev pub LastLinesAreRemarks : Type 0
-LastLinesAreRemarks = (h : HandData) (ls : List (List ℕ)) → IsTranscript h ls
+LastLinesAreRemarks = (h : HandData) (ls : List (List ℕ)) → IsTranscript h
     → AllByRecursion (λ a. IsRemark (last_line h.format h.cluster (shown_coding h) a.ending)) (answers h ls)
 
 -- the lines of an input have no LF in them

@@ -1,7 +1,7 @@
 use Rattle.std.proofs.Common.{ap, map, sym}
 use Rattle.lin_text.proofs.Growing.{grows-more, same-growth}
 use Rattle.lin_bench.specs.LineWords.{as_word, words_text}
-use Rattle.lin_bench.proofs.Appending.{first-and-rest}
+use Rattle.lin_log.proofs.CallerTexts.{first-and-rest}
 use Rattle.lin_bench.proofs.line_words.put_words.Goals as goal
 
 pub returns-in-len1-up : goal.returns-in-len1-up

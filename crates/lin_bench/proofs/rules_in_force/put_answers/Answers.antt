@@ -1,7 +1,7 @@
 use Rattle.std.proofs.Common.{ap, sym}
 use Rattle.lin_text.proofs.Growing.{grows-more, same-growth}
 use Rattle.lin_bench.specs.RulesInForce.{answers_text}
-use Rattle.lin_bench.proofs.Appending.{first-and-rest}
+use Rattle.lin_log.proofs.CallerTexts.{first-and-rest}
 use Rattle.lin_bench.proofs.rules_in_force.put_answers.Goals as goal
 
 pub returns-in-len1-up : goal.returns-in-len1-up

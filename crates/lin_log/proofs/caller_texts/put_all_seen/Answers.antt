@@ -1,7 +1,7 @@
 use Rattle.std.proofs.Common.{arith}
 use Rattle.lin_text.proofs.Growing.{grows-more, grows-next, grows-nothing}
-use Rattle.lin_bench.specs.LineWords.{seen_after}
-use Rattle.lin_bench.proofs.line_words.put_all_seen.Goals as goal
+use Rattle.lin_log.specs.CallerTexts.{seen_after}
+use Rattle.lin_log.proofs.caller_texts.put_all_seen.Goals as goal
 
 pub loop-text-init : goal.loop-text-init
 loop-text-init g c = grows-nothing c.args.out.now

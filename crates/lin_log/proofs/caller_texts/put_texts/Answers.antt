@@ -1,8 +1,8 @@
 use Rattle.std.proofs.Common.{ap, sym}
 use Rattle.lin_text.proofs.Growing.{grows-more, same-growth}
-use Rattle.lin_bench.specs.LineWords.{seen_texts}
-use Rattle.lin_bench.proofs.Appending.{first-and-rest}
-use Rattle.lin_bench.proofs.line_words.put_texts.Goals as goal
+use Rattle.lin_log.specs.CallerTexts.{seen_texts}
+use Rattle.lin_log.proofs.CallerTexts.{first-and-rest}
+use Rattle.lin_log.proofs.caller_texts.put_texts.Goals as goal
 
 pub returns-in-len1-up : goal.returns-in-len1-up
 returns-in-len1-up g c =

@@ -1,8 +1,8 @@
 use Rattle.std.proofs.Common.{sym}
 use Rattle.lin_text.proofs.Growing.{grows-more, grows-nothing, same-growth}
-use Rattle.lin_bench.specs.LineWords.{seen_byte}
-use Rattle.lin_bench.proofs.LineWords.{each-next}
-use Rattle.lin_bench.proofs.line_words.put_seen.Goals as goal
+use Rattle.lin_log.specs.CallerTexts.{seen_byte}
+use Rattle.lin_log.proofs.CallerTexts.{each-next}
+use Rattle.lin_log.proofs.caller_texts.put_each_seen.Goals as goal
 
 pub loop-byte-init : goal.loop-byte-init
 loop-byte-init g c = grows-nothing c.args.out.now
