@@ -64,22 +64,22 @@ byte_word (Some b) = encode_upper (b ∷ [])
 abbrev pub pattern_word : Pattern → List ℕ
 pattern_word p = flat_map byte_word p.bytes ++ (if p.more then codes "*" else [])
 
--- the text of a word
+-- the text of a word: names and texts with `?` in the place of each LF, which no other word has
 abbrev pub word_text : Language → Called → Word → List ℕ
-word_text l frames (Node n) = word_of l.nodes n
-word_text l frames (Signal s) = word_of l.signals s
-word_text l frames (Table t) = word_of l.tables t
-word_text l frames (Frame f) = carried_word frames f
+word_text l frames (Node n) = seen_text (word_of l.nodes n)
+word_text l frames (Signal s) = seen_text (word_of l.signals s)
+word_text l frames (Table t) = seen_text (word_of l.tables t)
+word_text l frames (Frame f) = seen_text (carried_word frames f)
 word_text l frames (Number n) = decimal n
 word_text l frames (Range low high) = decimal low ++ (codes ".." ++ decimal high)
 word_text l frames (Hex bytes) = hex_word bytes
 word_text l frames (Matching p) = pattern_word p
 word_text l frames (Raw v) = value_word v
-word_text l frames (Fixed text) = text
+word_text l frames (Fixed text) = seen_text text
 word_text l frames (Said text) = seen_text text
 word_text l frames (Fields fields) = seen_texts (codes " ") fields
 word_text l frames (Listed texts) = seen_texts (codes ", ") texts
-word_text l frames (Mark text) = text
+word_text l frames (Mark text) = seen_text text
 
 abbrev pub is_mark_word : Word → Bool
 is_mark_word (Mark text) = true

@@ -3,6 +3,7 @@
 ghost use Rattle.std.specs.Prelude.{◌≡◌, ◌≤◌, ◌++◌, codes, flat_map, length, map, option_map};
 ghost use Rattle.std.specs.Fmt.{decimal};
 ghost use Rattle.std.specs.Option.{option_map_or};
+ghost use Rattle.lin_log.specs.CallerTexts.{seen_text};
 ghost use Rattle.lin_log.specs.Language.{Called, name_at, nameless, word_of};
 ghost use Rattle.lin_log.specs.Words.{value_word};
 ghost use Rattle.lin_text.specs.Written.{Grows};
@@ -110,16 +111,16 @@ impl<'a> WordList<'a> {
 /// A name, or the number of what has none.
 fn put_called<W: Write>(out: &mut TextWriter<'_, W>, name: Option<&[u8]>, number: u64)
     ensures { Grows W.contents out.old out.new
-        (option_map_or (λ w. w.now) name.entry (decimal number)) }
+        (seen_text (option_map_or (λ w. w.now) name.entry (decimal number))) }
 {
     match name {
-        Some(name) => out.put(name),
+        Some(name) => put_seen(out, name),
         None => out.put_number(number),
     }
 }
 
 fn put_frame<N: LineNaming, W: Write>(out: &mut TextWriter<'_, W>, names: &N, frame: Carried)
-    ensures { Grows W.contents out.old out.new (carried_word (N.frames names.now) frame) }
+    ensures { Grows W.contents out.old out.new (seen_text (carried_word (N.frames names.now) frame)) }
 {
     match frame {
         Carried::Signals(number) => {
@@ -193,11 +194,11 @@ fn put_word<N: LineNaming, W: Write>(out: &mut TextWriter<'_, W>, names: &N, wor
         Word::Bytes(bytes) => put_hex(out, bytes),
         Word::Pattern(pattern) => put_pattern(out, pattern),
         Word::Value(value) => put_value(out, value),
-        Word::Fixed(text) => out.put_text(text),
+        Word::Fixed(text) => put_seen(out, text.as_bytes()),
         Word::Said(text) => put_seen(out, text),
         Word::Fields(fields) => put_texts(out, " ", fields),
         Word::Listed(texts) => put_texts(out, ", ", texts),
-        Word::Mark(mark) => out.put_text(mark),
+        Word::Mark(mark) => put_seen(out, mark.as_bytes()),
     }
 }
 

@@ -28,7 +28,9 @@ use Rattle.lin_values.specs.Shown.{shown}
 use Rattle.lin_export.specs.LastSlot.{EndedSlot, ended_words, last_slot, last_slot_text}
 use Rattle.lin_export.specs.Listing.{address_word}
 use Rattle.lin_export.specs.Named.{slot_names}
-use Rattle.lin_bench.specs.Texts.{expected_text, got_text, table_word}
+use Rattle.lin_bench.specs.Fields.{frames_called}
+use Rattle.lin_bench.specs.LineWords.{Word}
+use Rattle.lin_bench.specs.Texts.{all_pending_words, cluster_text, expected_text, expected_words, got_text, got_words, table_word}
 use Rattle.lin_bench.specs.Slots.{pending}
 use Rattle.lin_bench.specs.declared.expected.Expected.{Expected}
 use Rattle.lin_bench.specs.declared.got.Got.{Got}
@@ -44,7 +46,7 @@ use Rattle.lin_live.specs.declared.question.Question.{Question}
 use Rattle.lin_live.specs.declared.question.Question.TheVariants as question
 use Rattle.lin_tool.specs.laws.NamedScripts.{HasFrameNames}
 use Rattle.lin_tool.specs.laws.Transcripts.{IsRemark}
-use Rattle.lin_tool.proofs.laws.OneLine.{expected-quiet, got-quiet, pending-quiet}
+use Rattle.lin_tool.proofs.laws.OneLine.{line-quiet}
 use Rattle.lin_tool.proofs.laws.Remarks.{Quiet, a-remark, each-way}
 use Rattle.lin_tool.proofs.laws.Replies.{ended-quiet, node-name, refusal-quiet, slot-quiet, value-quiet}
 
@@ -57,13 +59,16 @@ meant-quiet None = refl
 meant-quiet (Some m) = quiet-seen-text (shown m)
 
 module _ (c : Parts) (a : HasNames (named_language c)) (b : HasFrameNames c) where
+  cluster-quiet : (ws : List Word) → Quiet (cluster_text c ws)
+  cluster-quiet ws = line-quiet (named_language c) (frames_called c) ws
+
   table : (t : ℕ) → Quiet (table_word c t)
   table t = quiet-called (named_language c).tables a.of_tables t
 
   -- ---- what is said to questions
   idle-quiet : (ps : List Pending) → Quiet (idle_text c ps)
   idle-quiet [] = refl
-  idle-quiet (p ∷ ps) = pending-quiet c a b (p ∷ ps)
+  idle-quiet (p ∷ ps) = cluster-quiet (all_pending_words (p ∷ ps))
 
   slot-said : (s : ℕ × ℕ × Option ℕ) → Quiet (slot_text c (s.0, s.1) s.2)
   slot-said s =
@@ -133,7 +138,7 @@ module _ (c : Parts) (a : HasNames (named_language c)) (b : HasFrameNames c) whe
       let g = got_text c is in
       let body = codes " expected " ++ (w ++ (codes ": " ++ g)) in
       let same : body ++ 10 ∷ [] ≡ codes " expected " ++ (w ++ (codes ": " ++ (g ++ 10 ∷ []))) = ap (λ t. codes " expected " ++ t) (append_assoc w (codes ": " ++ g) (10 ∷ [])) in
-      subst (λ t. IsRemark (35 ∷ t)) same (a-remark body (joined no_end w (codes ": " ++ g) (expected-quiet c a b what) (got-quiet c a b is)))
+      subst (λ t. IsRemark (35 ∷ t)) same (a-remark body (joined no_end w (codes ": " ++ g) (cluster-quiet (expected_words what)) (cluster-quiet (got_words is))))
 
   -- what was judged of a line
   pub verdict-remark : (k : Option CodedData) (v : Verdict) (es : List LogEntry) → IsRemark (hash_ending c k (verdict_ending c v es))
