@@ -1,5 +1,5 @@
 -- What the lines of an entry say, by what is kept of the entries before it.
-use Rattle.std.proofs.Common.{◌≡◌, ℕ, List, [], ◌∷◌, ◌++◌, refl, sym, ap, ◌∙◌, append_assoc, append-nil, flat_map, length, get_or, ◌<◌, arith}
+use Rattle.std.proofs.Common.{◌≡◌, ℕ, List, [], ◌∷◌, ◌++◌, refl, sym, ap, ◌∙◌, append_assoc, append-nil, flat_map, map, length, get_or, ◌<◌, arith}
 use Rattle.std.specs.Prelude.{Option, Some, None, option_map, zip}
 use Rattle.std.specs.Option.{option_map_or, option_to_list}
 use Rattle.lin_parts.specs.Cluster.{line_of}
@@ -8,7 +8,7 @@ use Rattle.lin_core.specs.History.{Slot}
 use Rattle.lin_core.specs.declared.event.Event.{Event}
 use Rattle.lin_core.specs.declared.event.Event.TheVariants as event
 use Rattle.lin_core.specs.declared.event.Seen.TheVariants as seen
-use Rattle.lin_export.specs.Named.{words_after_event, event_lines, frame_values, frame_words, good_words, named_event, reply_lines, seen_values, slot_values, transport}
+use Rattle.lin_export.specs.Named.{words_after_event, event_lines, frame_values, frame_words, good_words, named_event, named_line, named_words, reply_lines, seen_values, slot_values, transport}
 use Rattle.lin_export.specs.NamedWords.{event_text, line_or_none, named_entry}
 use Rattle.lin_export.specs.Telling.{each_entry}
 use Rattle.lin_export.specs.Track.{shown_slot}
@@ -16,7 +16,8 @@ use Rattle.lin_export.specs.WhereTold.{where_told}
 use Rattle.lin_values.specs.Coded.{CodedData}
 use Rattle.lin_core.specs.declared.log.LogEntry.{LogEntry}
 use Rattle.lin_log.specs.Language.{named_language}
-use Rattle.lin_log.specs.Words.{line_tail, log_text, reply_line, spaced_word, step_line}
+use Rattle.std.proofs.lemmas.List.{map-append}
+use Rattle.lin_log.specs.Words.{Word, line_tail, log_text, spaced_word, step_line, word_text}
 use Rattle.std.proofs.lemmas.Slice.Zip.{get_or-zip, length-zip}
 use Rattle.lin_export.proofs.Rows.{flat-append, frame-shown}
 
@@ -74,7 +75,7 @@ seen-shown c k o (event.Lost host number why) = refl
 seen-shown c k o event.Asleep = refl
 
 -- the lines of what values mean that an event tells of a slot
-abbrev values_told : Parts → Option CodedData → Option Slot → Event → List (List (List ℕ))
+abbrev values_told : Parts → Option CodedData → Option Slot → Event → List (List Word)
 values_told c k o e = where_told k (λ d. seen_values c d o e)
 
 told-shown : (c : Parts) (k : Option CodedData) (o : Option Slot) (e : Event) → values_told c k (option_map shown_slot o) e ≡ values_told c k o e
@@ -86,39 +87,39 @@ pub lines-shown : (c : Parts) (k : Option CodedData) (o : Option Slot) (es : Lis
 lines-shown c k o es =
     flat-same (event_text c k (option_map shown_slot o)) (event_text c k o) es
     (λ e.
-    ap (λ (b : Option (List (List ℕ))). reply_line (named_event c e) ++ (line_or_none b ++ flat_map reply_line (values_told c k (option_map shown_slot o) e))) (behind-shown c o e)
-    ∙ ap (λ (ls : List (List (List ℕ))). reply_line (named_event c e) ++ (line_or_none (words_after_event c o e) ++ flat_map reply_line ls)) (told-shown c k o e))
+    ap (λ (b : Option (List Word)). named_line c (named_event c e) ++ (line_or_none c b ++ flat_map (named_line c) (values_told c k (option_map shown_slot o) e))) (behind-shown c o e)
+    ∙ ap (λ (ls : List (List Word)). named_line c (named_event c e) ++ (line_or_none c (words_after_event c o e) ++ flat_map (named_line c) ls)) (told-shown c k o e))
 
 -- lines, one after another
-pub one-line : (o : Option (List (List ℕ))) → line_or_none o ≡ flat_map reply_line (option_to_list o)
-one-line None = refl
-one-line (Some ws) = sym (append-nil (reply_line ws))
+pub one-line : (c : Parts) (o : Option (List Word)) → line_or_none c o ≡ flat_map (named_line c) (option_to_list o)
+one-line c None = refl
+one-line c (Some ws) = sym (append-nil (named_line c ws))
 
-event-joined : (c : Parts) (k : Option CodedData) (o : Option Slot) (e : Event) → event_text c k o e ≡ flat_map reply_line (event_lines c k o e)
+event-joined : (c : Parts) (k : Option CodedData) (o : Option Slot) (e : Event) → event_text c k o e ≡ flat_map (named_line c) (event_lines c k o e)
 event-joined c k o e =
-    let first = reply_line (named_event c e) in
+    let first = named_line c (named_event c e) in
     let b = words_after_event c o e in
     let values = values_told c k o e in
-    ap (λ l. first ++ (l ++ flat_map reply_line values)) (one-line b) ∙ ap (λ l. first ++ l) (sym (flat-append reply_line (option_to_list b) values))
+    ap (λ l. first ++ (l ++ flat_map (named_line c) values)) (one-line c b) ∙ ap (λ l. first ++ l) (sym (flat-append (named_line c) (option_to_list b) values))
 
-pub lines-joined : (c : Parts) (k : Option CodedData) (o : Option Slot) (es : List Event) (t : Option (List (List ℕ)))
-    → flat_map (event_text c k o) es ++ line_or_none t ≡ flat_map reply_line (flat_map (event_lines c k o) es ++ option_to_list t)
-lines-joined c k o [] t = one-line t
+pub lines-joined : (c : Parts) (k : Option CodedData) (o : Option Slot) (es : List Event) (t : Option (List Word))
+    → flat_map (event_text c k o) es ++ line_or_none c t ≡ flat_map (named_line c) (flat_map (event_lines c k o) es ++ option_to_list t)
+lines-joined c k o [] t = one-line c t
 lines-joined c k o (e ∷ es) t =
-    let lines : List (List (List ℕ)) = event_lines c k o e in
-    append_assoc (event_text c k o e) (flat_map (event_text c k o) es) (line_or_none t)
-    ∙ ap (λ l. l ++ (flat_map (event_text c k o) es ++ line_or_none t)) (event-joined c k o e)
-    ∙ ap (λ l. flat_map reply_line lines ++ l) (lines-joined c k o es t)
-    ∙ sym (flat-append reply_line lines (flat_map (event_lines c k o) es ++ option_to_list t))
-    ∙ ap (λ (l : List (List (List ℕ))). flat_map reply_line l) (sym (append_assoc lines (flat_map (event_lines c k o) es) (option_to_list t)))
+    let lines : List (List Word) = event_lines c k o e in
+    append_assoc (event_text c k o e) (flat_map (event_text c k o) es) (line_or_none c t)
+    ∙ ap (λ l. l ++ (flat_map (event_text c k o) es ++ line_or_none c t)) (event-joined c k o e)
+    ∙ ap (λ l. flat_map (named_line c) lines ++ l) (lines-joined c k o es t)
+    ∙ sym (flat-append (named_line c) lines (flat_map (event_lines c k o) es ++ option_to_list t))
+    ∙ ap (λ (l : List (List Word)). flat_map (named_line c) l) (sym (append_assoc lines (flat_map (event_lines c k o) es) (option_to_list t)))
 
 -- a log, entry by entry
 pub log-entries : (c : Parts) (k : Option CodedData) (past log : List LogEntry)
     → each_entry (named_entry c k) past log ≡ log_text (named_language c) (reply_lines c k) past log
 log-entries c k past [] = refl
 log-entries c k past (e ∷ es) =
-    append_assoc (step_line (named_language c) e.port e.step) (flat_map reply_line (reply_lines c k e past)) (each_entry (named_entry c k) (e ∷ past) es)
-    ∙ ap (λ t. step_line (named_language c) e.port e.step ++ (flat_map reply_line (reply_lines c k e past) ++ t)) (log-entries c k (e ∷ past) es)
+    append_assoc (step_line (named_language c) e.port e.step) (flat_map (named_line c) (reply_lines c k e past)) (each_entry (named_entry c k) (e ∷ past) es)
+    ∙ ap (λ t. step_line (named_language c) e.port e.step ++ (flat_map (named_line c) (reply_lines c k e past) ++ t)) (log-entries c k (e ∷ past) es)
 
 pub zip-at : {X Y : Type 0} (xs : List X) (ys : List Y) (i : ℕ) (x : X) (y : Y) → i < length xs → i < length ys → get_or (zip xs ys) i (x, y) ≡ (get_or xs i x, get_or ys i y)
 zip-at xs ys i x y h k = get_or-zip xs ys i (x, y) h k
@@ -130,3 +131,16 @@ zip-long xs ys same = let h = length-zip xs ys in omega (arith, same, h)
 pub ended-both : (xs ys : List (List ℕ)) → flat_map spaced_word xs ++ line_tail ys ≡ line_tail (xs ++ ys)
 ended-both [] ys = refl
 ended-both (x ∷ xs) ys = append_assoc (spaced_word x) (flat_map spaced_word xs) (line_tail ys) ∙ ap (λ l. spaced_word x ++ l) (ended-both xs ys)
+
+-- words with names
+pub named-append : (c : Parts) (xs ys : List Word) → named_words c (xs ++ ys) ≡ named_words c xs ++ named_words c ys
+named-append c xs ys =
+    let texts = map (word_text (named_language c)) in
+    ap (flat_map spaced_word) (map-append (word_text (named_language c)) xs ys) ∙ flat-append spaced_word (texts xs) (texts ys)
+
+-- words with names that end a line
+pub named-ended : (c : Parts) (xs ys : List Word)
+    → named_words c xs ++ line_tail (map (word_text (named_language c)) ys) ≡ line_tail (map (word_text (named_language c)) (xs ++ ys))
+named-ended c xs ys =
+    let texts = map (word_text (named_language c)) in
+    ended-both (texts xs) (texts ys) ∙ ap line_tail (sym (map-append (word_text (named_language c)) xs ys))

@@ -1,5 +1,5 @@
 -- The slot that ended last in a history.
-use Rattle.std.specs.Prelude.{◌≡◌, ℕ, ◌≤◌, List, [], ◌∷◌, ◌++◌, codes, flat_map, length, map}
+use Rattle.std.specs.Prelude.{◌≡◌, ℕ, ◌≤◌, List, [], ◌∷◌, ◌++◌, codes, length, map}
 use Rattle.std.specs.Prelude.{reverse, take, Option, None, option_map}
 use Rattle.std.specs.Fmt.{decimal}
 use Rattle.std.specs.Option.{option_map_or, option_to_list}
@@ -9,9 +9,11 @@ use Rattle.lin_core.specs.History.{Slot, good, open_slot, seen_of, time}
 use Rattle.lin_core.specs.Tables.{look_of, look_word}
 use Rattle.lin_core.specs.declared.log.LogEntry.{LogEntry}
 use Rattle.lin_log.specs.LastFinish.{before_last_finish}
-use Rattle.lin_log.specs.Words.{hex_word, spaced_word}
+use Rattle.lin_log.specs.Words.{Word}
+use Rattle.lin_log.specs.Words.Word.{Fixed, Hex, Number, Said}
 use Rattle.lin_export.specs.Json.{hex_text, member, null, object, quoted_text}
 use Rattle.lin_export.specs.Jsonl.{frame_member, time_member}
+use Rattle.lin_export.specs.Named.{named_words}
 use Rattle.lin_export.specs.Shown.{data_of, slot_name}
 use Rattle.lin_export.specs.Track.{TrackData, finished_slot_count, shown_slot, track_of}
 
@@ -33,17 +35,17 @@ last_slot c past = option_map_or (ended_slot c) (before_last_finish past) None
 
 -- its number, the time at its start, its table, its entry, the name of its frame, how it was seen, and the
 -- data bytes of a good response
-abbrev pub ended_words : Parts → EndedSlot → List (List ℕ)
+abbrev pub ended_words : Parts → EndedSlot → List Word
 ended_words c e =
-    decimal e.at
-    ∷ (named_table c e.slot.table).name
-    ∷ decimal e.slot.entry
-    ∷ slot_name c e.slot
-    ∷ look_word (look_of (seen_of e.slot))
-    ∷ map (λ answer. hex_word (data_of answer)) (option_to_list (good e.slot))
+    Number e.at
+    ∷ Said (named_table c e.slot.table).name
+    ∷ Number e.slot.entry
+    ∷ Said (slot_name c e.slot)
+    ∷ Fixed (look_word (look_of (seen_of e.slot)))
+    ∷ map (λ answer. Hex (data_of answer)) (option_to_list (good e.slot))
 
 abbrev pub ended_text : Parts → EndedSlot → List ℕ
-ended_text c e = decimal e.number ++ flat_map spaced_word (ended_words c e)
+ended_text c e = decimal e.number ++ named_words c (ended_words c e)
 
 abbrev pub last_slot_text : Parts → Option EndedSlot → List ℕ
 last_slot_text c last = option_map_or (ended_text c) last (codes "none")

@@ -70,9 +70,9 @@ fn put_slot<W: Write>(
         &[
             Word::Number(track.slots()),
             Word::Number(track.time()),
-            Word::Name(table_name(cluster, slot.table())),
+            Word::Said(table_name(cluster, slot.table())),
             Word::Number(u64::from(slot.entry())),
-            Word::Name(slot_name(cluster, slot)),
+            Word::Said(slot_name(cluster, slot)),
             Word::Text(slot.look().kind().word()),
         ],
     );

@@ -2,20 +2,20 @@
 
 ghost use Rattle.std.specs.Prelude.{◌≡◌, ◌∷◌, ◌<◌, ⊤, [], IfOk, OnOk, codes, drop, flat_map, length};
 ghost use Rattle.std.specs.Prelude.{map, option_map, reverse, take};
-ghost use Rattle.std.specs.Fmt.{decimal};
 ghost use Rattle.std.specs.Option.{option_to_list};
 ghost use Rattle.lin_parts.specs.Cluster.{frame_name};
 ghost use Rattle.lin_parts.specs.Rules.{IsEntry};
-ghost use Rattle.lin_core.specs.Tables.{refusal_number, refusal_word};
+ghost use Rattle.lin_parts.specs.declared.parts.Parts.{Parts};
+ghost use Rattle.lin_log.specs.Language.{Language, named_language};
 ghost use Rattle.lin_log.specs.Shown.{word_shown};
-ghost use Rattle.lin_log.specs.Words.{reply_line, spaced_word};
+ghost use Rattle.lin_log.specs.Words.{line, reply_line, word_text};
+ghost use Rattle.lin_log.specs.Words.Word.{Said};
 ghost use Rattle.lin_text.specs.Written.{Grows, WritesText};
 ghost use Rattle.lin_export.specs.Named.{words_after_event, control_words, frame_signal_words, frame_words, good_words};
-ghost use Rattle.lin_export.specs.Named.{named_entries, named_event, named_from, named_log, slot_names};
-ghost use Rattle.lin_export.specs.Named.{request_words, sporadic_frame_under, time_words, transport};
-ghost use Rattle.lin_export.specs.Named.{transport_words};
-ghost use Rattle.lin_export.specs.Named.{who_word};
-ghost use Rattle.lin_export.specs.NamedWords.{event_text, line_or_none, named_entry};
+ghost use Rattle.lin_export.specs.Named.{named_entries, named_event, named_from, named_line, named_log};
+ghost use Rattle.lin_export.specs.Named.{named_words, refusal_words, request_words, slot_names};
+ghost use Rattle.lin_export.specs.Named.{sporadic_frame_under, time_words, transport, who_word};
+ghost use Rattle.lin_export.specs.NamedWords.{event_text, line_or_none, named_entry, transport_line};
 ghost use Rattle.lin_export.specs.Open.{tracked_slot};
 ghost use Rattle.lin_export.specs.Track.{track_of};
 ghost use Rattle.lin_export.specs.WhereTold.{given_coding};
@@ -23,7 +23,7 @@ ghost use Rattle.lin_export.specs.WhereTold.{given_coding};
 use crate::fault::ExportFault;
 use crate::format::{EntryFormat, put_entries, write_as};
 use crate::frame_places::{place_count, value_at};
-use crate::named_values::{put_seen, put_written};
+use crate::named_values::{put_told, put_written};
 use crate::slot::{OpenSlot, byte_at};
 use crate::slot_names::node_name;
 use crate::track::{Track, TrackedEntry};
@@ -38,7 +38,7 @@ use std::io::Write;
 
 /// A line of a reply.
 fn put_reply<W: Write>(out: &mut TextWriter<'_, W>, words: &[Word<'_>])
-    ensures { Grows W.contents out.old out.new (reply_line (map word_shown words.now)) }
+    ensures { Grows W.contents out.old out.new (line (codes ">" ∷ map word_shown words.now)) }
 {
     put_line(out, b">", words);
 }
@@ -61,17 +61,17 @@ fn sporadic_frame(cluster: &Cluster, entry: Entry, header: Option<u8>) -> Option
 /// The name of a member, where there is one.
 fn put_member<W: Write>(out: &mut TextWriter<'_, W>, cluster: &Cluster, member: Option<u16>)
     ensures { Grows W.contents out.old out.new
-        (flat_map spaced_word (map (frame_name cluster.now) (option_to_list member))) }
+        (named_words cluster.now (map (λ f. Said (frame_name cluster.now f)) (option_to_list member))) }
 {
     if let Some(frame) = member {
-        put_words(out, &[Word::Name(cluster.frame_name(frame))]);
+        put_words(out, &[Word::Said(cluster.frame_name(frame))]);
     }
 }
 
 /// What the entry of an opened slot is for.
 pub fn put_slot_names<W: Write>(out: &mut TextWriter<'_, W>, cluster: &Cluster, event: &Event)
     ensures { Grows W.contents out.old out.new
-        (flat_map spaced_word (slot_names cluster.now event.now)) }
+        (named_words cluster.now (slot_names cluster.now event.now)) }
 {
     if let Event::Slot {
         table,
@@ -80,14 +80,14 @@ pub fn put_slot_names<W: Write>(out: &mut TextWriter<'_, W>, cluster: &Cluster, 
     } = event
     {
         let entry = cluster.line_at(*table, *number).entry;
-        put_words(out, &[Word::Name(cluster.entry_name(entry))]);
+        put_words(out, &[Word::Said(cluster.entry_name(entry))]);
         put_member(out, cluster, sporadic_frame(cluster, entry, *header));
     }
 }
 
 pub(crate) fn put_event<W: Write>(out: &mut TextWriter<'_, W>, cluster: &Cluster, event: &Event)
     ensures { Grows W.contents out.old out.new
-        (reply_line (named_event cluster.now event.now)) }
+        (named_line cluster.now (named_event cluster.now event.now)) }
 {
     out.put_byte(b'>');
     lin_log::put_event(out, cluster, event);
@@ -104,12 +104,12 @@ fn put_signals<W: Write>(
 )
     requires { frame < length cluster.now.frames }
     ensures { Grows W.contents out.old out.new
-        (flat_map spaced_word (frame_signal_words cluster.now frame answer.now)) }
+        (named_words cluster.now (frame_signal_words cluster.now frame answer.now)) }
 {
     for place in 0..place_count(cluster, frame) {
         let (signal, value) = value_at(cluster, frame, answer, place);
         let name = cluster.signal_name(signal);
-        put_words(out, &[Word::Name(name), value_word(&value)]);
+        put_words(out, &[Word::Said(name), value_word(&value)]);
     }
 }
 
@@ -117,29 +117,31 @@ fn put_signals<W: Write>(
 fn put_frame<W: Write>(out: &mut TextWriter<'_, W>, cluster: &Cluster, frame: u16, answer: &Answer)
     requires { frame < length cluster.now.frames }
     ensures { Grows W.contents out.old out.new
-        (reply_line (frame_words cluster.now frame answer.now)) }
+        (named_line cluster.now (frame_words cluster.now frame answer.now)) }
 {
     out.put_byte(b'>');
     put_words(
         out,
-        &[Word::Text("frame"), Word::Name(cluster.frame_name(frame))],
+        &[Word::Text("frame"), Word::Said(cluster.frame_name(frame))],
     );
     put_signals(out, cluster, frame, answer);
     out.put_byte(b'\n');
 }
 
 fn who_word(cluster: &Cluster, address: u8) -> Word<'_>
-    ensures { word_shown result ≡ who_word cluster.now address }
+    ensures { word_shown result
+        ≡ word_text (named_language cluster.now) (who_word cluster.now address) }
 {
     match node_with(cluster, address) {
-        Some(node) => Word::Name(node_name(cluster, node)),
+        Some(node) => Word::Said(node_name(cluster, node)),
         None => Word::Number(u64::from(address)),
     }
 }
 
 /// What a frame of a message is, by its protocol control information (ISO 17987-2).
 fn control_words(control: u8, length: u8) -> (Word<'static>, Word<'static>)
-    ensures { word_shown result.0 ∷ word_shown result.1 ∷ [] ≡ control_words control length }
+    ensures { (l : Language) → word_shown result.0 ∷ word_shown result.1 ∷ []
+        ≡ map (word_text l) (control_words control length) }
 {
     let low = u64::from(control % 16);
     match control / 16 {
@@ -161,7 +163,7 @@ fn put_transport<'a, W: Write>(
     answer: &[u8],
 )
     ensures { Grows W.contents out.old out.new
-        (reply_line (transport_words cluster.now way.now answer.now)) }
+        (transport_line cluster.now way.now answer.now) }
 {
     let who = who_word(cluster, byte_at(answer, 0));
     let (kind, number) = control_words(byte_at(answer, 1), byte_at(answer, 2));
@@ -174,7 +176,7 @@ fn put_transport<'a, W: Write>(
 /// A good master request: a frame of a message, or the one that puts the cluster to sleep.
 fn put_request<W: Write>(out: &mut TextWriter<'_, W>, cluster: &Cluster, answer: &[u8])
     ensures { Grows W.contents out.old out.new
-        (reply_line (request_words cluster.now answer.now)) }
+        (named_line cluster.now (request_words cluster.now answer.now)) }
 {
     if byte_at(answer, 0) == 0 {
         put_reply(out, &[Word::Text("transport"), Word::Text("sleep")]);
@@ -190,7 +192,7 @@ fn put_transport_line<W: Write>(
     answer: &[u8],
 )
     ensures { Grows W.contents out.old out.new
-        (line_or_none (transport cluster.now header answer.now)) }
+        (line_or_none cluster.now (transport cluster.now header answer.now)) }
 {
     match header {
         Some(0x3C) => put_request(out, cluster, answer),
@@ -207,7 +209,7 @@ fn put_good<W: Write>(
     answer: &Answer,
 )
     ensures { Grows W.contents out.old out.new
-        (line_or_none (good_words cluster.now answer.now (tracked_slot slot.now))) }
+        (line_or_none cluster.now (good_words cluster.now answer.now (tracked_slot slot.now))) }
 {
     match slot.frame(cluster) {
         Some(frame) => put_frame(out, cluster, frame, answer),
@@ -223,7 +225,8 @@ fn put_behind<W: Write>(
     event: &Event,
 )
     ensures { Grows W.contents out.old out.new
-        (line_or_none (words_after_event cluster.now (option_map tracked_slot slot.now) event.now)) }
+        (line_or_none cluster.now
+        (words_after_event cluster.now (option_map tracked_slot slot.now) event.now)) }
 {
     if let Event::Seen(Seen::Good(answer)) = event
         && let Some(slot) = slot
@@ -245,7 +248,7 @@ fn put_lines<W: Write>(
 {
     put_event(out, cluster, event);
     put_behind(out, cluster, slot, event);
-    put_seen(out, cluster, coded, slot, event);
+    put_told(out, cluster, coded, slot, event);
 }
 
 fn put_events<W: Write>(
@@ -267,9 +270,8 @@ fn put_events<W: Write>(
 
 /// The line of a refusal.
 fn put_refusal<W: Write>(out: &mut TextWriter<'_, W>, refusal: Refusal)
-    ensures { Grows W.contents out.old out.new
-        (reply_line
-        (codes "refused" ∷ decimal (refusal_number refusal) ∷ refusal_word refusal ∷ [])) }
+    ensures { (l : Language) → Grows W.contents out.old out.new
+        (reply_line l (refusal_words refusal)) }
 {
     put_reply(
         out,
@@ -283,7 +285,8 @@ fn put_refusal<W: Write>(out: &mut TextWriter<'_, W>, refusal: Refusal)
 
 /// After the lines of a finish, the time.
 fn put_time<W: Write>(out: &mut TextWriter<'_, W>, step: &Step, time: u64)
-    ensures { Grows W.contents out.old out.new (line_or_none (time_words step.now time)) }
+    ensures { (c : Parts) → Grows W.contents out.old out.new
+        (line_or_none c (time_words step.now time)) }
 {
     if let Step::Finish = step {
         put_reply(out, &[Word::Text("time"), Word::Number(time)]);

@@ -1,10 +1,9 @@
 //! What values mean, as lines of a log with names.
 
 ghost use Rattle.std.specs.Prelude.{◌<◌, flat_map, length, option_map};
-ghost use Rattle.lin_log.specs.Words.{reply_line};
 ghost use Rattle.lin_text.specs.Written.{Grows};
-ghost use Rattle.lin_export.specs.Named.{frame_values, seen_values, slot_values, told_values, value_lines};
-ghost use Rattle.lin_export.specs.Named.{written_values};
+ghost use Rattle.lin_export.specs.Named.{frame_values, named_line, seen_values, slot_values, told_values};
+ghost use Rattle.lin_export.specs.Named.{value_lines, written_values};
 ghost use Rattle.lin_export.specs.Open.{tracked_slot};
 ghost use Rattle.lin_export.specs.WhereTold.{given_coding, where_told};
 
@@ -13,6 +12,7 @@ use crate::line_meanings::put_line_meaning;
 use crate::slot::OpenSlot;
 use lin_core::{Event, Seen, Step};
 use lin_frame::{Answer, Value};
+use lin_log::put_seen;
 use lin_parts::Cluster;
 use lin_text::TextWriter;
 use lin_values::Coded;
@@ -28,11 +28,11 @@ fn put_value<W: Write>(
 )
     requires { signal < length cluster.now.signals }
     ensures { Grows W.contents out.old out.new
-        (flat_map reply_line (value_lines cluster.now coded.now signal value.now)) }
+        (flat_map (named_line cluster.now) (value_lines cluster.now coded.now signal value.now)) }
 {
     if let Some(meaning) = coded.meaning(signal, value) {
         out.put(b"> value ");
-        out.put(cluster.signal_name(signal));
+        put_seen(out, cluster.signal_name(signal));
         out.put_byte(b' ');
         put_line_meaning(out, &meaning);
         out.put_byte(b'\n');
@@ -49,7 +49,7 @@ fn put_frame_values<W: Write>(
 )
     requires { frame < length cluster.now.frames }
     ensures { Grows W.contents out.old out.new
-        (flat_map reply_line (frame_values cluster.now coded.now answer.now frame)) }
+        (flat_map (named_line cluster.now) (frame_values cluster.now coded.now answer.now frame)) }
 {
     for place in 0..place_count(cluster, frame) {
         let (signal, value) = value_at(cluster, frame, answer, place);
@@ -65,7 +65,7 @@ fn put_slot_values<W: Write>(
     slot: &OpenSlot,
     answer: &Answer,
 )
-    ensures { Grows W.contents out.old out.new (flat_map reply_line
+    ensures { Grows W.contents out.old out.new (flat_map (named_line cluster.now)
         (slot_values cluster.now coded.now answer.now (tracked_slot slot.now))) }
 {
     if let Some(frame) = slot.frame(cluster) {
@@ -81,7 +81,7 @@ fn put_event_values<W: Write>(
     slot: &Option<OpenSlot>,
     event: &Event,
 )
-    ensures { Grows W.contents out.old out.new (flat_map reply_line
+    ensures { Grows W.contents out.old out.new (flat_map (named_line cluster.now)
         (seen_values cluster.now coded.now (option_map tracked_slot slot.now) event.now)) }
 {
     if let Event::Seen(Seen::Good(answer)) = event
@@ -92,14 +92,14 @@ fn put_event_values<W: Write>(
 }
 
 /// The same, where what values mean is told.
-pub(crate) fn put_seen<W: Write>(
+pub(crate) fn put_told<W: Write>(
     out: &mut TextWriter<'_, W>,
     cluster: &Cluster,
     coded: Option<&Coded>,
     slot: &Option<OpenSlot>,
     event: &Event,
 )
-    ensures { Grows W.contents out.old out.new (flat_map reply_line
+    ensures { Grows W.contents out.old out.new (flat_map (named_line cluster.now)
         (told_values cluster.now (given_coding coded.entry) (option_map tracked_slot slot.now)
         event.now)) }
 {
@@ -116,7 +116,7 @@ fn put_written_values<W: Write>(
     step: &Step,
 )
     ensures { Grows W.contents out.old out.new
-        (flat_map reply_line (written_values cluster.now coded.now step.now)) }
+        (flat_map (named_line cluster.now) (written_values cluster.now coded.now step.now)) }
 {
     if let Step::Write {
         by: _,
@@ -136,7 +136,7 @@ pub(crate) fn put_written<W: Write>(
     coded: Option<&Coded>,
     step: &Step,
 )
-    ensures { Grows W.contents out.old out.new (flat_map reply_line
+    ensures { Grows W.contents out.old out.new (flat_map (named_line cluster.now)
         (where_told (given_coding coded.entry)
         (λ d. written_values cluster.now d step.now))) }
 {

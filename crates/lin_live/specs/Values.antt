@@ -27,7 +27,7 @@ use Rattle.lin_export.specs.Json.{json_array, member, object, printable_text, qu
 use Rattle.lin_export.specs.Jsonl.{meant_members, nad_value, node_text, signal_value}
 use Rattle.lin_export.specs.LastSlot.{EndedSlot, IsKeptOf, kept_slot, last_slot, last_slot_text, last_slot_value}
 use Rattle.lin_export.specs.Listing.{address_word}
-use Rattle.lin_export.specs.Named.{slot_names}
+use Rattle.lin_export.specs.Named.{named_words, slot_names}
 use Rattle.lin_export.specs.WhereTold.{where_told}
 use Rattle.lin_live.specs.declared.answer_value.AnswerValue.{AnswerValue}
 use Rattle.lin_live.specs.declared.answer_value.AnswerValue.TheVariants as code
@@ -55,7 +55,7 @@ abbrev pub slot_text : Parts → ℕ × ℕ → Option ℕ → List ℕ
 slot_text c at header =
     table_word c at.0
     ++ (spaced_word (decimal at.1)
-    ++ flat_map spaced_word (slot_names c (Slot at.0 at.1 header)))
+    ++ named_words c (slot_names c (Slot at.0 at.1 header)))
 
 -- the table, the entry and the frame of the slot that an open would begin, as after `> slot`
 abbrev pub next_text : Parts → ℕ → List LogEntry → List ℕ
@@ -111,7 +111,7 @@ shown_value k signal value =
 
 -- a node with its diagnostic address
 abbrev pub addressed_node : Parts → ℕ → List ℕ
-addressed_node c n = (node_of c n).name ++ spaced_word (address_word (nad c n))
+addressed_node c n = seen_text (node_of c n).name ++ spaced_word (address_word (nad c n))
 
 abbrev pub after_gap : List ℕ → List ℕ
 after_gap text = codes ", " ++ text

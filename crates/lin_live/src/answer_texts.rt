@@ -24,7 +24,7 @@ use lin_bench::{Pending, Verdict, first_refusal, put_pending, put_reason, put_ve
 use lin_core::{Core, Event, Listed, Log, Refusal};
 use lin_export::{Track, named_text, put_last_slot, put_line_meaning, put_slot_names};
 use lin_frame::Value;
-use lin_log::{put_entries, put_number, put_table, put_texts, put_value, put_word};
+use lin_log::{put_entries, put_number, put_seen, put_table, put_texts, put_value, put_word};
 use lin_parts::Cluster;
 use lin_text::{Text, TextBuffer, TextWriter, WriteFailed};
 use lin_values::Coded;
@@ -150,7 +150,7 @@ fn put_node<W: Write>(out: &mut TextWriter<'_, W>, cluster: &Cluster, node: u8)
     requires { node < nodes cluster.now }
     ensures { Grows W.contents out.old out.new (addressed_node cluster.now node) }
 {
-    out.put(cluster.node_name(node));
+    put_seen(out, cluster.node_name(node));
     match cluster.nad(node) {
         Some(nad) => put_number(out, nad),
         None => out.put_text(" -"),

@@ -5,8 +5,8 @@ pub mod Words
 pub mod Items
 pub mod Decimals
 pub mod Again
-pub mod Quiet
 pub mod CallerTexts
+pub mod Quiet
 pub mod Texts
 pub mod Logs
 pub mod Ends

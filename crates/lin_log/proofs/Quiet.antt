@@ -1,21 +1,25 @@
 -- Words without LF.
-use Rattle.std.proofs.Common.{◌≡◌, ℕ, zero, suc, List, [], ◌∷◌, ◌++◌, refl, ap, ◌∙◌, append_assoc, sym, ◌/◌, ◌%◌, ◌<◌, ◌==◌, arith, Bool, true, false, nat_lt, flat_map, Option, Some, None, if◌then◌else◌}
+use Rattle.std.proofs.Common.{◌≡◌, ℕ, zero, suc, List, [], ◌∷◌, ◌++◌, refl, ap, ◌∙◌, append_assoc, sym, ◌/◌, ◌%◌, ◌<◌, ◌==◌, arith, Bool, true, false, nat_lt, flat_map, map, if◌then◌else◌}
 use Rattle.std.specs.Fmt.{decimal, digits, digits_onto, digit_glyph}
 use Rattle.std.specs.List.{All, list_all}
 use Rattle.std.proofs.lemmas.Bool.{and_parts}
 use Rattle.std.proofs.lemmas.Grind.{common_steps}
 use Rattle.std.proofs.lemmas.List.Elements.{All-nil, All-cons}
 use Rattle.hex.specs.Hex.{encode_upper, encode_with, upper_digits}
-use Rattle.lin_core.specs.Tables.{cause_word}
-use Rattle.lin_core.specs.declared.event.Event.{Event}
-use Rattle.lin_core.specs.declared.event.Event.TheVariants as event
-use Rattle.lin_core.specs.declared.event.Seen.{Seen}
-use Rattle.lin_core.specs.declared.event.Seen.TheVariants as seen
+use Rattle.lin_frame.specs.declared.value.Value.{Value}
+use Rattle.lin_frame.specs.declared.value.Value.TheVariants.{Scalar, Bytes}
+use Rattle.lin_core.specs.Tables.{cause_word, look_word, refusal_word}
+use Rattle.lin_core.specs.declared.event.Look.{Look}
+use Rattle.lin_core.specs.declared.event.Look.TheVariants as look
 use Rattle.lin_core.specs.declared.link.Cause.{Cause}
 use Rattle.lin_core.specs.declared.link.Cause.TheVariants as cause
+use Rattle.lin_core.specs.declared.reply.Refusal.{Refusal}
+use Rattle.lin_core.specs.declared.reply.Refusal.TheVariants as refusal
 use Rattle.lin_log.specs.Language.{Called, Language, word_of}
 use Rattle.lin_log.specs.Laws.{AreNames, HasNames, all_visible, are_quiet, is_quiet, is_visible, no_end}
-use Rattle.lin_log.specs.Words.{event_words, header_word, hex_word, line_tail, seen_words, spaced_word}
+use Rattle.lin_log.specs.Words.{Word, hex_word, line_tail, spaced_word, value_word, word_text}
+use Rattle.lin_log.specs.Words.Word.{Node, Table, Number, Hex, Raw, Fixed, Said}
+use Rattle.lin_log.proofs.CallerTexts.{quiet-seen-text}
 use Rattle.lin_log.proofs.Items.{at-place, both, item-name, joined, weaker}
 
 -- what holds of all bytes of words, and of a space
@@ -80,31 +84,36 @@ called-by called a k false h = quiet-decimal k
 pub quiet-called : (called : Called) → AreNames called → (k : ℕ) → is_quiet (word_of called k) ≡ true
 quiet-called called a k = called-by called a k (nat_lt k called.count) refl
 
--- ---- the words of events
-quiet-seen : (s : Seen) → are_quiet (seen_words s) ≡ true
-quiet-seen seen.Silent = refl
-quiet-seen seen.NoAnswer = refl
-quiet-seen (seen.Good bytes) = rw (quiet-hex bytes) refl
-quiet-seen seen.Damaged = refl
-quiet-seen seen.Collided = refl
+pub quiet-value : (v : Value) → is_quiet (value_word v) ≡ true
+quiet-value (Scalar n) = quiet-decimal n
+quiet-value (Bytes bytes) = rw (quiet-hex bytes) refl
 
-quiet-header : (h : Option ℕ) → is_quiet (header_word h) ≡ true
-quiet-header None = refl
-quiet-header (Some h) = quiet-encoded (h ∷ [])
+-- ---- the words of replies
+pub quiet-word : (l : Language) → HasNames l → (w : Word) → is_quiet (word_text l w) ≡ true
+quiet-word l a (Node n) = quiet-called l.nodes a.of_nodes n
+quiet-word l a (Table t) = quiet-called l.tables a.of_tables t
+quiet-word l a (Number n) = quiet-decimal n
+quiet-word l a (Hex bytes) = quiet-hex bytes
+quiet-word l a (Raw value) = quiet-value value
+quiet-word l a (Fixed text) = quiet-seen-text text
+quiet-word l a (Said text) = quiet-seen-text text
 
-quiet-cause : (c : Cause) → is_quiet (cause_word c) ≡ true
+pub quiet-words : (l : Language) → HasNames l → (ws : List Word) → are_quiet (map (word_text l) ws) ≡ true
+quiet-words l a [] = refl
+quiet-words l a (w ∷ ws) = both (is_quiet (word_text l w)) (are_quiet (map (word_text l) ws)) (quiet-word l a w) (quiet-words l a ws)
+
+pub quiet-cause : (c : Cause) → is_quiet (cause_word c) ≡ true
 quiet-cause cause.Damaged = refl
 quiet-cause cause.TimedOut = refl
 quiet-cause cause.Slept = refl
 
-pub quiet-event : (l : Language) → HasNames l → (e : Event) → are_quiet (event_words l e) ≡ true
-quiet-event l a (event.Accepted host number) = rw (quiet-called l.nodes a.of_nodes host, quiet-decimal number) refl
-quiet-event l a (event.Slot table entry header) = rw (quiet-called l.tables a.of_tables table, quiet-decimal entry, quiet-header header) refl
-quiet-event l a event.Service = refl
-quiet-event l a (event.Due node) = rw (quiet-called l.nodes a.of_nodes node) refl
-quiet-event l a (event.Put node answer) = rw (quiet-called l.nodes a.of_nodes node, quiet-hex answer) refl
-quiet-event l a (event.Seen s) = quiet-seen s
-quiet-event l a (event.Message from to bytes) = rw (quiet-called l.nodes a.of_nodes from, quiet-called l.nodes a.of_nodes to, quiet-hex bytes) refl
-quiet-event l a (event.Sent host number) = rw (quiet-called l.nodes a.of_nodes host, quiet-decimal number) refl
-quiet-event l a (event.Lost host number why) = rw (quiet-called l.nodes a.of_nodes host, quiet-decimal number, quiet-cause why) refl
-quiet-event l a event.Asleep = refl
+pub quiet-look : (how : Look) → is_quiet (look_word how) ≡ true
+quiet-look look.Silent = refl
+quiet-look look.NoAnswer = refl
+quiet-look look.Good = refl
+quiet-look look.Damaged = refl
+quiet-look look.Collided = refl
+
+pub quiet-refusal : (r : Refusal) → is_quiet (refusal_word r) ≡ true
+quiet-refusal refusal.NoSuchNode = refl
+quiet-refusal r = refl

@@ -1,5 +1,5 @@
 -- The text of a log says its steps.
-use Rattle.std.proofs.Common.{◌≡◌, ◌∙◌, ℕ, List, [], ◌∷◌, ◌++◌, refl, sym, ap, subst, append_assoc, ◌+◌, ◌-◌, ◌==◌, Bool, true, false, arith, flat_map, if◌then◌else◌, length, not, slice_index, suc, take, Some, None, Ok}
+use Rattle.std.proofs.Common.{◌≡◌, ◌∙◌, ℕ, List, [], ◌∷◌, ◌++◌, refl, sym, ap, subst, append_assoc, ◌+◌, ◌-◌, ◌==◌, Bool, true, false, arith, flat_map, if◌then◌else◌, length, map, not, slice_index, suc, take, Some, None, Ok}
 use Rattle.std.specs.List.{All, list_all, slice_split}
 use Rattle.std.specs.Str.Lines.{strip_carriage_return}
 use Rattle.std.proofs.lemmas.Grind.{common_steps}
@@ -10,10 +10,10 @@ use Rattle.lin_core.specs.Runs.{steps_of}
 use Rattle.lin_core.specs.declared.log.LogEntry.{LogEntry}
 use Rattle.lin_core.specs.declared.port.PortId.{PortId}
 use Rattle.lin_core.specs.declared.step.Step.{Step}
-use Rattle.lin_log.specs.Words.{line_tail, log_text, port_word, reply_line, spaced_word, step_line, step_words}
-use Rattle.lin_log.proofs.Quiet.{line-end, no-end, quiet-spaced, spaced-keeps, visible-end}
+use Rattle.lin_log.specs.Words.{Word, line_tail, log_text, port_word, reply_line, spaced_word, step_line, step_words, word_text}
+use Rattle.lin_log.proofs.Quiet.{line-end, no-end, quiet-spaced, quiet-words, spaced-keeps, visible-end}
 use Rattle.lin_log.specs.Language.{Language}
-use Rattle.lin_log.specs.Laws.{FitsEntry, HasNames, IsQuiet, TextsAgain, are_quiet, is_quiet, is_visible, no_end, step_body}
+use Rattle.lin_log.specs.Laws.{FitsEntry, HasNames, TextsAgain, is_quiet, is_visible, no_end, step_body}
 use Rattle.lin_log.specs.Said.{line_says, steps_from, text_says}
 use Rattle.lin_log.proofs.Again.{lines-again, port-says, step-says}
 use Rattle.lin_log.proofs.Items.{AreItems, at-place, both, joined, more, weaker}
@@ -66,19 +66,19 @@ stripped-says : (l : Language) (cs : List ℕ) → line_says l (strip_carriage_r
 stripped-says l [] = reply-says l []
 stripped-says l (x ∷ xs) = stripped-by l x xs (slice_index (62 ∷ x ∷ xs) (length (62 ∷ x ∷ xs) - 1) == 13)
 
-reply-before : (l : Language) (ws : List (List ℕ)) (rest : List ℕ) (xs : List (PortId × Step)) → are_quiet ws ≡ true → Says l rest xs
-    → Says l (reply_line ws ++ rest) xs
-reply-before l ws rest xs h k =
-    let e : reply_line ws ++ rest ≡ 62 ∷ (flat_map spaced_word ws ++ 10 ∷ rest) = ap (λ t. 62 ∷ t) (line-end ws rest) in
-    subst (λ t. Says l t xs) (sym e) (quiet-before l (62 ∷ flat_map spaced_word ws) rest xs (quiet-spaced ws h) (stripped-says l (flat_map spaced_word ws)) k)
+reply-before : (l : Language) → HasNames l → (ws : List Word) (rest : List ℕ) (xs : List (PortId × Step)) → Says l rest xs → Says l (reply_line l ws ++ rest) xs
+reply-before l a ws rest xs k =
+    let texts = map (word_text l) ws in
+    let e : reply_line l ws ++ rest ≡ 62 ∷ (flat_map spaced_word texts ++ 10 ∷ rest) = ap (λ t. 62 ∷ t) (line-end texts rest) in
+    subst (λ t. Says l t xs) (sym e)
+    (quiet-before l (62 ∷ flat_map spaced_word texts) rest xs (quiet-spaced texts (quiet-words l a ws)) (stripped-says l (flat_map spaced_word texts)) k)
 
-replies-before : (l : Language) (rs : List (List (List ℕ))) (rest : List ℕ) (xs : List (PortId × Step)) → IsQuiet rs → Says l rest xs
-    → Says l (flat_map reply_line rs ++ rest) xs
-replies-before l [] rest xs h k = k
-replies-before l (r ∷ rs) rest xs h k =
-    subst (λ t. Says l t xs) (sym (append_assoc (reply_line r) (flat_map reply_line rs) rest))
-    (reply-before l r (flat_map reply_line rs ++ rest) xs (All-head (λ ws. are_quiet ws ≡ true) r rs h)
-    (replies-before l rs rest xs (All-tail (λ ws. are_quiet ws ≡ true) r rs h) k))
+replies-before : (l : Language) → HasNames l → (rs : List (List Word)) (rest : List ℕ) (xs : List (PortId × Step)) → Says l rest xs
+    → Says l (flat_map (reply_line l) rs ++ rest) xs
+replies-before l a [] rest xs k = k
+replies-before l a (r ∷ rs) rest xs k =
+    subst (λ t. Says l t xs) (sym (append_assoc (reply_line l r) (flat_map (reply_line l) rs) rest))
+    (reply-before l a r (flat_map (reply_line l) rs ++ rest) xs (replies-before l a rs rest xs k))
 
 entry-before : (l : Language) (p : PortId) (s : Step) (rest : List ℕ) (xs : List (PortId × Step)) → HasNames l → (FitsPort p × FitsStep s) → Says l rest xs
     → Says l (step_line l p s ++ rest) ((p, s) ∷ xs)
@@ -96,14 +96,13 @@ nothing-left : (l : Language) → Says l [] []
 unfolding line_says
 nothing-left l m = refl
 
-log-says : (l : Language) (replies : LogEntry → List LogEntry → List (List (List ℕ))) (past log : List LogEntry) → HasNames l
-    → ((e : LogEntry) (p : List LogEntry) → IsQuiet (replies e p)) → All FitsEntry log → Says l (log_text l replies past log) (steps_of log)
-log-says l replies past [] a q fits = nothing-left l
-log-says l replies past (e ∷ es) a q fits =
-    entry-before l e.port e.step (flat_map reply_line (replies e past) ++ log_text l replies (e ∷ past) es) (steps_of es) a (All-head FitsEntry e es fits)
-    (replies-before l (replies e past) (log_text l replies (e ∷ past) es) (steps_of es) (q e past)
-    (log-says l replies (e ∷ past) es a q (All-tail FitsEntry e es fits)))
+log-says : (l : Language) (replies : LogEntry → List LogEntry → List (List Word)) (past log : List LogEntry) → HasNames l → All FitsEntry log
+    → Says l (log_text l replies past log) (steps_of log)
+log-says l replies past [] a fits = nothing-left l
+log-says l replies past (e ∷ es) a fits =
+    entry-before l e.port e.step (flat_map (reply_line l) (replies e past) ++ log_text l replies (e ∷ past) es) (steps_of es) a (All-head FitsEntry e es fits)
+    (replies-before l a (replies e past) (log_text l replies (e ∷ past) es) (steps_of es) (log-says l replies (e ∷ past) es a (All-tail FitsEntry e es fits)))
 
 pub texts-again : TextsAgain
 unfolding text_says
-texts-again l replies log a q fits = log-says l replies [] log a q fits 1
+texts-again l replies log a fits = log-says l replies [] log a fits 1

@@ -9,7 +9,7 @@ use Rattle.lin_core.specs.declared.port.PortId.{PortId}
 use Rattle.lin_core.specs.declared.step.Step.{Step}
 use Rattle.lin_log.specs.Language.{Called, Language, plain}
 use Rattle.lin_log.specs.Said.{is_digit, line_says, text_says}
-use Rattle.lin_log.specs.Words.{log_text, port_word, spaced_word, step_words}
+use Rattle.lin_log.specs.Words.{Word, log_text, port_word, spaced_word, step_words}
 
 abbrev pub is_visible : ℕ → Bool
 is_visible b = nat_lt 32 b && nat_lt b 127
@@ -51,19 +51,14 @@ is_quiet = list_all no_end
 abbrev pub are_quiet : List (List ℕ) → Bool
 are_quiet = list_all is_quiet
 
-abbrev pub IsQuiet : List (List (List ℕ)) → Type 0
-IsQuiet replies = All (λ ws. are_quiet ws ≡ true) replies
-
 -- an entry's numbers and bytes keep to their types
 abbrev pub FitsEntry : LogEntry → Type 0
 FitsEntry e = FitsPort e.port × FitsStep e.step
 
 -- the text of a log says the log's steps, whatever its replies tell
 abbrev pub TextsAgain : Type 0
-TextsAgain = (l : Language) (replies : LogEntry → List LogEntry → List (List (List ℕ)))
-    (log : List LogEntry)
-    → HasNames l → ((e : LogEntry) (past : List LogEntry) → IsQuiet (replies e past))
-    → All FitsEntry log → text_says l (log_text l replies [] log) ≡ Ok (steps_of log)
+TextsAgain = (l : Language) (replies : LogEntry → List LogEntry → List (List Word)) (log : List LogEntry)
+    → HasNames l → All FitsEntry log → text_says l (log_text l replies [] log) ≡ Ok (steps_of log)
 
 -- a line that says something by numbers says it in each language, and so does a text
 abbrev pub LinesStay : Type 0

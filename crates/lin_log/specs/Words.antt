@@ -2,14 +2,14 @@
 use Rattle.std.specs.Prelude.{ℕ, List, [], ◌∷◌, ◌++◌, Option, Some, None, codes, flat_map, map, nat_lt}
 use Rattle.std.specs.Prelude.{if◌then◌else◌}
 use Rattle.std.specs.Fmt.{decimal}
-use Rattle.std.specs.Option.{option_map_or}
+use Rattle.std.specs.Option.{option_to_list}
 use Rattle.hex.specs.Hex.{encode_upper}
 use Rattle.lin_frame.specs.declared.value.Value.{Value}
 use Rattle.lin_frame.specs.declared.value.Value.TheVariants.{Scalar, Bytes}
 use Rattle.lin_core.specs.History.{good_bytes}
 use Rattle.lin_core.specs.Tables.{cause_word, direction_word, look_of, look_word, refusal_number}
 use Rattle.lin_core.specs.declared.port.PortId.{PortId}
-use Rattle.lin_core.specs.declared.port.PortId.TheVariants.{Bus, Host, Node}
+use Rattle.lin_core.specs.declared.port.PortId.TheVariants as ports
 use Rattle.lin_core.specs.declared.step.Step.{Step}
 use Rattle.lin_core.specs.declared.step.Step.TheVariants.{Send, Write, Open, Answer, Leave, Hurt}
 use Rattle.lin_core.specs.declared.step.Step.TheVariants.{Finish, Timeout, Switch, AskSleep, Wake}
@@ -20,6 +20,7 @@ use Rattle.lin_core.specs.declared.event.Seen.{Seen}
 use Rattle.lin_core.specs.declared.reply.Reply.{Reply}
 use Rattle.lin_core.specs.declared.reply.Reply.TheVariants.{Done, Refused}
 use Rattle.lin_core.specs.declared.log.LogEntry.{LogEntry}
+use Rattle.lin_log.specs.CallerTexts.{seen_text}
 use Rattle.lin_log.specs.Language.{Language, plain, word_of}
 
 -- a line: its words with one space between two, and LF
@@ -44,25 +45,35 @@ abbrev pub value_word : Value → List ℕ
 value_word (Scalar n) = decimal n
 value_word (Bytes bytes) = 120 ∷ hex_word bytes
 
--- a header's protected identifier, and `-` for none
-abbrev pub header_word : Option ℕ → List ℕ
-header_word None = codes "-"
-header_word (Some h) = encode_upper (h ∷ [])
-
--- how a slot was seen, and the response of a good one
-abbrev pub seen_words : Seen → List (List ℕ)
-seen_words s =
-    look_word (look_of s) ∷ option_map_or (λ answer. hex_word answer ∷ []) (good_bytes s) []
-
 -- ---- words in a language
 -- `:` and a node's name, or the number of what has none
 abbrev pub port_number_word : Language → ℕ → List ℕ
 port_number_word l n = if nat_lt n l.nodes.count then 58 ∷ l.nodes.name n else decimal n
 
 abbrev pub port_word : Language → PortId → List ℕ
-port_word l Bus = codes "bus"
-port_word l (Host n) = 104 ∷ port_number_word l n
-port_word l (Node n) = 110 ∷ port_number_word l n
+port_word l ports.Bus = codes "bus"
+port_word l (ports.Host n) = 104 ∷ port_number_word l n
+port_word l (ports.Node n) = 110 ∷ port_number_word l n
+
+-- a word of a line of a reply
+pub data Word : Type 0 where
+  Node : (node : ℕ) → Word
+  Table : (table : ℕ) → Word
+  Number : (number : ℕ) → Word
+  Hex : (bytes : List ℕ) → Word
+  Raw : (value : Value) → Word
+  Fixed : (text : List ℕ) → Word
+  Said : (text : List ℕ) → Word
+
+-- its text: a word of the language and a text of the caller's have `?` in the place of each LF
+abbrev pub word_text : Language → Word → List ℕ
+word_text l (Node n) = word_of l.nodes n
+word_text l (Table t) = word_of l.tables t
+word_text l (Number n) = decimal n
+word_text l (Hex bytes) = hex_word bytes
+word_text l (Raw value) = value_word value
+word_text l (Fixed text) = seen_text text
+word_text l (Said text) = seen_text text
 
 -- what a step is called, and its parts
 abbrev pub step_words : Language → Step → List (List ℕ)
@@ -81,44 +92,49 @@ step_words l AskSleep = codes "sleep" ∷ []
 step_words l Wake = codes "wake" ∷ []
 step_words l (Close host) = codes "close" ∷ word_of l.nodes host ∷ []
 
--- what an event is called, and its parts
-abbrev pub event_words : Language → Event → List (List ℕ)
-event_words l (event.Accepted host number) =
-    codes "accepted" ∷ word_of l.nodes host ∷ decimal number ∷ []
-event_words l (event.Slot table entry header) =
-    codes "slot" ∷ word_of l.tables table ∷ decimal entry ∷ header_word header ∷ []
-event_words l event.Service = codes "service" ∷ []
-event_words l (event.Due node) = codes "due" ∷ word_of l.nodes node ∷ []
-event_words l (event.Put node answer) = codes "put" ∷ word_of l.nodes node ∷ hex_word answer ∷ []
-event_words l (event.Seen s) = codes "seen" ∷ seen_words s
-event_words l (event.Message from to bytes) =
-    codes "message" ∷ word_of l.nodes from ∷ word_of l.nodes to ∷ hex_word bytes ∷ []
-event_words l (event.Sent host number) = codes "sent" ∷ word_of l.nodes host ∷ decimal number ∷ []
-event_words l (event.Lost host number why) =
-    codes "lost" ∷ word_of l.nodes host ∷ decimal number ∷ cause_word why ∷ []
-event_words l event.Asleep = codes "asleep" ∷ []
+-- how a slot was seen, and the response of a good one
+abbrev pub seen_words : Seen → List Word
+seen_words s =
+    Fixed (codes "seen") ∷ Fixed (look_word (look_of s)) ∷ map Hex (option_to_list (good_bytes s))
+
+-- what an event is called, and its parts: of a header its protected identifier, and `-` for none
+abbrev pub event_words : Event → List Word
+event_words (event.Accepted host number) =
+    Fixed (codes "accepted") ∷ Node host ∷ Number number ∷ []
+event_words (event.Slot table entry header) =
+    Fixed (codes "slot") ∷ Table table ∷ Number entry ∷ Hex (option_to_list header) ∷ []
+event_words event.Service = Fixed (codes "service") ∷ []
+event_words (event.Due node) = Fixed (codes "due") ∷ Node node ∷ []
+event_words (event.Put node answer) = Fixed (codes "put") ∷ Node node ∷ Hex answer ∷ []
+event_words (event.Seen s) = seen_words s
+event_words (event.Message from to bytes) =
+    Fixed (codes "message") ∷ Node from ∷ Node to ∷ Hex bytes ∷ []
+event_words (event.Sent host number) = Fixed (codes "sent") ∷ Node host ∷ Number number ∷ []
+event_words (event.Lost host number why) =
+    Fixed (codes "lost") ∷ Node host ∷ Number number ∷ Fixed (cause_word why) ∷ []
+event_words event.Asleep = Fixed (codes "asleep") ∷ []
 
 -- what a reply is called, and its parts: each event, or the refusal
-abbrev pub reply_words : Language → Reply → List (List (List ℕ))
-reply_words l (Done events) = map (event_words l) events
-reply_words l (Refused r) = (codes "refused" ∷ decimal (refusal_number r) ∷ []) ∷ []
+abbrev pub reply_words : Reply → List (List Word)
+reply_words (Done events) = map event_words events
+reply_words (Refused r) = (Fixed (codes "refused") ∷ Number (refusal_number r) ∷ []) ∷ []
 
 -- the line of a step begins with its port, a line of a reply with `>`
 abbrev pub step_line : Language → PortId → Step → List ℕ
 step_line l port step = line (port_word l port ∷ step_words l step)
 
-abbrev pub reply_line : List (List ℕ) → List ℕ
-reply_line words = line (codes ">" ∷ words)
+abbrev pub reply_line : Language → List Word → List ℕ
+reply_line l words = line (codes ">" ∷ map (word_text l) words)
 
 -- the text of a log in a language, the oldest entry first: each entry's step, and lines of replies,
 -- which may tell of the entries before
-abbrev pub log_text : Language → (LogEntry → List LogEntry → List (List (List ℕ)))
+abbrev pub log_text : Language → (LogEntry → List LogEntry → List (List Word))
     → List LogEntry → List LogEntry → List ℕ
 log_text l replies past [] = []
 log_text l replies past (e ∷ es) =
     step_line l e.port e.step
-    ++ (flat_map reply_line (replies e past) ++ log_text l replies (e ∷ past) es)
+    ++ (flat_map (reply_line l) (replies e past) ++ log_text l replies (e ∷ past) es)
 
 -- the text of a log by numbers: each entry's step, then a line for each event, or the refusal
 abbrev pub text : List LogEntry → List ℕ
-text entries = log_text plain (λ e past. reply_words plain e.reply) [] entries
+text entries = log_text plain (λ e past. reply_words e.reply) [] entries

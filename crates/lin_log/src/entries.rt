@@ -28,7 +28,7 @@ pub fn put_step_line<N: Naming, W: Write>(
 /// The line of an event.
 pub fn put_event_line<N: Naming, W: Write>(out: &mut TextWriter<'_, W>, names: &N, event: &Event)
     ensures { Grows W.contents out.old out.new
-        (reply_line (event_words (N.language names.now) event.now)) }
+        (reply_line (N.language names.now) (event_words event.now)) }
 {
     out.put_byte(b'>');
     put_event(out, names, event);
@@ -37,7 +37,7 @@ pub fn put_event_line<N: Naming, W: Write>(out: &mut TextWriter<'_, W>, names: &
 
 fn put_events<W: Write>(out: &mut TextWriter<'_, W>, events: &[Event])
     ensures { Grows W.contents out.old out.new
-        (flat_map (λ e. reply_line (event_words plain e)) events.now) }
+        (flat_map (λ e. reply_line plain (event_words e)) events.now) }
 {
     for event in events {
         put_event_line(out, &NumberNaming, event);
@@ -45,7 +45,7 @@ fn put_events<W: Write>(out: &mut TextWriter<'_, W>, events: &[Event])
 }
 
 fn put_reply<W: Write>(out: &mut TextWriter<'_, W>, reply: &Reply)
-    ensures { Grows W.contents out.old out.new (flat_map reply_line (reply_words plain reply.now)) }
+    ensures { Grows W.contents out.old out.new (flat_map (reply_line plain) (reply_words reply.now)) }
 {
     match reply {
         Reply::Done(events) => put_events(out, events.as_slice()),
@@ -59,7 +59,7 @@ fn put_reply<W: Write>(out: &mut TextWriter<'_, W>, reply: &Reply)
 
 fn put_entry<W: Write>(out: &mut TextWriter<'_, W>, entry: &LogEntry)
     ensures { Grows W.contents out.old out.new (step_line plain entry.now.port entry.now.step
-        ++ flat_map reply_line (reply_words plain entry.now.reply)) }
+        ++ flat_map (reply_line plain) (reply_words entry.now.reply)) }
 {
     put_step_line(out, &NumberNaming, entry.port, &entry.step);
     put_reply(out, &entry.reply);

@@ -5,6 +5,7 @@ ghost use Rattle.lin_log.specs.Shown.{word_shown};
 ghost use Rattle.lin_log.specs.Words.{line, spaced_word, value_word};
 ghost use Rattle.lin_text.specs.Written.{Grows};
 
+use crate::caller_texts::put_seen;
 use crate::writing::put_hex;
 use lin_frame::Value;
 use lin_text::TextWriter;
@@ -15,6 +16,8 @@ use std::io::Write;
 pub enum Word<'a> {
     Text(&'a str),
     Name(&'a [u8]),
+    /// A text of the caller's, with `?` in the place of each LF.
+    Said(&'a [u8]),
     Number(u64),
     Byte(u8),
     /// An identifier, in two digits after `0x`.
@@ -41,6 +44,7 @@ pub fn put_shown<W: Write>(out: &mut TextWriter<'_, W>, word: Word<'_>)
     match word {
         Word::Text(text) => out.put_text(text),
         Word::Name(name) => out.put(name),
+        Word::Said(text) => put_seen(out, text),
         Word::Number(number) => out.put_number(number),
         Word::Byte(byte) => out.put_hex_byte(byte),
         Word::Identifier(identifier) => {

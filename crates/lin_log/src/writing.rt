@@ -1,12 +1,12 @@
 //! The words of steps and replies, each with the space before it.
 
-ghost use Rattle.std.specs.Prelude.{◌∷◌, ◌++◌, codes, flat_map};
+ghost use Rattle.std.specs.Prelude.{◌∷◌, ◌++◌, flat_map, map};
 ghost use Rattle.std.specs.Fmt.{decimal};
-ghost use Rattle.std.specs.Option.{option_map_or};
+ghost use Rattle.std.specs.Option.{option_map_or, option_to_list};
 ghost use Rattle.lin_text.specs.Written.{Grows};
-ghost use Rattle.lin_log.specs.Language.{word_of};
-ghost use Rattle.lin_log.specs.Words.{event_words, header_word, hex_word, port_number_word};
-ghost use Rattle.lin_log.specs.Words.{port_word, seen_words, spaced_word, step_words, value_word};
+ghost use Rattle.lin_log.specs.Language.{Language, word_of};
+ghost use Rattle.lin_log.specs.Words.{event_words, hex_word, port_number_word, port_word};
+ghost use Rattle.lin_log.specs.Words.{seen_words, spaced_word, step_words, value_word, word_text};
 
 use crate::naming::Naming;
 use itoa::Integer;
@@ -186,7 +186,7 @@ fn put_lone_node<N: Naming, W: Write>(out: &mut TextWriter<'_, W>, names: &N, wo
 }
 
 fn put_header<W: Write>(out: &mut TextWriter<'_, W>, header: Option<u8>)
-    ensures { Grows W.contents out.old out.new (spaced_word (header_word header)) }
+    ensures { Grows W.contents out.old out.new (spaced_word (hex_word (option_to_list header))) }
 {
     match header {
         Some(pid) => put_bytes(out, &[pid]),
@@ -195,8 +195,8 @@ fn put_header<W: Write>(out: &mut TextWriter<'_, W>, header: Option<u8>)
 }
 
 fn put_seen<W: Write>(out: &mut TextWriter<'_, W>, seen: &Seen)
-    ensures { Grows W.contents out.old out.new
-        (flat_map spaced_word (codes "seen" ∷ seen_words seen.now)) }
+    ensures { (l : Language) → Grows W.contents out.old out.new
+        (flat_map spaced_word (map (word_text l) (seen_words seen.now))) }
 {
     out.put_text(" seen");
     put_word(out, seen.look().word());
@@ -224,7 +224,7 @@ fn put_fate<N: Naming, W: Write>(
 /// An event.
 pub fn put_event<N: Naming, W: Write>(out: &mut TextWriter<'_, W>, names: &N, event: &Event)
     ensures { Grows W.contents out.old out.new
-        (flat_map spaced_word (event_words (N.language names.now) event.now)) }
+        (flat_map spaced_word (map (word_text (N.language names.now)) (event_words event.now))) }
 {
     match event {
         Event::Accepted { host, number } => put_fate(out, names, " accepted", *host, *number),

@@ -1,5 +1,6 @@
 -- The data of a page, in which no `<` stands.
 use Rattle.std.proofs.Common.{◌≡◌, ℕ, zero, suc, List, [], ◌∷◌, ◌++◌, refl, ap, not, ◌/◌, ◌%◌, ◌^◌, ◌<◌, ◌+◌, ◌==◌, arith, add-one, Bool, true, false, nat_lt, flat_map, Option, Some, None, codes, length, map, if◌then◌else◌}
+use Rattle.std.specs.Option.{option_to_list}
 use Rattle.std.specs.Borrow.{Bor}
 use Rattle.std.specs.List.{list_all}
 use Rattle.std.specs.Fmt.{decimal, digits, digits_onto, digit_glyph}
@@ -28,7 +29,9 @@ use Rattle.lin_core.specs.declared.reply.Reply.TheVariants.{Done, Refused}
 use Rattle.lin_core.specs.declared.step.Step.{Step}
 use Rattle.lin_core.specs.declared.step.Step.TheVariants.{Send, Write, Open, Answer, Leave, Hurt, Finish, Timeout, Switch, AskSleep, Wake, Close}
 use Rattle.lin_log.specs.Language.{nameless, plain, word_of}
-use Rattle.lin_log.specs.Words.{event_words, header_word, hex_word, line, line_tail, log_text, port_number_word, port_word, reply_line, reply_words, seen_words, step_line, step_words, text, value_word}
+use Rattle.lin_log.specs.CallerTexts.{seen_text}
+use Rattle.lin_log.specs.Words.{Word, event_words, hex_word, line, line_tail, log_text, port_number_word, port_word, reply_line, reply_words, seen_words, step_line, step_words, text, value_word, word_text}
+use Rattle.lin_log.specs.Words.Word.{Fixed, Number}
 use Rattle.lin_log.proofs.Items.{at-place, both, joined}
 use Rattle.lin_values.specs.Coded.{CodedData, RangeData, encoding_of, range_in}
 use Rattle.lin_values.specs.Shown.{decimal_shown, fraction, last_digits, sign}
@@ -212,25 +215,24 @@ port-inert Bus = refl
 port-inert (Host n) = port-number-inert n
 port-inert (Node n) = port-number-inert n
 
-seen-inert : (s : Seen) → are_inert (seen_words s) ≡ true
+abbrev are_said : List Word → Bool
+are_said ws = are_inert (map (word_text plain) ws)
+
+seen-inert : (s : Seen) → are_said (seen_words s) ≡ true
 seen-inert seen.Silent = refl
 seen-inert seen.NoAnswer = refl
 seen-inert (seen.Good bytes) = rw (hex-inert bytes) refl
 seen-inert seen.Damaged = refl
 seen-inert seen.Collided = refl
 
-header-inert : (h : Option ℕ) → is_inert (header_word h) ≡ true
-header-inert None = refl
-header-inert (Some h) = encoded-inert (h ∷ [])
-
-cause-inert : (c : Cause) → is_inert (cause_word c) ≡ true
+cause-inert : (c : Cause) → is_inert (seen_text (cause_word c)) ≡ true
 cause-inert cause.Damaged = refl
 cause-inert cause.TimedOut = refl
 cause-inert cause.Slept = refl
 
-event-inert : (e : Event) → are_inert (event_words plain e) ≡ true
+event-inert : (e : Event) → are_said (event_words e) ≡ true
 event-inert (event.Accepted host number) = rw (called-inert host, number-inert number) refl
-event-inert (event.Slot table entry header) = rw (called-inert table, number-inert entry, header-inert header) refl
+event-inert (event.Slot table entry header) = rw (called-inert table, number-inert entry, hex-inert (option_to_list header)) refl
 event-inert event.Service = refl
 event-inert (event.Due node) = rw (called-inert node) refl
 event-inert (event.Put node answer) = rw (called-inert node, hex-inert answer) refl
@@ -240,28 +242,28 @@ event-inert (event.Sent host number) = rw (called-inert host, number-inert numbe
 event-inert (event.Lost host number why) = rw (called-inert host, number-inert number, cause-inert why) refl
 event-inert event.Asleep = refl
 
-told-inert : (ws : List (List ℕ)) → are_inert ws ≡ true → is_inert (reply_line ws) ≡ true
-told-inert ws h = tail-inert ws h
+told-inert : (ws : List Word) → are_said ws ≡ true → is_inert (reply_line plain ws) ≡ true
+told-inert ws h = tail-inert (map (word_text plain) ws) h
 
-events-inert : (es : List Event) → is_inert (flat_map reply_line (map (event_words plain) es)) ≡ true
+events-inert : (es : List Event) → is_inert (flat_map (reply_line plain) (map event_words es)) ≡ true
 events-inert [] = refl
 events-inert (e ∷ es) =
-    more (reply_line (event_words plain e)) (flat_map reply_line (map (event_words plain) es)) (told-inert (event_words plain e) (event-inert e)) (events-inert es)
+    more (reply_line plain (event_words e)) (flat_map (reply_line plain) (map event_words es)) (told-inert (event_words e) (event-inert e)) (events-inert es)
 
-reply-inert : (r : Reply) → is_inert (flat_map reply_line (reply_words plain r)) ≡ true
+reply-inert : (r : Reply) → is_inert (flat_map (reply_line plain) (reply_words r)) ≡ true
 reply-inert (Done events) = events-inert events
 reply-inert (Refused r) =
-    let ws : List (List ℕ) = codes "refused" ∷ decimal (refusal_number r) ∷ [] in
-    more (reply_line ws) [] (told-inert ws (rw (number-inert (refusal_number r)) refl)) refl
+    let ws : List Word = Fixed (codes "refused") ∷ Number (refusal_number r) ∷ [] in
+    more (reply_line plain ws) [] (told-inert ws (rw (number-inert (refusal_number r)) refl)) refl
 
 step-line-inert : (p : PortId) (s : Step) → is_inert (step_line plain p s) ≡ true
 step-line-inert p s = line-inert (port_word plain p ∷ step_words plain s) (both (is_inert (port_word plain p)) (are_inert (step_words plain s)) (port-inert p) (step-inert s))
 
-entries-inert : (past es : List LogEntry) → is_inert (log_text plain (λ e p. reply_words plain e.reply) past es) ≡ true
+entries-inert : (past es : List LogEntry) → is_inert (log_text plain (λ e p. reply_words e.reply) past es) ≡ true
 entries-inert past [] = refl
 entries-inert past (e ∷ es) =
-    let replies = flat_map reply_line (reply_words plain e.reply) in
-    let rest = log_text plain (λ e p. reply_words plain e.reply) (e ∷ past) es in
+    let replies = flat_map (reply_line plain) (reply_words e.reply) in
+    let rest = log_text plain (λ e p. reply_words e.reply) (e ∷ past) es in
     more (step_line plain e.port e.step) (replies ++ rest) (step-line-inert e.port e.step) (more replies rest (reply-inert e.reply) (entries-inert (e ∷ past) es))
 
 log-inert : (log : List LogEntry) → is_inert (text log) ≡ true

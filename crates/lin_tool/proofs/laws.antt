@@ -1,5 +1,4 @@
 -- What the laws rest on.
-pub mod Replies
 pub mod NamedLogs
 pub mod LdfTokens
 pub mod LdfWords

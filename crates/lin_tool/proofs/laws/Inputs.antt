@@ -165,9 +165,9 @@ entries-begin Log c k past [] last rest text b = b
 entries-begin Named c k past [] last rest text b = b
 entries-begin Jsonl c k past es last rest text b = absurd (cc)
 entries-begin Log c k past (e ∷ es) last rest text b =
-    step-begins plain e.port e.step (flat_map reply_line (plain_replies e []) ++ log_text plain plain_replies (e ∷ []) es) last rest
+    step-begins plain e.port e.step (flat_map (reply_line plain) (plain_replies e []) ++ log_text plain plain_replies (e ∷ []) es) last rest
 entries-begin Named c k past (e ∷ es) last rest text b =
-    step-begins (named_language c) e.port e.step (flat_map reply_line (reply_lines c k e past) ++ log_text (named_language c) (reply_lines c k) (e ∷ past) es) last rest
+    step-begins (named_language c) e.port e.step (flat_map (reply_line (named_language c)) (reply_lines c k e past) ++ log_text (named_language c) (reply_lines c k) (e ∷ past) es) last rest
 
 steps-begin : (c : Parts) (k : Option CodedData) (o : Option Refusal) (rest : List ℕ) → Begins (hash_ending c k (steps_ending o) ++ rest)
 steps-begin c k None rest = (35, _, refl, (refl, refl, refl))

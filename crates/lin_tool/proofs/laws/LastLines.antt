@@ -16,18 +16,18 @@ use Rattle.lin_core.specs.declared.log.LogEntry.{LogEntry}
 use Rattle.lin_core.specs.declared.reply.Refusal.{Refusal}
 use Rattle.lin_log.specs.Language.{named_language}
 use Rattle.lin_log.specs.Laws.{HasNames, no_end}
-use Rattle.lin_log.specs.Words.{spaced_word, value_word}
+use Rattle.lin_log.specs.Words.{Word as NamedWord, spaced_word, value_word, word_text}
 use Rattle.lin_log.specs.CallerTexts.{seen_text}
 use Rattle.lin_log.proofs.CallerTexts.{quiet-seen-text, quiet-seen-texts}
 use Rattle.lin_log.proofs.Items.{joined}
-use Rattle.lin_log.proofs.Quiet.{quiet-called, quiet-decimal, quiet-spaced}
+use Rattle.lin_log.proofs.Quiet.{quiet-called, quiet-decimal, quiet-refusal, quiet-spaced, quiet-value, quiet-words}
 use Rattle.lin_values.specs.Coded.{CodedData}
 use Rattle.lin_values.specs.Meaning.{meaning_if_coded}
 use Rattle.lin_values.specs.Meant.{Meant}
 use Rattle.lin_values.specs.Shown.{shown}
 use Rattle.lin_export.specs.LastSlot.{EndedSlot, ended_words, last_slot, last_slot_text}
 use Rattle.lin_export.specs.Listing.{address_word}
-use Rattle.lin_export.specs.Named.{slot_names}
+use Rattle.lin_export.specs.Named.{named_words, slot_names}
 use Rattle.lin_bench.specs.Fields.{frames_called}
 use Rattle.lin_bench.specs.LineWords.{Word}
 use Rattle.lin_bench.specs.Texts.{all_pending_words, cluster_text, expected_text, expected_words, got_text, got_words, table_word}
@@ -44,11 +44,9 @@ use Rattle.lin_live.specs.Told.{Is, hash_ending, hash_line, steps_ending, verdic
 use Rattle.lin_live.specs.Values.{addressed_node, after_gap, idle_text, objects_version, program_version, rules_text, said, said_text, slot_text, with_gaps}
 use Rattle.lin_live.specs.declared.question.Question.{Question}
 use Rattle.lin_live.specs.declared.question.Question.TheVariants as question
-use Rattle.lin_tool.specs.laws.NamedScripts.{HasFrameNames}
 use Rattle.lin_tool.specs.laws.Transcripts.{IsRemark}
 use Rattle.lin_tool.proofs.laws.OneLine.{line-quiet}
 use Rattle.lin_tool.proofs.laws.Remarks.{Quiet, a-remark, each-way}
-use Rattle.lin_tool.proofs.laws.Replies.{ended-quiet, node-name, refusal-quiet, slot-quiet, value-quiet}
 
 both : (xs ys : List ℕ) → Quiet xs → Quiet ys → Quiet (xs ++ ys)
 both xs ys h k = joined no_end xs ys h k
@@ -58,9 +56,12 @@ meant-quiet : (o : Option Meant) → Quiet (option_map_or (λ (m : Meant). space
 meant-quiet None = refl
 meant-quiet (Some m) = quiet-seen-text (shown m)
 
-module _ (c : Parts) (a : HasNames (named_language c)) (b : HasFrameNames c) where
+module _ (c : Parts) (a : HasNames (named_language c)) where
   cluster-quiet : (ws : List Word) → Quiet (cluster_text c ws)
   cluster-quiet ws = line-quiet (named_language c) (frames_called c) ws
+
+  words-said : (ws : List NamedWord) → Quiet (named_words c ws)
+  words-said ws = quiet-spaced (map (word_text (named_language c)) ws) (quiet-words (named_language c) a ws)
 
   table : (t : ℕ) → Quiet (table_word c t)
   table t = quiet-called (named_language c).tables a.of_tables t
@@ -74,7 +75,7 @@ module _ (c : Parts) (a : HasNames (named_language c)) (b : HasFrameNames c) whe
   slot-said s =
       both (table_word c s.0) _ (table s.0)
       (both (spaced_word (decimal s.1)) _ (quiet-decimal s.1)
-      (quiet-spaced (slot_names c (Slot s.0 s.1 s.2)) (slot-quiet c b (Slot s.0 s.1 s.2))))
+      (words-said (slot_names c (Slot s.0 s.1 s.2))))
 
   next-said : (o : Option (ℕ × ℕ × Option ℕ)) → Quiet (option_map_or (λ (s : ℕ × ℕ × Option ℕ). slot_text c (s.0, s.1) s.2) o (codes "open"))
   next-said None = refl
@@ -85,7 +86,7 @@ module _ (c : Parts) (a : HasNames (named_language c)) (b : HasFrameNames c) whe
   address-quiet (Some n) = quiet-decimal n
 
   node-said : (n : ℕ) → Quiet (addressed_node c n)
-  node-said n = both (node_of c n).name (spaced_word (address_word (nad c n))) (node-name c a n) (address-quiet (nad c n))
+  node-said n = both (seen_text (node_of c n).name) (spaced_word (address_word (nad c n))) (quiet-seen-text (node_of c n).name) (address-quiet (nad c n))
 
   gaps-said : (ns : List ℕ) → Quiet (flat_map after_gap (map (addressed_node c) ns))
   gaps-said [] = refl
@@ -97,7 +98,7 @@ module _ (c : Parts) (a : HasNames (named_language c)) (b : HasFrameNames c) whe
 
   ended-said : (o : Option EndedSlot) → Quiet (last_slot_text c o)
   ended-said None = refl
-  ended-said (Some e) = both (decimal e.number) _ (quiet-decimal e.number) (quiet-spaced (ended_words c e) (ended-quiet c a b e))
+  ended-said (Some e) = both (decimal e.number) _ (quiet-decimal e.number) (words-said (ended_words c e))
 
   rules-quiet : (lines : List (List ℕ)) → Quiet (rules_text lines)
   rules-quiet [] = refl
@@ -107,7 +108,7 @@ module _ (c : Parts) (a : HasNames (named_language c)) (b : HasFrameNames c) whe
   value-said k opening past rules (question.Signal n s) =
       let v = value_at c past n s in
       let meant = option_map_or (λ (m : Meant). spaced_word (seen_text (shown m))) (meaning_if_coded k s v) [] in
-      both (value_word v) meant (value-quiet v) (meant-quiet (meaning_if_coded k s v))
+      both (value_word v) meant (quiet-value v) (meant-quiet (meaning_if_coded k s v))
   value-said k opening past rules (question.Waiting host) = quiet-decimal (length (waiting c past host))
   value-said k opening past rules question.Idle = idle-quiet (pending c past rules.noted)
   value-said k opening past rules question.Time = quiet-decimal (time c past)
@@ -130,7 +131,7 @@ module _ (c : Parts) (a : HasNames (named_language c)) (b : HasFrameNames c) whe
   steps-remark k None = ending-remark (codes "ok") refl
   steps-remark k (Some why) =
       ending-remark (codes "refused " ++ (decimal (refusal_number why) ++ spaced_word (refusal_word why)))
-      (both (decimal (refusal_number why)) _ (quiet-decimal (refusal_number why)) (refusal-quiet why))
+      (both (decimal (refusal_number why)) _ (quiet-decimal (refusal_number why)) (quiet-refusal why))
 
   unmet-remark : (k : Option CodedData) (what : Expected) (is : Got) → IsRemark (hash_ending c k (verdict_ending c (Unmet what is) []))
   unmet-remark k what is =

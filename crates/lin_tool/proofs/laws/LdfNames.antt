@@ -6,17 +6,14 @@ use Rattle.std.proofs.lemmas.Bool.{and_parts}
 use Rattle.std.proofs.lemmas.List.Elements.{All-cons, All-head, All-nil, All-tail}
 use Rattle.std.proofs.lemmas.Slice.Eq.{bytes_eq-Decides}
 use Rattle.lin_parts.specs.declared.description.Description.{Description}
-use Rattle.lin_parts.specs.declared.description.EventFrame.{EventFrame}
-use Rattle.lin_parts.specs.declared.description.Frame.{Frame}
 use Rattle.lin_parts.specs.declared.description.Name.{Name}
 use Rattle.lin_parts.specs.declared.description.Number.{Number}
 use Rattle.lin_parts.specs.declared.description.Signal.{Signal}
-use Rattle.lin_parts.specs.declared.description.Sporadic.{Sporadic}
 use Rattle.lin_parts.specs.declared.description.Table.{Table}
 use Rattle.lin_ldf.specs.Describes.{Describes, Spells}
 use Rattle.lin_ldf.specs.Forms.{Form, ◌&>◌}
-use Rattle.lin_ldf.specs.Grammar.{event, event_frame, frame_declaration, frames_section, master, no_sections, declared_node_names, nodes_section, or_empty, section, section_of, signal, signals, slaves, sporadic, sporadic_frame, table, tables}
-use Rattle.lin_ldf.specs.GrammarLaws.{event_frame_takes, frame_takes, header_takes, master_takes, section_takes, signal_takes, sporadic_frame_takes, table_takes}
+use Rattle.lin_ldf.specs.Grammar.{declared_node_names, master, no_sections, nodes_section, or_empty, section, section_of, signal, signals, slaves, table, tables}
+use Rattle.lin_ldf.specs.GrammarLaws.{header_takes, master_takes, section_takes, signal_takes, table_takes}
 use Rattle.lin_ldf.specs.Laws.{Behind}
 use Rattle.lin_ldf.specs.Loops.{Several, ItemSteps}
 use Rattle.lin_ldf.specs.Names.{has_name}
@@ -39,15 +36,6 @@ signal_text s = s.name.text
 
 abbrev pub table_text : Table → List ℕ
 table_text t = t.name.text
-
-abbrev pub frame_text : Frame → List ℕ
-frame_text f = f.name.text
-
-abbrev pub sporadic_text : Sporadic → List ℕ
-sporadic_text f = f.name.text
-
-abbrev pub event_text : EventFrame → List ℕ
-event_text f = f.name.text
 
 abbrev AllGood : List Symbol → Type 0
 AllGood ts = All IsGood ts
@@ -120,24 +108,6 @@ signals-declare = record {
   good = λ seen ts a rest h good. after-behind ts rest ((signal_takes seen).lawful.behind ts a rest h) good;
 }
 
-frames-declare : Declares frame_text frame_declaration
-frames-declare = record {
-  new = λ seen ts a rest h good. subst (λ (s : Frame). IsNew seen (frame_text s)) h.2 (new-name seen ts h.0.0 h.1.1.0 h.1.1.2 good);
-  good = λ seen ts a rest h good. after-behind ts rest ((frame_takes seen).lawful.behind ts a rest h) good;
-}
-
-sporadic-declare : Declares sporadic_text sporadic_frame
-sporadic-declare = record {
-  new = λ seen ts a rest h good. subst (λ (s : Sporadic). IsNew seen (sporadic_text s)) h.2 (new-name seen ts h.0.0 h.1.1.0 h.1.1.2 good);
-  good = λ seen ts a rest h good. after-behind ts rest ((sporadic_frame_takes seen).lawful.behind ts a rest h) good;
-}
-
-events-declare : Declares event_text event_frame
-events-declare = record {
-  new = λ seen ts a rest h good. subst (λ (s : EventFrame). IsNew seen (event_text s)) h.2 (new-name seen ts h.0.0 h.1.1.0 h.1.1.2 good);
-  good = λ seen ts a rest h good. after-behind ts rest ((event_frame_takes seen).lawful.behind ts a rest h) good;
-}
-
 tables-declare : Declares table_text table
 tables-declare = record {
   new = λ seen ts a rest h good. subst (λ (s : Table). IsNew seen (table_text s)) h.2 (new-name seen ts h.0.0 h.1.0 h.1.1 good);
@@ -164,38 +134,25 @@ from-once : {A B : Type 0} (o : Option A) (f : Form B) (ts : List Symbol) (b : B
 from-once None f ts b rest h = h
 from-once (Some x) f ts b rest h = absurd h
 
--- the names that sections declare; those of frames of all kinds differ, but of them words are enough
+-- the names of signals and tables that sections declare
 record AreDeclared (s : Sections) : Type 0 where
   signals : AreNew [] (map signal_text (or_empty s.signals))
   tables : AreNew [] (map table_text (or_empty s.tables))
-  frames : AllNames (map frame_text (or_empty s.frames))
-  sporadic : AllNames (map sporadic_text (or_empty s.sporadic))
-  events : AllNames (map event_text (or_empty s.events))
 
 section-declares : (k : SectionWord) (s : Sections) (ts : List Symbol) (a : Sections) (rest : List Symbol) → (section_of k s).spells ts a rest → AllGood ts
     → AreDeclared s → AreDeclared a
 section-declares words_of.Signals s ts a rest (xs, h, same) good d =
     let p = from-once s.signals signals ts xs rest h in
     let q = block-new signal_text signal signals-declare [] p.1 xs rest p.3 (after-token ts p.1 p.2.0 p.2.1 good) in
-    subst AreDeclared same (record { signals = q; tables = d.tables; frames = d.frames; sporadic = d.sporadic; events = d.events })
-section-declares words_of.Frames s ts a rest (xs, h, same) good d =
-    let p = from-once s.frames (frames_section s.frame_names) ts xs rest h in
-    let q = block-new frame_text frame_declaration frames-declare s.frame_names p.1 xs rest p.3 (after-token ts p.1 p.2.0 p.2.1 good) in
-    subst AreDeclared same (record { signals = d.signals; tables = d.tables; frames = q.words; sporadic = d.sporadic; events = d.events })
-section-declares words_of.Sporadic s ts a rest (xs, h, same) good d =
-    let p = from-once s.sporadic (sporadic s.frame_names) ts xs rest h in
-    let q = block-new sporadic_text sporadic_frame sporadic-declare s.frame_names p.1 xs rest p.3 (after-token ts p.1 p.2.0 p.2.1 good) in
-    subst AreDeclared same (record { signals = d.signals; tables = d.tables; frames = d.frames; sporadic = q.words; events = d.events })
-section-declares words_of.Event s ts a rest (xs, h, same) good d =
-    let p = from-once s.events (event s.frame_names) ts xs rest h in
-    let q = block-new event_text event_frame events-declare s.frame_names p.1 xs rest p.3 (after-token ts p.1 p.2.0 p.2.1 good) in
-    subst AreDeclared same (record { signals = d.signals; tables = d.tables; frames = d.frames; sporadic = d.sporadic; events = q.words })
-section-declares words_of.Attributes s ts a rest (xs, h, same) good d =
-    subst AreDeclared same (record { signals = d.signals; tables = d.tables; frames = d.frames; sporadic = d.sporadic; events = d.events })
+    subst AreDeclared same (record { signals = q; tables = d.tables })
+section-declares words_of.Frames s ts a rest (xs, h, same) good d = subst AreDeclared same (record { signals = d.signals; tables = d.tables })
+section-declares words_of.Sporadic s ts a rest (xs, h, same) good d = subst AreDeclared same (record { signals = d.signals; tables = d.tables })
+section-declares words_of.Event s ts a rest (xs, h, same) good d = subst AreDeclared same (record { signals = d.signals; tables = d.tables })
+section-declares words_of.Attributes s ts a rest (xs, h, same) good d = subst AreDeclared same (record { signals = d.signals; tables = d.tables })
 section-declares words_of.Tables s ts a rest (xs, h, same) good d =
     let p = from-once s.tables tables ts xs rest h in
     let q = block-new table_text table tables-declare [] p.1 xs rest p.3 (after-token ts p.1 p.2.0 p.2.1 good) in
-    subst AreDeclared same (record { signals = d.signals; tables = q; frames = d.frames; sporadic = d.sporadic; events = d.events })
+    subst AreDeclared same (record { signals = d.signals; tables = q })
 section-declares words_of.Nodes s ts a rest h good d = absurd h
 section-declares words_of.Unused s ts a rest (u, h, same) good d = subst AreDeclared same d
 
@@ -242,17 +199,11 @@ pub record DeclaresNames (d : Description) : Type 0 where
   pub of_nodes : AreNew [] (d.master.text ∷ map name_text d.slaves)
   pub of_signals : AreNew [] (map signal_text d.signals)
   pub of_tables : AreNew [] (map table_text d.tables)
-  pub of_frames : AllNames (map frame_text d.frames)
-  pub of_sporadic : AllNames (map sporadic_text d.sporadic)
-  pub of_events : AllNames (map event_text d.events)
 
 nothing-declared : (names : List (List ℕ)) → AreDeclared (no_sections names)
 nothing-declared names = record {
   signals = none-new [];
   tables = none-new [];
-  frames = All-nil is_name_so;
-  sporadic = All-nil is_name_so;
-  events = All-nil is_name_so;
 }
 
 file-declares : (ts : List Symbol) (d : Description) → Spells ts d → AllGood ts → DeclaresNames d
@@ -265,9 +216,6 @@ file-declares ts d (q, (mid, (m, head, of_nodes), (end, u, (n, steps), over)), s
       of_nodes = p.names;
       of_signals = s.signals;
       of_tables = s.tables;
-      of_frames = s.frames;
-      of_sporadic = s.sporadic;
-      of_events = s.events;
     })
 
 pub text-declares : (text : List ℕ) (d : Description) → Describes text d → DeclaresNames d

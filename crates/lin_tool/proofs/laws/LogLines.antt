@@ -1,8 +1,7 @@
 -- The lines of logs: none begins with `#`.
-use Rattle.std.proofs.Common.{◌≡◌, ◌∙◌, ℕ, ◌==◌, Bool, true, false, List, [], ◌∷◌, ◌++◌, refl, sym, ap, subst, append_assoc, append-nil, flat_map, nat_lt, reverse, codes, if◌then◌else◌, Option}
+use Rattle.std.proofs.Common.{◌≡◌, ◌∙◌, ℕ, ◌==◌, Bool, true, false, List, [], ◌∷◌, ◌++◌, refl, sym, ap, subst, append_assoc, append-nil, flat_map, map, nat_lt, reverse, codes, if◌then◌else◌, Option}
 use Rattle.std.specs.Fmt.{decimal}
 use Rattle.std.proofs.lemmas.List.{reverse-append}
-use Rattle.std.proofs.lemmas.List.Elements.{All-head, All-tail}
 use Rattle.lin_parts.specs.declared.parts.Parts.{Parts}
 use Rattle.lin_core.specs.Tables.{direction_word}
 use Rattle.lin_core.specs.declared.link.Direction.{Direction}
@@ -13,11 +12,11 @@ use Rattle.lin_core.specs.declared.port.PortId.TheVariants.{Bus, Host, Node}
 use Rattle.lin_core.specs.declared.step.Step.{Step}
 use Rattle.lin_core.specs.declared.step.Step.TheVariants.{Send, Write, Answer, Leave, Hurt, Timeout, Switch, Close}
 use Rattle.lin_log.specs.Language.{Language, named_language, plain}
-use Rattle.lin_log.specs.Laws.{HasNames, IsQuiet, are_quiet, is_quiet, no_end}
-use Rattle.lin_log.specs.Words.{line_tail, log_text, port_number_word, port_word, reply_line, reply_words, spaced_word, step_line, step_words, text}
+use Rattle.lin_log.specs.Laws.{HasNames, are_quiet, is_quiet, no_end}
+use Rattle.lin_log.specs.Words.{Word, line_tail, log_text, port_number_word, port_word, reply_line, reply_words, spaced_word, step_line, step_words, text, word_text}
 use Rattle.lin_log.proofs.Items.{joined}
-use Rattle.lin_log.proofs.Logs.{entry_text, plain-names, quiet-reply, text-entries}
-use Rattle.lin_log.proofs.Quiet.{line-end, quiet-called, quiet-decimal, quiet-hex, quiet-spaced}
+use Rattle.lin_log.proofs.Logs.{entry_text, plain-names, text-entries}
+use Rattle.lin_log.proofs.Quiet.{line-end, quiet-called, quiet-decimal, quiet-hex, quiet-spaced, quiet-value, quiet-words}
 use Rattle.lin_values.specs.Coded.{CodedData}
 use Rattle.lin_export.specs.Named.{reply_lines}
 use Rattle.lin_export.specs.Jsonl.{entry_objects}
@@ -25,11 +24,9 @@ use Rattle.lin_export.proofs.Tellings.{each-append}
 use Rattle.lin_live.specs.Told.{entries_text, is_text}
 use Rattle.lin_live.specs.declared.answer_format.AnswerFormat.{AnswerFormat}
 use Rattle.lin_live.specs.declared.answer_format.AnswerFormat.TheVariants.{Log, Named, Jsonl}
-use Rattle.lin_tool.specs.laws.NamedScripts.{HasFrameNames}
 use Rattle.lin_tool.specs.laws.Transcripts.{with_line_end}
 use Rattle.lin_tool.proofs.laws.Remarks.{Stays, stays-both, stays-line, stays-nothing}
 use Rattle.std.proofs.lemmas.Grind.{flat_map-append}
-use Rattle.lin_tool.proofs.laws.Replies.{reply-quiet, value-quiet}
 
 -- ---- the line of a step
 way-quiet : (d : Direction) → is_quiet (direction_word d) ≡ true
@@ -38,7 +35,7 @@ way-quiet direction.Up = refl
 
 step-quiet : (l : Language) → HasNames l → (s : Step) → are_quiet (step_words l s) ≡ true
 step-quiet l a (Send from to message) = rw (quiet-called l.nodes a.of_nodes from, quiet-called l.nodes a.of_nodes to, quiet-hex message) refl
-step-quiet l a (Write by signal value) = rw (quiet-called l.nodes a.of_nodes by, quiet-called l.signals a.of_signals signal, value-quiet value) refl
+step-quiet l a (Write by signal value) = rw (quiet-called l.nodes a.of_nodes by, quiet-called l.signals a.of_signals signal, quiet-value value) refl
 step-quiet l a (Answer node) = rw (quiet-called l.nodes a.of_nodes node) refl
 step-quiet l a (Leave node) = rw (quiet-called l.nodes a.of_nodes node) refl
 step-quiet l a (Hurt bytes) = rw (quiet-hex bytes) refl
@@ -77,35 +74,33 @@ step-stays l a (Node n) s =
     (line-is (port_word l (Node n)) (step_words l s))
 
 -- ---- the lines of a reply, and of a log
-reply-stays : (ws : List (List ℕ)) → are_quiet ws ≡ true → Stays (reply_line ws)
-reply-stays ws h = line-stays 62 [] ws (reply_line ws) refl refl h (line-is (codes ">") ws)
+reply-stays : (l : Language) → HasNames l → (ws : List Word) → Stays (reply_line l ws)
+reply-stays l a ws =
+    let texts = map (word_text l) ws in line-stays 62 [] texts (reply_line l ws) refl refl (quiet-words l a ws) (line-is (codes ">") texts)
 
-replies-stay : (rs : List (List (List ℕ))) → IsQuiet rs → Stays (flat_map reply_line rs)
-replies-stay [] h = stays-nothing
-replies-stay (r ∷ rs) h =
-    stays-both (reply_line r) (flat_map reply_line rs) (reply-stays r (All-head (λ ws. are_quiet ws ≡ true) r rs h))
-    (replies-stay rs (All-tail (λ ws. are_quiet ws ≡ true) r rs h))
+replies-stay : (l : Language) → HasNames l → (rs : List (List Word)) → Stays (flat_map (reply_line l) rs)
+replies-stay l a [] = stays-nothing
+replies-stay l a (r ∷ rs) = stays-both (reply_line l r) (flat_map (reply_line l) rs) (reply-stays l a r) (replies-stay l a rs)
 
 abbrev pub Replies : Type 0
-Replies = LogEntry → List LogEntry → List (List (List ℕ))
+Replies = LogEntry → List LogEntry → List (List Word)
 
-log-stays : (l : Language) (replies : Replies) → HasNames l → ((e : LogEntry) (past : List LogEntry) → IsQuiet (replies e past)) → (past es : List LogEntry)
-    → Stays (log_text l replies past es)
-log-stays l replies a q past [] = stays-nothing
-log-stays l replies a q past (e ∷ es) =
-    stays-both (step_line l e.port e.step) (flat_map reply_line (replies e past) ++ log_text l replies (e ∷ past) es) (step-stays l a e.port e.step)
-    (stays-both (flat_map reply_line (replies e past)) (log_text l replies (e ∷ past) es) (replies-stay (replies e past) (q e past))
-    (log-stays l replies a q (e ∷ past) es))
+log-stays : (l : Language) (replies : Replies) → HasNames l → (past es : List LogEntry) → Stays (log_text l replies past es)
+log-stays l replies a past [] = stays-nothing
+log-stays l replies a past (e ∷ es) =
+    let told = flat_map (reply_line l) (replies e past) in
+    stays-both (step_line l e.port e.step) (told ++ log_text l replies (e ∷ past) es) (step-stays l a e.port e.step)
+    (stays-both told (log_text l replies (e ∷ past) es) (replies-stay l a (replies e past)) (log-stays l replies a (e ∷ past) es))
 
 -- ---- in each of the two languages
 abbrev pub plain_replies : Replies
-plain_replies e past = reply_words plain e.reply
+plain_replies e past = reply_words e.reply
 
-pub entries-stay : (f : AnswerFormat) (c : Parts) (k : Option CodedData) → is_text f ≡ true → HasNames (named_language c) → HasFrameNames c → (past es : List LogEntry)
+pub entries-stay : (f : AnswerFormat) (c : Parts) (k : Option CodedData) → is_text f ≡ true → HasNames (named_language c) → (past es : List LogEntry)
     → Stays (entries_text f c k past es)
-entries-stay Log c k text a b past es = log-stays plain plain_replies plain-names (λ e p. quiet-reply e.reply) [] es
-entries-stay Named c k text a b past es = log-stays (named_language c) (reply_lines c k) a (λ e p. reply-quiet c k a b e p e.reply) past es
-entries-stay Jsonl c k text a b past es = absurd (cc)
+entries-stay Log c k text a past es = log-stays plain plain_replies plain-names [] es
+entries-stay Named c k text a past es = log-stays (named_language c) (reply_lines c k) a past es
+entries-stay Jsonl c k text a past es = absurd (cc)
 
 -- ---- entries, and then more
 back-to-front : (e : LogEntry) (es past : List LogEntry) → reverse (e ∷ es) ++ past ≡ reverse es ++ e ∷ past
@@ -116,7 +111,7 @@ log-append : (l : Language) (replies : Replies) (past xs ys : List LogEntry)
 log-append l replies past [] ys = refl
 log-append l replies past (e ∷ es) ys =
     let first = step_line l e.port e.step in
-    let told = flat_map reply_line (replies e past) in
+    let told = flat_map (reply_line l) (replies e past) in
     let more = log_text l replies (e ∷ past) es in
     let rest = log_text l replies (reverse (e ∷ es) ++ past) ys in
     ap (λ t. first ++ (told ++ t)) (log-append l replies (e ∷ past) es ys ∙ ap (λ p. more ++ log_text l replies p ys) (sym (back-to-front e es past)))

@@ -5,9 +5,7 @@ use Rattle.lin_log.proofs.Texts.{texts-again}
 use Rattle.lin_export.specs.Named.{named_log, reply_lines}
 use Rattle.lin_bench.proofs.Steps.{named-texts}
 use Rattle.lin_tool.specs.laws.NamedScripts.{NamedLogs}
-use Rattle.lin_tool.proofs.laws.Replies.{reply-quiet}
 
 pub named-logs : NamedLogs
-named-logs c k log opening capacity a b fits =
-    named-texts c opening capacity (named_log c k log) (steps_of log)
-    (texts-again (named_language c) (reply_lines c k) log a (λ e past. reply-quiet c k a b e past e.reply) fits)
+named-logs c k log opening capacity a fits =
+    named-texts c opening capacity (named_log c k log) (steps_of log) (texts-again (named_language c) (reply_lines c k) log a fits)

@@ -6,7 +6,7 @@ use Rattle.lin_log.specs.Laws.{no_end}
 use Rattle.lin_log.specs.Words.{spaced_word}
 use Rattle.lin_log.proofs.CallerTexts.{quiet-seen-text, quiet-seen-texts}
 use Rattle.lin_log.proofs.Items.{joined}
-use Rattle.lin_log.proofs.Quiet.{quiet-decimal, quiet-hex}
+use Rattle.lin_log.proofs.Quiet.{quiet-decimal, quiet-hex, quiet-value}
 use Rattle.lin_bench.specs.LineWords.{Word, byte_word, carried_word, is_mark_word, pattern_word, spaced_words, text_after_space, word_text, words_text}
 use Rattle.lin_bench.specs.LineWords.Word.{Node, Signal, Table, Frame, Number, Range, Hex, Matching, Raw, Fixed, Said, Fields, Listed, Mark}
 use Rattle.lin_bench.specs.Texts.{reason_words}
@@ -15,7 +15,6 @@ use Rattle.lin_live.specs.Told.{question_reason_text as live_text}
 use Rattle.lin_live.specs.declared.reason.Reason.{Reason as LiveReason}
 use Rattle.lin_live.specs.declared.reason.Reason.TheVariants as live
 use Rattle.lin_tool.proofs.laws.Remarks.{Quiet, each-way}
-use Rattle.lin_tool.proofs.laws.Replies.{value-quiet}
 
 -- ---- patterns
 byte-quiet : (b : Option ℕ) → Quiet (byte_word b)
@@ -42,7 +41,7 @@ module _ (l : Language) (frames : Called) where
   word-quiet (Range low high) = joined no_end (decimal low) (codes ".." ++ decimal high) (quiet-decimal low) (quiet-decimal high)
   word-quiet (Hex bytes) = quiet-hex bytes
   word-quiet (Matching p) = pattern-quiet p
-  word-quiet (Raw v) = value-quiet v
+  word-quiet (Raw v) = quiet-value v
   word-quiet (Fixed text) = quiet-seen-text text
   word-quiet (Said text) = quiet-seen-text text
   word-quiet (Fields fields) = quiet-seen-texts (codes " ") refl fields

@@ -26,12 +26,10 @@ use Rattle.lin_live.specs.Told.{HandData, entries_text, is_text, reply, shown_co
 use Rattle.lin_live.specs.Transcript.{transcript}
 use Rattle.lin_live.specs.declared.answer_format.AnswerFormat.{AnswerFormat}
 use Rattle.lin_live.specs.declared.answer_format.AnswerFormat.TheVariants.{Log, Named, Jsonl}
-use Rattle.lin_tool.specs.laws.NamedScripts.{HasFrameNames}
 use Rattle.lin_tool.specs.laws.Transcripts.{IsTranscript, TranscriptsAreBenchScripts, TranscriptsAreScripts, with_line_end, is_said, log_after, without_remarks}
-use Rattle.lin_log.proofs.Logs.{plain-names, quiet-reply}
+use Rattle.lin_log.proofs.Logs.{plain-names}
 use Rattle.lin_tool.proofs.laws.LogLines.{plain_replies}
 use Rattle.lin_tool.proofs.laws.Remarks.{with_ends}
-use Rattle.lin_tool.proofs.laws.Replies.{reply-quiet}
 use Rattle.lin_tool.proofs.laws.Transcripts.{transcripts-are-logs}
 
 -- ---- lines that say nothing
@@ -123,11 +121,11 @@ told_in Log c = plain
 told_in Named c = named_language c
 told_in Jsonl c = plain
 
-entries-say : (f : AnswerFormat) (c : Parts) (k : Option CodedData) (log : List LogEntry) → is_text f ≡ true → HasNames (named_language c) → HasFrameNames c → All FitsEntry log
+entries-say : (f : AnswerFormat) (c : Parts) (k : Option CodedData) (log : List LogEntry) → is_text f ≡ true → HasNames (named_language c) → All FitsEntry log
     → text_says (told_in f c) (entries_text f c k [] log) ≡ Ok (steps_of log)
-entries-say Log c k log text a b fits = texts-again plain plain_replies log plain-names (λ e past. quiet-reply e.reply) fits
-entries-say Named c k log text a b fits = texts-again (named_language c) (reply_lines c k) log a (λ e past. reply-quiet c k a b e past e.reply) fits
-entries-say Jsonl c k log text a b fits = absurd (cc)
+entries-say Log c k log text a fits = texts-again plain plain_replies log plain-names fits
+entries-say Named c k log text a fits = texts-again (named_language c) (reply_lines c k) log a fits
+entries-say Jsonl c k log text a fits = absurd (cc)
 
 pub transcript-says : (h : HandData) (ls : List (List ℕ)) → IsTranscript h → All FitsEntry (log_after h ls)
     → text_says (told_in h.format h.cluster) (transcript reply h ls) ≡ Ok (steps_of (log_after h ls))
@@ -135,7 +133,7 @@ transcript-says h ls t fits =
     let l = told_in h.format h.cluster in
     remarks-say-nothing l (transcript reply h ls) (steps_of (log_after h ls))
     (ap (text_says l) (transcripts-are-logs h ls t)
-    ∙ entries-say h.format h.cluster (shown_coding h) (log_after h ls) t.of_text t.names t.frames fits)
+    ∙ entries-say h.format h.cluster (shown_coding h) (log_after h ls) t.of_text t.names fits)
 
 pub transcripts-are-scripts : TranscriptsAreScripts
 unfolding script

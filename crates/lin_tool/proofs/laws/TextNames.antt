@@ -2,25 +2,20 @@
 use Rattle.std.proofs.Common.{◌≡◌, ◌∙◌, ◌+◌, ℕ, zero, suc, List, [], ◌∷◌, refl, sym, ap, arith, true, length, get_or, map}
 use Rattle.std.specs.List.{enumerate_from}
 use Rattle.std.proofs.lemmas.List.{length-map}
-use Rattle.std.proofs.lemmas.List.Elements.{All-map}
 use Rattle.std.proofs.lemmas.List.FromFn.{length-enumerate_from}
 use Rattle.lin_frame.specs.declared.value.Value.TheVariants.{Scalar}
 use Rattle.lin_parts.specs.declared.description.Description.{Description}
 use Rattle.lin_parts.specs.declared.description.Name.{Name}
 use Rattle.lin_parts.specs.Cluster.{node_of, nodes}
-use Rattle.lin_parts.proofs.Pairs.{all-of-map}
-use Rattle.lin_parts.specs.declared.parts.EventFrame.{EventFrame}
 use Rattle.lin_parts.specs.declared.parts.Node.{Node}
 use Rattle.lin_parts.specs.declared.parts.Parts.{Parts}
 use Rattle.lin_parts.specs.declared.parts.Signal.{Signal}
-use Rattle.lin_parts.specs.declared.parts.SporadicFrame.{SporadicFrame}
 use Rattle.lin_parts.specs.declared.parts.Table.{Table}
-use Rattle.lin_cluster.specs.Described.{described_event, described_signal, described_sporadic, described_table, parts_of, responder}
-use Rattle.lin_cluster.proofs.DescribedFrames.{each-frame}
+use Rattle.lin_cluster.specs.Described.{described_signal, described_table, parts_of, responder}
 use Rattle.lin_log.specs.Language.{named_language}
-use Rattle.lin_log.specs.Laws.{HasNames, is_name}
-use Rattle.lin_tool.specs.laws.NamedScripts.{HasFrameNames, NamedLogsOfTexts}
-use Rattle.lin_tool.proofs.laws.LdfNames.{DeclaresNames, event_text, frame_text, name_text, names-of_new, signal_text, sporadic_text, table_text, text-declares}
+use Rattle.lin_log.specs.Laws.{HasNames}
+use Rattle.lin_tool.specs.laws.NamedScripts.{NamedLogsOfTexts}
+use Rattle.lin_tool.proofs.laws.LdfNames.{DeclaresNames, name_text, names-of_new, signal_text, table_text, text-declares}
 use Rattle.lin_tool.proofs.laws.NamedLogs.{named-logs}
 
 -- what is made of things has their names, and nothing else has one
@@ -56,16 +51,7 @@ words-of_text d p = record {
       (made-name (described_table d) (λ (t : Table). t.name) table_text (record { name = []; lines = [] }) (λ t. refl) refl d.tables);
 }
 
-frames-of_text : (d : Description) → DeclaresNames d → HasFrameNames (parts_of d)
-frames-of_text d p =
-    let is_name_so : List ℕ → Type 0 = λ name. is_name name ≡ true in
-    record {
-      of_frames = each-frame d (λ f. is_name f.name ≡ true) (all-of-map is_name_so frame_text d.frames p.of_frames);
-      of_sporadic = All-map (λ (s : SporadicFrame). is_name s.name ≡ true) (described_sporadic d) d.sporadic (all-of-map is_name_so sporadic_text d.sporadic p.of_sporadic);
-      of_events = All-map (λ (e : EventFrame). is_name e.name ≡ true) (described_event d) d.events (all-of-map is_name_so event_text d.events p.of_events);
-    }
-
 pub named-logs-of_texts : NamedLogsOfTexts
 named-logs-of_texts text d k log opening capacity described fits =
     let p = text-declares text d described in
-    named-logs (parts_of d) k log opening capacity (words-of_text d p) (frames-of_text d p) fits
+    named-logs (parts_of d) k log opening capacity (words-of_text d p) fits

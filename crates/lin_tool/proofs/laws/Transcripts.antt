@@ -21,7 +21,6 @@ use Rattle.lin_live.specs.declared.answer_format.AnswerFormat.TheVariants.{Log, 
 use Rattle.lin_live.specs.declared.heard.Heard.{Heard}
 use Rattle.lin_live.specs.declared.heard.Heard.TheVariants.{Ask, Make}
 use Rattle.lin_live.specs.declared.reason.Reason.{Reason}
-use Rattle.lin_tool.specs.laws.NamedScripts.{HasFrameNames}
 use Rattle.lin_tool.specs.laws.Transcripts.{IsRemark, LastLinesAreRemarks, LinesHaveNoLf, TranscriptsAreLogs, without_remarks}
 use Rattle.lin_tool.proofs.laws.LastLines.{ending-remark, value-remark, verdict-remark}
 use Rattle.lin_tool.proofs.laws.OneLine.{live-quiet}
@@ -38,31 +37,31 @@ text-line Log c k e is h = h
 text-line Named c k e is h = h
 text-line Jsonl c k e is h = absurd (cc)
 
-told-remark : (h : HandData) → HasNames (named_language h.cluster) → HasFrameNames h.cluster → (said : Result (Option Heard) Reason)
+told-remark : (h : HandData) → HasNames (named_language h.cluster) → (said : Result (Option Heard) Reason)
     → IsRemark (hash_ending h.cluster (shown_coding h) (heard_answer h said).1.ending)
-told-remark h a b (Err why) = ending-remark h.cluster a b (codes "bad line: " ++ question_reason_text why) (live-quiet why)
-told-remark h a b (Ok None) = ending-remark h.cluster a b (codes "ok") refl
-told-remark h a b (Ok (Some (Ask asked))) =
-    value-remark h.cluster a b (shown_coding h) h.opening h.bench.past h.bench.rules asked
-told-remark h a b (Ok (Some (Make line))) =
+told-remark h a (Err why) = ending-remark h.cluster a (codes "bad line: " ++ question_reason_text why) (live-quiet why)
+told-remark h a (Ok None) = ending-remark h.cluster a (codes "ok") refl
+told-remark h a (Ok (Some (Ask asked))) =
+    value-remark h.cluster a (shown_coding h) h.opening h.bench.past h.bench.rules asked
+told-remark h a (Ok (Some (Make line))) =
     let m = made h.cluster h.opening h.capacity h.bench line in
-    verdict-remark h.cluster a b (shown_coding h) (verdict_with_meaning h.coded m.1) (entries_since h.bench.past m.0.past)
+    verdict-remark h.cluster a (shown_coding h) (verdict_with_meaning h.coded m.1) (entries_since h.bench.past m.0.past)
 
 all-remarks : (h : HandData) (f : AnswerFormat) (physical : Bool) (c : Parts) (k : Option CodedData) → h.format ≡ f → h.is_physical ≡ physical → h.cluster ≡ c → h.coded ≡ k → is_text f ≡ true
-    → HasNames (named_language c) → HasFrameNames c → (ls : List (List ℕ)) → AllByRecursion (HasRemark f c (if physical then k else None)) (answers h ls)
-all-remarks h f physical c k form phys is so text a b [] = tt
-all-remarks h f physical c k form phys is so text a b (line ∷ more) =
+    → HasNames (named_language c) → (ls : List (List ℕ)) → AllByRecursion (HasRemark f c (if physical then k else None)) (answers h ls)
+all-remarks h f physical c k form phys is so text a [] = tt
+all-remarks h f physical c k form phys is so text a (line ∷ more) =
     let begun = record h { begun = true } in
     let said = heard_as h.cluster h.coded (without_byte_order_mark h (short line)) in
     let kept = told-kept begun said in (
       rw (sym is, sym so, sym phys)
           (text-line f h.cluster (shown_coding h) _ text
-          (told-remark begun (subst (λ (x : Parts). HasNames (named_language x)) (sym is) a) (subst HasFrameNames (sym is) b) said)),
-      all-remarks (line_answer h (short line)).0 f physical c k (kept.0 ∙ form) (kept.3 ∙ phys) (kept.1 ∙ is) (kept.2 ∙ so) text a b more,
+          (told-remark begun (subst (λ (x : Parts). HasNames (named_language x)) (sym is) a) said)),
+      all-remarks (line_answer h (short line)).0 f physical c k (kept.0 ∙ form) (kept.3 ∙ phys) (kept.1 ∙ is) (kept.2 ∙ so) text a more,
     )
 
 pub last-lines-are-remarks : LastLinesAreRemarks
-last-lines-are-remarks h ls t = all-remarks h h.format h.is_physical h.cluster h.coded refl refl refl refl t.of_text t.names t.frames ls
+last-lines-are-remarks h ls t = all-remarks h h.format h.is_physical h.cluster h.coded refl refl refl refl t.of_text t.names ls
 
 -- ---- the entries of answers
 none-told : (f : AnswerFormat) (c : Parts) (k : Option CodedData) (past : List LogEntry) → [] ≡ entries_text f c k past []
@@ -70,16 +69,16 @@ none-told Log c k past = refl
 none-told Named c k past = refl
 none-told Jsonl c k past = refl
 
-answers-left : (f : AnswerFormat) (c : Parts) (k : Option CodedData) → HasNames (named_language c) → HasFrameNames c → (past : List LogEntry) (all : List Answer)
+answers-left : (f : AnswerFormat) (c : Parts) (k : Option CodedData) → HasNames (named_language c) → (past : List LogEntry) (all : List Answer)
     → is_text f ≡ true → AllByRecursion (HasRemark f c k) all → without_remarks (answers_text f c k past all) ≡ entries_text f c k past (flat_map (λ a. a.entries) all)
-answers-left f c k a b past [] text h = none-told f c k past
-answers-left f c k a b past (x ∷ more) text h =
+answers-left f c k a past [] text h = none-told f c k past
+answers-left f c k a past (x ∷ more) text h =
     let told = entries_text f c k past x.entries in
     let rest = answers_text f c k (reverse x.entries ++ past) more in
     let last = last_line f c k x.ending in
     ap without_remarks (append_assoc told last rest)
-    ∙ entries-stay f c k text a b past x.entries (last ++ rest)
-    ∙ ap (λ t. told ++ t) (remark-goes last h.0 rest ∙ answers-left f c k a b (reverse x.entries ++ past) more text h.1)
+    ∙ entries-stay f c k text a past x.entries (last ++ rest)
+    ∙ ap (λ t. told ++ t) (remark-goes last h.0 rest ∙ answers-left f c k a (reverse x.entries ++ past) more text h.1)
     ∙ sym (entries-append f c k past x.entries (flat_map (λ y. y.entries) more))
 
 pub transcripts-are-logs : TranscriptsAreLogs
@@ -87,7 +86,7 @@ transcripts-are-logs h ls t =
     let all = flat_map (λ x. x.entries) (answers h ls) in
     let k = shown_coding h in
     ap without_remarks (answers-are-written h ls)
-    ∙ answers-left h.format h.cluster k t.names t.frames h.bench.past (answers h ls) t.of_text (last-lines-are-remarks h ls t)
+    ∙ answers-left h.format h.cluster k t.names h.bench.past (answers h ls) t.of_text (last-lines-are-remarks h ls t)
     ∙ ap (λ p. entries_text h.format h.cluster k p all) t.begins
     ∙ ap (entries_text h.format h.cluster k []) (sym (answers-are-the-log h ls ∙ ap (λ (p : List LogEntry). reverse p ++ all) t.begins))
 

@@ -1,5 +1,5 @@
 -- Logs with names as bench scripts.
-use Rattle.std.specs.Prelude.{◌≡◌, ℕ, true, List, Option}
+use Rattle.std.specs.Prelude.{ℕ, List, Option}
 use Rattle.std.specs.List.{All}
 use Rattle.lin_parts.specs.declared.parts.Parts.{Parts}
 use Rattle.lin_parts.specs.declared.description.Description.{Description}
@@ -8,21 +8,15 @@ use Rattle.lin_cluster.specs.Described.{parts_of}
 use Rattle.lin_core.specs.Runs.{steps_of}
 use Rattle.lin_core.specs.declared.log.LogEntry.{LogEntry}
 use Rattle.lin_log.specs.Language.{named_language}
-use Rattle.lin_log.specs.Laws.{FitsEntry, HasNames, is_name}
+use Rattle.lin_log.specs.Laws.{FitsEntry, HasNames}
 use Rattle.lin_values.specs.Coded.{CodedData}
 use Rattle.lin_export.specs.Named.{named_log}
 use Rattle.lin_bench.specs.Plain.{SaysSteps}
 
--- the names of frames of each kind are words too
-pub record HasFrameNames (c : Parts) : Type 0 where
-  pub of_frames : All (λ f. is_name f.name ≡ true) c.frames
-  pub of_sporadic : All (λ s. is_name s.name ≡ true) c.sporadic
-  pub of_events : All (λ e. is_name e.name ≡ true) c.events
-
 -- a log with names says the log's steps as a bench script, whether it tells what values mean or not
 abbrev pub NamedLogs : Type 0
 NamedLogs = (c : Parts) (k : Option CodedData) (log : List LogEntry) (opening capacity : ℕ)
-    → HasNames (named_language c) → HasFrameNames c → All FitsEntry log
+    → HasNames (named_language c) → All FitsEntry log
     → SaysSteps c opening capacity (named_log c k log) (steps_of log)
 
 -- the same of each cluster that an LDF text describes: its names are identifiers (ISO 17987-2; LIN

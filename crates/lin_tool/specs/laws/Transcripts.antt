@@ -16,7 +16,6 @@ use Rattle.lin_live.specs.Play.{in_hand_of, empty_run}
 use Rattle.lin_live.specs.Told.{HandData, entries_text, is_text, last_line, reply, shown_coding}
 use Rattle.lin_live.specs.Transcript.{state_after, most_bytes, transcript}
 use Rattle.lin_live.specs.declared.answer_format.AnswerFormat.TheVariants.{Log}
-use Rattle.lin_tool.specs.laws.NamedScripts.{HasFrameNames}
 
 -- the lines of a text, each with the LF that ends it, and what stands after the last LF
 abbrev pub with_line_end : List ℕ → List ℕ
@@ -37,7 +36,6 @@ without_remarks bytes = flat_map (λ line. line) (filter is_said (lines_with_end
 pub record IsTranscript (h : HandData) : Type 0 where
   pub of_text : is_text h.format ≡ true
   pub names : HasNames (named_language h.cluster)
-  pub frames : HasFrameNames h.cluster
   pub no_marks : IfSome h.coded (λ k. HasNoMarks h.cluster)
   pub begins : h.bench.past ≡ []
 

@@ -9,4 +9,4 @@ loop-event-init g c = grows-nothing c.args.out.now
 
 pub loop-event-preserved : goal.loop-event-preserved
 loop-event-preserved g c =
-    grows-next (λ e. reply_line (event_words plain e)) c.args.events.now c.loop-event.event-index c.event-item.result c.event-item.is (omega arith) c.loop-event.invariant c.put_event_line.ensures
+    grows-next (λ e. reply_line plain (event_words e)) c.args.events.now c.loop-event.event-index c.event-item.result c.event-item.is (omega arith) c.loop-event.invariant c.put_event_line.ensures
