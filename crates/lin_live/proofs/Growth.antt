@@ -1,5 +1,6 @@
 -- The entries of answers are the log.
-use Rattle.std.proofs.Common.{◌≡◌, ◌∙◌, ℕ, List, [], ◌∷◌, ◌++◌, true, false, Option, Some, None, Result, Ok, Err, refl, sym, ap, append_assoc, append-nil, drop, flat_map, length, reverse, if◌then◌else◌, nat_lt}
+use Rattle.std.proofs.Common.{◌≡◌, ◌∙◌, ℕ, List, [], ◌∷◌, ◌++◌, true, false, Option, Some, None, Result, Ok, Err, refl, sym, ap, append_assoc, append-nil, drop, flat_map, length, reverse, if◌then◌else◌, nat_le, nat_lt, codes, option_map}
+use Rattle.std.specs.Str.{bytes_eq}
 use Rattle.std.proofs.Math.Seq.{drop-append_seam}
 use Rattle.std.proofs.lemmas.List.{length-reverse, reverse-append, reverse-reverse}
 use Rattle.lin_parts.specs.declared.parts.Parts.{Parts}
@@ -16,12 +17,21 @@ use Rattle.lin_bench.specs.declared.expected.Expected.{Expected}
 use Rattle.lin_bench.specs.declared.got.Verdict.TheVariants.{SlotLimit}
 use Rattle.lin_bench.specs.declared.line.ScriptLine.{ScriptLine}
 use Rattle.lin_bench.specs.declared.line.ScriptLine.TheVariants as line
-use Rattle.lin_live.specs.Answers.{AnswersAreTheLog, AnswersAreWritten, answers, answers_text}
-use Rattle.lin_live.specs.Told.{HandData, answer_text, line_answer, heard_as, shown_coding, heard_answer, without_byte_order_mark}
+use Rattle.lin_bench.specs.Fields.{line_fields}
+use Rattle.lin_bench.specs.Scripts.{without_mark}
+use Rattle.lin_bench.specs.Words.{read_worded_line}
+use Rattle.lin_bench.specs.declared.reason.Reason.{Reason as ScriptReason}
+use Rattle.lin_values.specs.Coded.{CodedData}
+use Rattle.lin_live.specs.Answers.{AnswersAreTheLog, AnswersAreWritten, KeepsLog, answers, answers_text}
+use Rattle.lin_live.specs.Asked.{◌>>=◌, question}
+use Rattle.lin_live.specs.Heard.{heard_in, of_script}
+use Rattle.lin_live.specs.Marking.{Marked, back_name, has_first_word, bench_at, mark_name}
+use Rattle.lin_live.specs.declared.question.Question.{Question}
+use Rattle.lin_live.specs.Told.{HandData, answer_text, gone_back, line_answer, heard_as, shown_coding, heard_answer, without_byte_order_mark}
 use Rattle.lin_bench.specs.Strict.{entries_since}
-use Rattle.lin_live.specs.Transcript.{short}
+use Rattle.lin_live.specs.Transcript.{most_bytes, short}
 use Rattle.lin_live.specs.declared.heard.Heard.{Heard}
-use Rattle.lin_live.specs.declared.heard.Heard.TheVariants.{Ask, Make}
+use Rattle.lin_live.specs.declared.heard.Heard.TheVariants.{Ask, GoBack, Make, SetMark}
 use Rattle.lin_live.specs.declared.reason.Reason.{Reason}
 
 -- a history that others lead to
@@ -103,21 +113,81 @@ since past later g =
     g.1 ∙ ap (λ l. reverse past ++ l)
     (sym (drop-append_seam (reverse past) g.0) ∙ ap (λ n. drop n (reverse past ++ g.0)) (length-reverse past) ∙ ap (drop (length past)) (sym g.1))
 
-told-grown : (h : HandData) (said : Result (Option Heard) Reason) → reverse (heard_answer h said).0.bench.past ≡ reverse h.bench.past ++ (heard_answer h said).1.entries
-told-grown h (Err why) = sym (append-nil (reverse h.bench.past))
-told-grown h (Ok None) = sym (append-nil (reverse h.bench.past))
-told-grown h (Ok (Some (Ask asked))) = sym (append-nil (reverse h.bench.past))
-told-grown h (Ok (Some (Make line))) =
+-- what was heard doesn't go back to a mark
+abbrev pub IsForward : Result (Option Heard) Reason → Type 0
+IsForward (Ok (Some (GoBack name))) = ⊥
+IsForward said = Unit {0}
+
+script-forward : (r : Result (Option ScriptLine) ScriptReason) → IsForward (of_script r)
+script-forward (Ok None) = tt
+script-forward (Ok (Some line)) = tt
+script-forward (Err why) = tt
+
+question-forward : (r : Result Question Reason) → IsForward (r >>= (λ asked. Ok (Some (Ask asked))))
+question-forward (Ok asked) = tt
+question-forward (Err why) = tt
+
+mark-forward : (r : Result (List ℕ) Reason) → IsForward (r >>= (λ name. Ok (Some (SetMark name))))
+mark-forward (Ok name) = tt
+mark-forward (Err why) = tt
+
+fields-forward : (c : Parts) (k : Option CodedData) (line : List ℕ) (fs : List (List ℕ)) → has_first_word (codes "back") fs ≡ false → IsForward (heard_in c k line fs)
+fields-forward c k line [] h = script-forward (read_worded_line c k line)
+fields-forward c k line (w ∷ fs) h =
+    let own : Result (Option Heard) Reason = of_script (read_worded_line c k line) in
+    let back : Result (Option Heard) Reason = back_name fs >>= (λ name. Ok (Some (GoBack name))) in
+    let mark : Result (Option Heard) Reason = mark_name fs >>= (λ name. Ok (Some (SetMark name))) in
+    let rest : IsForward (if bytes_eq w (codes "back") then back else own) = rw h (script-forward (read_worded_line c k line)) in
+    elim (bytes_eq w (codes "?")) as (λ t. IsForward (if t then question c fs >>= (λ asked. Ok (Some (Ask asked))) else (if bytes_eq w (codes "mark") then mark else (if bytes_eq w (codes "back") then back else own)))) [
+      | true ↦ question-forward (question c fs)
+      | false ↦
+          elim (bytes_eq w (codes "mark")) as (λ t. IsForward (if t then mark else (if bytes_eq w (codes "back") then back else own))) [
+            | true ↦ mark-forward (mark_name fs)
+            | false ↦ rest
+          ]
+    ]
+
+-- a line that goes on says so
+pub line-forward : (h : HandData) (line : List ℕ) → KeepsLog line → IsForward (heard_as h.cluster h.coded (without_byte_order_mark h (short line)))
+line-forward h line g =
+    let c = h.cluster in
+    let k = h.coded in
+    elim (nat_le (length line) most_bytes) as (λ t. IsForward (heard_as c k (without_byte_order_mark h (if t then Some line else None)))) [
+      | true ↦
+          elim h.begun as (λ t. IsForward (heard_as c k (if t then Some line else option_map without_mark (Some line)))) [
+            | true ↦ fields-forward c k line (line_fields line) g.all
+            | false ↦ fields-forward c k (without_mark line) (line_fields (without_mark line)) g.rest
+          ]
+      | false ↦
+          elim h.begun as (λ t. IsForward (heard_as c k (if t then None else option_map without_mark None))) [
+            | true ↦ tt
+            | false ↦ tt
+          ]
+    ]
+
+told-grown : (h : HandData) (said : Result (Option Heard) Reason) → IsForward said
+    → reverse (heard_answer h said).0.bench.past ≡ reverse h.bench.past ++ (heard_answer h said).1.entries
+told-grown h (Err why) f = sym (append-nil (reverse h.bench.past))
+told-grown h (Ok None) f = sym (append-nil (reverse h.bench.past))
+told-grown h (Ok (Some (Ask asked))) f = sym (append-nil (reverse h.bench.past))
+told-grown h (Ok (Some (SetMark name))) f = sym (append-nil (reverse h.bench.past))
+told-grown h (Ok (Some (GoBack name))) f = absurd f
+told-grown h (Ok (Some (Make line))) f =
     since h.bench.past (made h.cluster h.opening h.capacity h.bench line).0.past (grown-made h.cluster h.opening h.capacity h.bench line)
 
 pub answers-are-the-log : AnswersAreTheLog
-answers-are-the-log h [] = sym (append-nil (reverse h.bench.past))
-answers-are-the-log h (line ∷ more) =
+answers-are-the-log h [] on = sym (append-nil (reverse h.bench.past))
+answers-are-the-log h (line ∷ more) (on, rest-on) =
     let a = line_answer h (short line) in
     let rest = flat_map (λ b. b.entries) (answers a.0 more) in
-    answers-are-the-log a.0 more
-    ∙ ap (λ l. l ++ rest) (told-grown (record h { begun = true }) (heard_as h.cluster h.coded (without_byte_order_mark h (short line))))
+    answers-are-the-log a.0 more rest-on
+    ∙ ap (λ l. l ++ rest) (told-grown (record h { begun = true }) (heard_as h.cluster h.coded (without_byte_order_mark h (short line))) (line-forward h line on))
     ∙ append_assoc (reverse h.bench.past) a.1.entries rest
+
+back-kept : (h : HandData) (name : List ℕ) (at : Option (BenchState × List Marked))
+    → let t = (gone_back h name at).0 in (t.format ≡ h.format) × (t.cluster ≡ h.cluster) × (t.coded ≡ h.coded) × (t.is_physical ≡ h.is_physical)
+back-kept h name None = (refl, refl, refl, refl)
+back-kept h name (Some at) = (refl, refl, refl, refl)
 
 -- an answer changes neither how entries are told, nor the cluster, nor what signals mean
 pub told-kept : (h : HandData) (said : Result (Option Heard) Reason)
@@ -125,6 +195,8 @@ pub told-kept : (h : HandData) (said : Result (Option Heard) Reason)
 told-kept h (Err why) = (refl, refl, refl, refl)
 told-kept h (Ok None) = (refl, refl, refl, refl)
 told-kept h (Ok (Some (Ask asked))) = (refl, refl, refl, refl)
+told-kept h (Ok (Some (SetMark name))) = (refl, refl, refl, refl)
+told-kept h (Ok (Some (GoBack name))) = back-kept h name (bench_at h.marks name)
 told-kept h (Ok (Some (Make line))) = (refl, refl, refl, refl)
 
 shown-by : (a h : HandData) → a.coded ≡ h.coded → a.is_physical ≡ h.is_physical → shown_coding a ≡ shown_coding h
@@ -135,15 +207,15 @@ past-grown past later es e =
     sym (reverse-reverse later) ∙ ap reverse e ∙ reverse-append (reverse past) es ∙ ap (λ l. reverse es ++ l) (reverse-reverse past)
 
 pub answers-are-written : AnswersAreWritten
-answers-are-written h [] = refl
-answers-are-written h (line ∷ more) =
+answers-are-written h [] on = refl
+answers-are-written h (line ∷ more) (on, rest-on) =
     let said = heard_as h.cluster h.coded (without_byte_order_mark h (short line)) in
     let b = record h { begun = true } in
     let a = heard_answer b said in
     let same = told-kept b said in
-    let past = past-grown h.bench.past a.0.bench.past a.1.entries (told-grown b said) in
+    let past = past-grown h.bench.past a.0.bench.past a.1.entries (told-grown b said (line-forward h line on)) in
     ap (λ l. answer_text h a.1 ++ l)
-    (answers-are-written a.0 more
+    (answers-are-written a.0 more rest-on
     ∙ ap (λ f. answers_text f a.0.cluster (shown_coding a.0) a.0.bench.past (answers a.0 more)) same.0
     ∙ ap (λ c. answers_text h.format c (shown_coding a.0) a.0.bench.past (answers a.0 more)) same.1
     ∙ ap (λ k. answers_text h.format h.cluster k a.0.bench.past (answers a.0 more)) (shown-by a.0 h same.2 same.3)

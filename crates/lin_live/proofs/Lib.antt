@@ -8,4 +8,7 @@ mod Gaps
 mod LastObjects
 mod LinesTold
 mod Replying
+mod HeldBack
+mod HeldMarks
+mod Returning
 pub mod Plays

@@ -1,5 +1,5 @@
 -- What is told of a line that was made.
-use Rattle.std.proofs.Common.{◌≡◌, ◌≤◌, ◌<◌, ◌-◌, ◌^◌, ◌∙◌, ◌++◌, ◌||◌, ℕ, Err, List, None, Ok, Option, Result, Some, ap, arith, drop, length, refl, reverse, subst, sym, take}
+use Rattle.std.proofs.Common.{◌≡◌, ◌≤◌, ◌<◌, ◌-◌, ◌^◌, ◌∙◌, ◌++◌, ◌||◌, ℕ, Err, List, [], None, Ok, Option, Result, Some, ap, arith, drop, length, refl, reverse, subst, sym, take}
 use Rattle.std.specs.Prelude.{Box, IfSome}
 use Rattle.std.specs.Global.{Global}
 use Rattle.std.proofs.lemmas.List.{length-append, length-reverse, reverse-reverse, take-append-le}
@@ -19,7 +19,7 @@ use Rattle.lin_bench.specs.Made.{BenchState}
 use Rattle.lin_bench.specs.declared.got.Verdict.{Verdict}
 use Rattle.lin_bench.specs.declared.line.ScriptLine.{ScriptLine}
 use Rattle.lin_values.specs.Coded.{CodedData}
-use Rattle.lin_live.specs.Hand.{IsBoxedTrackOf, IsFollowed, IsKept, earlier, entries_from, fault_of, hand_data, hash_line_ending, line_text}
+use Rattle.lin_live.specs.Held.{IsBoxedTrackOf, IsFollowed, IsKept, earlier, entries_from, fault_of, held_data, hash_line_ending, line_text}
 use Rattle.lin_text.specs.Written.{WritesText}
 use Rattle.lin_live.specs.Serving.{WritesAlone, WritesAnswer}
 use Rattle.lin_live.specs.Told.{HandData, Is, after_line, ending_text, entries_text, hash_ending, last_line, object_ending, verdict_with_meaning, is_limit, is_unmet_verdict, shown_coding, verdict_ending, written}
@@ -28,8 +28,8 @@ use Rattle.lin_live.specs.declared.answer_value.AnswerValue.{AnswerValue}
 use Rattle.lin_live.specs.declared.answer_format.AnswerFormat.TheVariants.{Log, Named, Jsonl}
 use Rattle.lin_live.specs.declared.fault.Fault.{Fault}
 use Rattle.lin_live.specs.declared.fault.Fault.TheVariants.{LogFull, OutOfMemory, ReadFailed, WriteFailed}
-use Rattle.lin_live.specs.declared.hand.Hand.TheInside.{Inside}
-use Rattle.lin_live.specs.declared.hand.KeptTracks.{KeptTracks}
+use Rattle.lin_live.specs.declared.held.HeldBench.TheInside.{Inside}
+use Rattle.lin_live.specs.declared.held.KeptTracks.{KeptTracks}
 use Rattle.lin_live.proofs.Growth.{Grown, grown-made}
 
 -- the answer to a line that was made, and the session
@@ -62,6 +62,7 @@ made_hand a new v = record {
   coded = a.coded;
   is_physical = a.is_physical;
   bench = state_of (with_all_slots new);
+  marks = [];
   begun = a.begun;
   was_bad = a.was_bad || is_limit v;
   was_unmet = a.was_unmet || is_unmet_verdict v;
@@ -126,16 +127,16 @@ slot-there a before new line v o is makes same h =
     (subst (λ (l : List LogEntry). IfSome o (IsKeptOf a.bench.core.cluster l)) (sym log) old)
 
 same-core : (a : Inside) (new : BenchData) (v : Verdict) → new.core.cluster ≡ a.bench.core.cluster → new.core.opening ≡ a.bench.core.opening
-    → new.core.capacity ≡ a.bench.core.capacity → made_hand a new v ≡ (after_line (hand_data a) (state_of new, v)).0
+    → new.core.capacity ≡ a.bench.core.capacity → made_hand a new v ≡ (after_line (held_data a) (state_of new, v)).0
 same-core a new v e f g = rw (e, f, g) refl
 
 -- the line is told from the next entry of the log on
 pub line-told-so : (a : Inside) (before new : BenchData) (line : ScriptLine) (v w : Verdict) (from : ℕ) (u : HandData)
     → before ≡ with_all_slots a.bench → MakesLine before line (Ok v) new → from ≡ length a.bench.core.log → u ≡ made_hand a new v
     → w ≡ verdict_with_meaning a.coded v
-    → telling u from w ≡ written (hand_data a) (after_line (hand_data a) (made_on (with_all_slots a.bench) line))
+    → telling u from w ≡ written (held_data a) (after_line (held_data a) (made_on (with_all_slots a.bench) line))
 line-told-so a before new line v w from u is makes is_from is_u is_w =
-    let h = hand_data a in
+    let h = held_data a in
     let m = made_on (with_all_slots a.bench) line in
     let all = line-made a before new line v is makes in
     let alike = makes.1 in
@@ -193,7 +194,7 @@ failed-alone p full t old new wrote result ReadFailed w e r = absurd (rw e at w)
 -- a bench that couldn't make a line
 pub not-made : (a : Inside) (before new : BenchData) (line : ScriptLine) (fault : MakeFault) (t : HandData) (old : Option (List ℕ)) (result : Result Unit Fault)
     → before ≡ with_all_slots a.bench → MakeFails fault (made_on before line).0 → result ≡ Err (fault_of fault)
-    → WritesAnswer (written (hand_data a) (after_line (hand_data a) (made_on (with_all_slots a.bench) line))) (2 ^ 32 - 1 < length (made_on (with_all_slots a.bench) line).0.past) t old old result
+    → WritesAnswer (written (held_data a) (after_line (held_data a) (made_on (with_all_slots a.bench) line))) (2 ^ 32 - 1 < length (made_on (with_all_slots a.bench) line).0.past) t old old result
 not-made a before new line makes.LogFull t old result is fails r = rw r (appends-nothing old, rw is at fails)
 not-made a before new line makes.OutOfMemory t old result is fails r = rw r (appends-nothing old)
 

@@ -1,5 +1,6 @@
 -- Lines in hand come to what a play of them comes to.
-use Rattle.std.proofs.Common.{◌≡◌, ◌∙◌, ℕ, ◌≤◌, ◌+◌, Bool, true, false, ◌||◌, nat_le, nat_lt, List, [], ◌∷◌, ◌++◌, Option, Some, None, Result, Ok, Err, refl, sym, ap, arith, length, map, if◌then◌else◌}
+use Rattle.std.proofs.Common.{◌≡◌, ◌∙◌, ℕ, ◌≤◌, ◌+◌, Bool, true, false, ◌||◌, nat_le, nat_lt, List, [], ◌∷◌, ◌++◌, Option, Some, None, Result, Ok, Err, refl, sym, ap, arith, length, map, if◌then◌else◌, codes}
+use Rattle.std.specs.Str.{bytes_eq}
 use Rattle.std.proofs.lemmas.Grind.{common_steps}
 use Rattle.std.specs.List.{AllByRecursion}
 use Rattle.std.proofs.lemmas.List.Folds.{list_any-append}
@@ -26,7 +27,7 @@ use Rattle.lin_live.specs.Told.{HandData, after_line, is_limit, is_unmet_verdict
 use Rattle.lin_live.specs.Transcript.{state_after, most_bytes, short}
 use Rattle.lin_bench.proofs.Runs.{told-bench}
 use Rattle.lin_live.specs.declared.answer_format.AnswerFormat.{AnswerFormat}
-use Rattle.lin_live.specs.Play.{IsPlain, LiveIsPlay, is_question}
+use Rattle.lin_live.specs.Play.{IsPlain, LiveIsPlay, is_of_live}
 
 -- ---- a bench with room for more slots
 abbrev pub Alike : BenchState × Verdict → BenchState × Verdict → Type 0
@@ -151,6 +152,7 @@ hand_with f coded physical c opening capacity b bad unmet = record {
   coded = coded;
   is_physical = physical;
   bench = record b { left = slot_limit };
+  marks = [];
   begun = true;
   was_bad = bad;
   was_unmet = unmet;
@@ -191,13 +193,21 @@ line-less c opening capacity b s l le h =
 short-line : (line : List ℕ) → length line ≤ most_bytes → short line ≡ Some line
 short-line line h = let e : nat_le (length line) most_bytes ≡ true = grind (arith, common_steps) in rw e refl
 
-heard-plain : (c : Parts) (coded : Option CodedData) (line : List ℕ) (fs : List (List ℕ)) → is_question fs ≡ false
+none-of : (a b d : Bool) → (a || (b || d)) ≡ false → (a ≡ false) × (b ≡ false) × (d ≡ false)
+none-of false false false h = (refl, refl, refl)
+none-of true b d h = absurd (cc)
+none-of false true d h = absurd (cc)
+none-of false false true h = absurd (cc)
+
+heard-plain : (c : Parts) (coded : Option CodedData) (line : List ℕ) (fs : List (List ℕ)) → is_of_live fs ≡ false
     → heard_in c coded line fs ≡ of_script (read_worded_line c coded line)
 heard-plain c coded line [] h = refl
-heard-plain c coded line (w ∷ fs) h = rw h refl
+heard-plain c coded line (w ∷ fs) h =
+    let p = none-of (bytes_eq w (codes "?")) (bytes_eq w (codes "mark")) (bytes_eq w (codes "back")) h in
+    rw (p.0, p.1, p.2) refl
 
 answer-of : (f : AnswerFormat) (coded : Option CodedData) (physical : Bool) (c : Parts) (opening capacity : ℕ) (b : BenchState) (unmet : Bool) (line : List ℕ) (said : Result (Option ScriptLine) Reason)
-    → (length line ≤ most_bytes) × (is_question (line_fields line) ≡ false) → read_worded_line c coded line ≡ said
+    → (length line ≤ most_bytes) × (is_of_live (line_fields line) ≡ false) → read_worded_line c coded line ≡ said
     → (reply (hand_of f coded physical c opening capacity b unmet) (short line)).0 ≡ (heard_answer (hand_of f coded physical c opening capacity b unmet) (of_script said)).0
 answer-of f coded physical c opening capacity b unmet line said plain e =
     let h = hand_of f coded physical c opening capacity b unmet in

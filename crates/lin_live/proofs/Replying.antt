@@ -1,16 +1,14 @@
 -- The reply to a line, by what it says.
-use Rattle.std.proofs.Common.{◌≡◌, ◌∙◌, ◌<◌, ◌-◌, ◌^◌, ◌++◌, ℕ, true, List, [], Option, Result, Ok, Err, ap, length, refl, subst, sym}
+use Rattle.std.proofs.Common.{◌≡◌, ◌<◌, ◌-◌, ◌^◌, ◌++◌, ℕ, true, List, [], Option, Result, Ok, Err, ap, length, refl, subst, sym}
 use Rattle.lin_parts.specs.declared.parts.Parts.{Parts}
 use Rattle.lin_core.specs.declared.log.LogEntry.{LogEntry}
 use Rattle.lin_values.specs.Coded.{CodedData}
-use Rattle.lin_live.specs.Hand.{hand_data}
 use Rattle.lin_live.specs.Serving.{Replies, WritesAnswer}
 use Rattle.lin_live.specs.Told.{Ending, HandData, IsFull, ending_text, entries_text, heard_as, reply, answer_without_step, shown_coding, heard_answer, without_byte_order_mark, written}
 use Rattle.lin_live.specs.declared.answer_format.AnswerFormat.{AnswerFormat}
 use Rattle.lin_live.specs.declared.answer_format.AnswerFormat.TheVariants.{Log, Named, Jsonl}
 use Rattle.lin_live.specs.declared.fault.Fault.{Fault}
 use Rattle.lin_live.specs.declared.fault.Fault.TheVariants.{LogFull, OutOfMemory, ReadFailed, WriteFailed}
-use Rattle.lin_live.specs.declared.hand.Hand.TheInside.{Inside}
 use Rattle.lin_live.specs.declared.heard.Heard.{Heard}
 use Rattle.lin_live.specs.declared.reason.Reason.{Reason}
 
@@ -35,18 +33,17 @@ tells-ending h u ending full t old new result k =
     subst (λ l. WritesAnswer (u, l ++ ending_text h ending) full t old new result) (sym (none-told h.format h.cluster (shown_coding h) h.bench.past)) k
 
 -- a bench in hand to which there was a line
-abbrev pub begun_data : Inside → HandData
-begun_data a = record (hand_data a) { begun = true }
+abbrev pub begun_of : HandData → HandData
+begun_of h = record h { begun = true }
 
--- telling what a line says, which is this
-pub replies-so : (a : Inside) (s : HandData) (line heard : Option (List ℕ)) (said : Result (Option Heard) Reason)
+-- telling what a line says, which is this, after it was heard
+pub replies-so : (h b : HandData) (line : Option (List ℕ)) (said : Result (Option Heard) Reason)
     (t : HandData) (old new : Option (List ℕ)) (result : Result Unit Fault)
-    → hand_data a ≡ s → heard ≡ without_byte_order_mark s line → heard_as a.bench.core.cluster a.coded heard ≡ said
-    → WritesAnswer (written (begun_data a) (heard_answer (begun_data a) said)) (2 ^ 32 - 1 < length (heard_answer (begun_data a) said).0.bench.past) t old new result
-    → Replies reply IsFull s t old new line result
-replies-so a s line heard said t old new result is_a is_heard is_said h =
-    let here : heard ≡ without_byte_order_mark (hand_data a) line = is_heard ∙ ap (λ v. without_byte_order_mark v line) (sym is_a) in
-    let is : reply (hand_data a) line ≡ written (begun_data a) (heard_answer (begun_data a) said) =
-    ap (λ r. written (begun_data a) (heard_answer (begun_data a) r)) (ap (heard_as a.bench.core.cluster a.coded) (sym here) ∙ is_said) in
-    subst (λ v. Replies reply IsFull v t old new line result) is_a
-    (subst (λ (p : HandData × List ℕ). WritesAnswer p (2 ^ 32 - 1 < length p.0.bench.past) t old new result) (sym is) h)
+    → b ≡ begun_of h → heard_as h.cluster h.coded (without_byte_order_mark h line) ≡ said
+    → WritesAnswer (written b (heard_answer b said)) (2 ^ 32 - 1 < length (heard_answer b said).0.bench.past) t old new result
+    → Replies reply IsFull h t old new line result
+replies-so h b line said t old new result is_b is_said k =
+    let is : reply h line ≡ written (begun_of h) (heard_answer (begun_of h) said) =
+    ap (λ r. written (begun_of h) (heard_answer (begun_of h) r)) is_said in
+    subst (λ (p : HandData × List ℕ). WritesAnswer p (2 ^ 32 - 1 < length p.0.bench.past) t old new result) (sym is)
+    (subst (λ (x : HandData). WritesAnswer (written x (heard_answer x said)) (2 ^ 32 - 1 < length (heard_answer x said).0.bench.past) t old new result) is_b k)

@@ -1,5 +1,9 @@
 -- The answers to lines: what they tell, together, and how they are written.
-use Rattle.std.specs.Prelude.{◌≡◌, ℕ, List, [], ◌∷◌, ◌++◌, flat_map, reverse, Option}
+use Rattle.std.specs.Prelude.{◌≡◌, ℕ, false, List, [], ◌∷◌, ◌++◌, codes, flat_map, reverse, Option}
+use Rattle.std.specs.List.{AllByRecursion}
+use Rattle.lin_bench.specs.Fields.{line_fields}
+use Rattle.lin_bench.specs.Scripts.{without_mark}
+use Rattle.lin_live.specs.Marking.{has_first_word}
 use Rattle.lin_parts.specs.declared.parts.Parts.{Parts}
 use Rattle.lin_values.specs.Coded.{CodedData}
 use Rattle.lin_core.specs.declared.log.LogEntry.{LogEntry}
@@ -12,9 +16,15 @@ abbrev pub answers : HandData → List (List ℕ) → List Answer
 answers h [] = []
 answers h (line ∷ more) = (line_answer h (short line)).1 ∷ answers (line_answer h (short line)).0 more
 
--- the entries that the answers tell are those by which the log has grown, in order
+-- a line that doesn't go back to a mark, with and without a byte order mark at its beginning
+pub record KeepsLog (line : List ℕ) : Type 0 where
+  pub all : has_first_word (codes "back") (line_fields line) ≡ false
+  pub rest : has_first_word (codes "back") (line_fields (without_mark line)) ≡ false
+
+-- the entries that the answers tell are those by which the log has grown, in order, if no line goes back
+-- to a mark
 abbrev pub AnswersAreTheLog : Type 0
-AnswersAreTheLog = (h : HandData) (ls : List (List ℕ))
+AnswersAreTheLog = (h : HandData) (ls : List (List ℕ)) → AllByRecursion KeepsLog ls
     → reverse (state_after reply h ls).bench.past
     ≡ reverse h.bench.past ++ flat_map (λ a. a.entries) (answers h ls)
 
@@ -25,7 +35,8 @@ answers_text f c k past (a ∷ more) =
     (entries_text f c k past a.entries ++ last_line f c k a.ending)
     ++ answers_text f c k (reverse a.entries ++ past) more
 
--- a transcript has nothing but the texts of entries, and a last line for each line
+-- a transcript has nothing but the texts of entries, and a last line for each line, if none goes back to a
+-- mark
 abbrev pub AnswersAreWritten : Type 0
-AnswersAreWritten = (h : HandData) (ls : List (List ℕ))
+AnswersAreWritten = (h : HandData) (ls : List (List ℕ)) → AllByRecursion KeepsLog ls
     → transcript reply h ls ≡ answers_text h.format h.cluster (shown_coding h) h.bench.past (answers h ls)

@@ -1,99 +1,94 @@
--- What contracts see of a bench in hand.
-use Rattle.std.specs.Prelude.{◌≡◌, ◌++◌, ℕ, Box, Bool, false, List, IfSome, Option, drop, reverse, take}
-use Rattle.std.specs.Global.{Global}
-use Rattle.lin_values.specs.Coded.{CodedData}
-use Rattle.lin_core.specs.Core.{CoreData}
+-- What contracts see of a session and its marks.
+use Rattle.std.specs.Prelude.{◌≡◌, ◌≤◌, ◌<◌, false, IfSome, ℕ, List, [], ◌∷◌, ◌++◌, filter, length, map, not, option_map, reverse, Option, Some, None, Result, Err}
+use Rattle.std.specs.Global.{Vec}
+use Rattle.std.specs.List.{All, AllPairs}
+use Rattle.std.specs.Str.{bytes_eq}
 use Rattle.lin_core.specs.declared.log.LogEntry.{LogEntry}
-use Rattle.lin_bench.specs.Bench.{new_bench, with_all_slots, state_of}
-use Rattle.lin_bench.specs.declared.fault.MakeFault.{MakeFault}
-use Rattle.lin_bench.specs.declared.fault.MakeFault.TheVariants as makes
-use Rattle.lin_bench.specs.declared.got.Verdict.{Verdict}
-use Rattle.lin_export.specs.Jsonl.{IsObjectTrackOf, ObjectTrackData}
-use Rattle.lin_export.specs.LastSlot.{IsKeptOf}
-use Rattle.lin_export.specs.Track.{track_of}
-use Rattle.lin_live.specs.Told.{Ending, Failed, Fine, Limit, Refused}
-use Rattle.lin_live.specs.Told.{HandData, ending_text, entries_text, hash_ending, shown_coding, verdict_ending}
-use Rattle.lin_live.specs.declared.answer_format.AnswerFormat.{AnswerFormat}
-use Rattle.lin_live.specs.declared.answer_objects.LineEnding.{LineEnding}
-use Rattle.lin_live.specs.declared.answer_objects.LineEnding.TheVariants as code
-use Rattle.lin_live.specs.declared.fault.Fault.{Fault}
-use Rattle.lin_live.specs.declared.fault.Fault.TheVariants.{LogFull, OutOfMemory}
-use Rattle.lin_live.specs.declared.hand.Hand.TheInside.{Inside}
-use Rattle.lin_live.specs.declared.hand.KeptTracks.{KeptTracks}
 use Rattle.lin_parts.specs.declared.parts.Parts.{Parts}
+use Rattle.lin_bench.specs.Marks.{IsMarkOf, state_at}
+use Rattle.lin_export.specs.declared.jsonl.Opening.{Opening}
+use Rattle.lin_live.specs.Held.{new_hand}
+use Rattle.lin_live.specs.Marking.{Marked, bench_at_place}
+use Rattle.lin_live.specs.Told.{HandData, gone_back}
+use Rattle.lin_live.specs.declared.answer_format.AnswerFormat.TheVariants.{Log}
+use Rattle.lin_live.specs.declared.reason.LineFault.{LineFault}
+use Rattle.lin_live.specs.declared.reason.LineFault.TheVariants.{OutOfMemory}
+use Rattle.lin_live.specs.declared.hand.NamedMark.{NamedMark}
+use Rattle.lin_live.specs.declared.hand.Hand.TheInside.{Inside}
+
+-- a mark of a log
+abbrev pub as_marked : List LogEntry → NamedMark → Marked
+as_marked log m = record { name = m.name; bench = state_at log m.at }
+
+-- the marks of a log; none where they aren't known
+abbrev pub marks_of : List LogEntry → Option (List NamedMark) → List Marked
+marks_of log None = []
+marks_of log (Some ms) = map (as_marked log) ms
+
+-- a session with its marks
+abbrev pub with_marks : HandData → Option (List NamedMark) → HandData
+with_marks h ms = record h { marks = marks_of (reverse h.bench.past) ms }
+
+-- the cluster of a session whose bench was dropped
+abbrev pub no_cluster : Parts
+no_cluster = record {
+  nodes = [];
+  signals = [];
+  frames = [];
+  sporadic = [];
+  events = [];
+  tables = [];
+  errors = [];
+  identities = [];
+  speed = 0;
+  jitter_us = 0;
+  base_us = 0;
+}
+
+abbrev pub held_of : Option HandData → HandData
+held_of None = new_hand Log None false no_cluster 0 0
+held_of (Some h) = h
+
+abbrev pub mark_items : Option (Vec NamedMark) → Option (List NamedMark)
+mark_items marks = option_map (λ ms. ms.items) marks
 
 abbrev pub hand_data : Inside → HandData
-hand_data a = record {
-  format = a.format;
-  cluster = a.bench.core.cluster;
-  opening = a.bench.core.opening;
-  capacity = a.bench.core.capacity;
-  coded = a.coded;
-  is_physical = a.is_physical;
-  bench = state_of (with_all_slots a.bench);
-  begun = a.begun;
-  was_bad = a.was_bad;
-  was_unmet = a.was_unmet;
-}
+hand_data a = with_marks (held_of a.held) (mark_items a.marks)
 
--- a history as it was when it had this many entries
-abbrev pub earlier : ℕ → List LogEntry → List LogEntry
-earlier count past = reverse (take count (reverse past))
+-- the core of a session was opened so
+pub record IsOpening (o : Opening) (h : HandData) : Type 0 where
+  pub table : o.table ≡ h.opening
+  pub capacity : o.capacity ≡ h.capacity
+  pub tables : o.table < length h.cluster.tables
+  pub some : 1 ≤ o.capacity
+  pub few : o.capacity ≤ 1024
 
--- the last line of the answer to a line that was made, whose entries are those of a core's log from one on
-abbrev pub hash_line_ending : CoreData → ℕ → Option CodedData → Verdict → List ℕ
-hash_line_ending core from k verdict =
-    hash_ending core.cluster k (verdict_ending core.cluster verdict (drop from core.log))
+-- a mark is of no more entries than another
+abbrev pub IsNoLater : NamedMark → NamedMark → Type 0
+IsNoLater m other = m.at.entries ≤ other.at.entries
 
--- how a line ends; the texts of a failed check have a space before them
-abbrev pub ending_of : LineEnding → Ending
-ending_of code.Fine = Fine
-ending_of code.Limit = Limit
-ending_of (code.Failed what got) = Failed (drop 1 what.items) (drop 1 got.items)
-ending_of (code.Refused why) = Refused why
+-- the marks are of the log of a session, whose core was opened so, and none is of fewer entries than one
+-- before it
+pub record AreItsMarks (o : Opening) (h : HandData) (ms : List NamedMark) : Type 0 where
+  pub opening : IsOpening o h
+  pub marks : All (λ m. IsMarkOf (reverse h.bench.past) m.at) ms
+  pub order : AllPairs IsNoLater ms
 
--- the entries of a session's log from one on, in a format
-abbrev pub entries_from : AnswerFormat → HandData → ℕ → List ℕ
-entries_from f h from =
-    entries_text f h.cluster (shown_coding h) (earlier from h.bench.past) (drop from (reverse h.bench.past))
+abbrev pub HasItsMarks : Inside → Type 0
+HasItsMarks a = IfSome a.held (λ h. IfSome (mark_items a.marks) (AreItsMarks a.opening h))
 
--- the answer to a line that was made, whose entries are those of a session's log from one on
-abbrev pub line_text : HandData → ℕ → Verdict → List ℕ
-line_text h from verdict =
-    entries_from h.format h from
-    ++ ending_text h (verdict_ending h.cluster verdict (drop from (reverse h.bench.past)))
+-- the marks with other names than one
+abbrev pub other_marks : List NamedMark → NamedMark → List NamedMark
+other_marks ms m = filter (λ k. not (bytes_eq k.name m.name)) ms
 
--- the track in a box is that of a history
-abbrev pub IsBoxedTrackOf : Parts → List LogEntry → Box ObjectTrackData Global → Type 0
-IsBoxedTrackOf c past b = IsObjectTrackOf c past b.value
+abbrev pub with_named : List NamedMark → NamedMark → List NamedMark
+with_named ms m = other_marks ms m ++ m ∷ []
 
--- the tracks for writing further entries, if they are at hand, are those of a history
-pub record IsKept (c : Parts) (past : List LogEntry) (kept : KeptTracks) : Type 0 where
-  pub track : IfSome kept.track (λ t. t ≡ track_of c past)
-  pub objects : IfSome kept.objects (IsBoxedTrackOf c past)
+-- a session that has gone back to the mark at a place
+abbrev pub gone_to : HandData → ℕ → HandData
+gone_to h i = (gone_back h [] (bench_at_place h.marks i)).0
 
--- the tracks, if they are at hand, are those of the whole log, and the slot that ended last is kept of a
--- beginning of the log
-pub record IsFollowed (a : Inside) : Type 0 where
-  pub track : IfSome a.track (λ t. t ≡ track_of a.bench.core.cluster (reverse a.bench.core.log))
-  pub objects : IfSome a.objects (IsBoxedTrackOf a.bench.core.cluster (reverse a.bench.core.log))
-  pub slot : IfSome a.last_slot (IsKeptOf a.bench.core.cluster a.bench.core.log)
-
--- a bench in hand on which no line was made
-abbrev pub new_hand : AnswerFormat → Option CodedData → Bool → CoreData → HandData
-new_hand format coded is_physical core = record {
-  format = format;
-  cluster = core.cluster;
-  opening = core.opening;
-  capacity = core.capacity;
-  coded = coded;
-  is_physical = is_physical;
-  bench = state_of (new_bench core);
-  begun = false;
-  was_bad = false;
-  was_unmet = false;
-}
-
-abbrev pub fault_of : MakeFault → Fault
-fault_of makes.LogFull = LogFull
-fault_of makes.OutOfMemory = OutOfMemory
+-- if there was memory for what a line says
+abbrev pub IfHeard : {X : Type 0} → Result X LineFault → Type 0 → Type 0
+IfHeard (Err OutOfMemory) Holds = Unit {0}
+IfHeard result Holds = Holds

@@ -9,8 +9,9 @@ use Rattle.lin_bench.specs.Words.{read_worded_line}
 use Rattle.lin_bench.specs.declared.line.ScriptLine.{ScriptLine}
 use Rattle.lin_bench.specs.declared.reason.Reason.{Reason as ScriptReason}
 use Rattle.lin_live.specs.Asked.{◌>>=◌, IsAskable, question}
+use Rattle.lin_live.specs.Marking.{back_name, mark_name}
 use Rattle.lin_live.specs.declared.heard.Heard.{Heard}
-use Rattle.lin_live.specs.declared.heard.Heard.TheVariants.{Ask, Make}
+use Rattle.lin_live.specs.declared.heard.Heard.TheVariants.{Ask, GoBack, Make, SetMark}
 use Rattle.lin_live.specs.declared.reason.Reason.{Reason}
 use Rattle.lin_live.specs.declared.reason.Reason.TheVariants.{Script}
 
@@ -19,12 +20,15 @@ of_script (Ok None) = Ok None
 of_script (Ok (Some line)) = Ok (Some (Make line))
 of_script (Err why) = Err (Script why)
 
--- by the first field, what is asked by those after a `?`, or what a bench script says
+-- by the first field, what is asked by those after a `?`, the mark that is set or gone back to, or what a
+-- bench script says
 abbrev pub heard_in : Parts → Option CodedData → List ℕ → List (List ℕ)
     → Result (Option Heard) Reason
 heard_in c k line [] = of_script (read_worded_line c k line)
 heard_in c k line (word ∷ fs) =
     if bytes_eq word (codes "?") then question c fs >>= (λ asked. Ok (Some (Ask asked)))
+    else if bytes_eq word (codes "mark") then mark_name fs >>= (λ name. Ok (Some (SetMark name)))
+    else if bytes_eq word (codes "back") then back_name fs >>= (λ name. Ok (Some (GoBack name)))
     else of_script (read_worded_line c k line)
 
 -- what a line says, nothing where it has no field or begins with `>`
@@ -34,4 +38,4 @@ line_heard c k line = heard_in c k line (line_fields line)
 -- a question is for what is there
 abbrev pub IsHeard : Parts → Heard → Type 0
 IsHeard c (Ask asked) = IsAskable c asked
-IsHeard c (Make line) = Unit {0}
+IsHeard c line = Unit {0}

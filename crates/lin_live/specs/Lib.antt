@@ -3,9 +3,12 @@ pub mod Transcript
 pub mod Begun
 pub mod Serving
 pub mod Asked
+pub mod Marking
 pub mod Heard
 pub mod Values
 pub mod Told
+pub mod Held
 pub mod Hand
 pub mod Answers
+pub mod GoingBack
 pub mod Play

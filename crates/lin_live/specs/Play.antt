@@ -1,8 +1,7 @@
 -- Lines in hand and bench scripts.
-use Rattle.std.specs.Prelude.{◌≡◌, ℕ, ◌≤◌, Bool, true, false, List, [], ◌∷◌, length, map, Ok, Option}
+use Rattle.std.specs.Prelude.{◌≡◌, ℕ, ◌≤◌, ◌||◌, Bool, true, false, List, [], length, map, Ok, Option}
 use Rattle.std.specs.Prelude.{codes}
 use Rattle.std.specs.List.{AllByRecursion}
-use Rattle.std.specs.Str.{bytes_eq}
 use Rattle.std.specs.Str.Lines.{strip_carriage_return}
 use Rattle.lin_parts.specs.declared.parts.Parts.{Parts}
 use Rattle.lin_bench.specs.Fields.{line_fields}
@@ -11,20 +10,22 @@ use Rattle.lin_bench.specs.Scripts.{read_lines}
 use Rattle.lin_bench.specs.Played.{Run, initial_bench, play_result, some_unmet}
 use Rattle.lin_bench.specs.Slots.{slot_limit}
 use Rattle.lin_bench.specs.declared.line.ScriptLine.{ScriptLine}
+use Rattle.lin_live.specs.Marking.{has_first_word}
 use Rattle.lin_live.specs.Told.{HandData, reply}
 use Rattle.lin_live.specs.Transcript.{state_after, most_bytes}
 use Rattle.lin_live.specs.declared.answer_format.AnswerFormat.{AnswerFormat}
 
--- whether fields are those of a question
-abbrev pub is_question : List (List ℕ) → Bool
-is_question [] = false
-is_question (word ∷ fs) = bytes_eq word (codes "?")
+-- whether fields are those of a line that bench scripts don't have
+abbrev pub is_of_live : List (List ℕ) → Bool
+is_of_live fs =
+    has_first_word (codes "?") fs || (has_first_word (codes "mark") fs || has_first_word (codes "back") fs)
 
--- a line that is no question and not too long, with its CR where it has one
+-- a line that is no question, sets no mark and goes back to none, and isn't too long, with its CR where it
+-- has one
 abbrev pub IsPlain : List ℕ → Type 0
 IsPlain line =
     (length (strip_carriage_return line) ≤ most_bytes)
-    × (is_question (line_fields (strip_carriage_return line)) ≡ false)
+    × (is_of_live (line_fields (strip_carriage_return line)) ≡ false)
 
 -- the bench in hand that a play has come to (a byte order mark would be a part of the next line)
 abbrev pub in_hand_of : AnswerFormat → Option CodedData → Bool → Parts → ℕ → ℕ → Run → HandData
@@ -36,6 +37,7 @@ in_hand_of format k is_physical c opening capacity run = record {
   coded = k;
   is_physical = is_physical;
   bench = record run.bench { left = slot_limit };
+  marks = [];
   begun = true;
   was_bad = false;
   was_unmet = some_unmet run.judgements;

@@ -8,7 +8,7 @@ use Rattle.lin_parts.specs.declared.parts.Parts.{Parts}
 use Rattle.lin_core.specs.Tables.{refusal_number, refusal_word}
 use Rattle.lin_core.specs.declared.log.LogEntry.{LogEntry}
 use Rattle.lin_core.specs.declared.reply.Refusal.{Refusal}
-use Rattle.lin_log.specs.CallerTexts.{seen_texts}
+use Rattle.lin_log.specs.CallerTexts.{seen_text, seen_texts}
 use Rattle.lin_log.specs.Words.{spaced_word, text}
 use Rattle.lin_export.specs.Csv.{after_comma}
 use Rattle.lin_export.specs.Json.{member, object_line, printable_text, quoted_text}
@@ -24,16 +24,18 @@ use Rattle.lin_bench.specs.Texts.{expected_text, got_text}
 use Rattle.lin_bench.specs.Texts.{reason_text as script_text, verdict_text}
 use Rattle.lin_bench.specs.declared.got.Verdict.{Verdict}
 use Rattle.lin_bench.specs.declared.got.Verdict.TheVariants.{Unmet, SlotLimit}
+use Rattle.lin_bench.specs.declared.line.ScriptLine.{ScriptLine}
 use Rattle.lin_live.specs.Heard.{line_heard}
+use Rattle.lin_live.specs.Marking.{Marked, bench_at, with_mark}
 use Rattle.lin_live.specs.Values.{Said, said, said_members, said_text}
 use Rattle.lin_live.specs.declared.answer_format.AnswerFormat.{AnswerFormat}
 use Rattle.lin_live.specs.declared.answer_format.AnswerFormat.TheVariants.{Log, Named, Jsonl}
 use Rattle.lin_live.specs.declared.heard.Heard.{Heard}
-use Rattle.lin_live.specs.declared.heard.Heard.TheVariants.{Ask, Make}
+use Rattle.lin_live.specs.declared.heard.Heard.TheVariants.{Ask, GoBack, Make, SetMark}
 use Rattle.lin_live.specs.declared.question.Question.{Question}
 use Rattle.lin_live.specs.declared.reason.Reason.{Reason}
 use Rattle.lin_live.specs.declared.reason.Reason.TheVariants.{Script, AskForm, UnknownQuestion}
-use Rattle.lin_live.specs.declared.reason.Reason.TheVariants.{TooLong}
+use Rattle.lin_live.specs.declared.reason.Reason.TheVariants.{BackForm, MarkForm, NoMark, NoName, StartMark, TooLong}
 
 -- ---- the last lines of answers
 abbrev pub hash_line : List ℕ → List ℕ
@@ -43,6 +45,11 @@ abbrev pub question_reason_text : Reason → List ℕ
 question_reason_text (Script why) = script_text why
 question_reason_text AskForm = codes "missing question after ?"
 question_reason_text (UnknownQuestion fields) = codes "unknown question " ++ seen_texts (codes " ") fields
+question_reason_text MarkForm = codes "usage: mark NAME"
+question_reason_text BackForm = codes "usage: back NAME"
+question_reason_text (NoName field) = codes "expected a name, not " ++ seen_text field
+question_reason_text StartMark = codes "start is the mark of the beginning"
+question_reason_text (NoMark name) = codes "unknown mark " ++ seen_text name
 question_reason_text TooLong = codes "the line has more than 16,777,216 bytes"
 
 -- how an answer ends: the line was bad, a question is answered, the line met the limit of slots, an
@@ -110,8 +117,8 @@ last_line Jsonl c k e = object_ending c k e
 last_line f c k e = hash_ending c k e
 
 -- ---- what is kept: how entries are told, what signals mean where that is known, whether values are
--- told as that too, a bench whose next line may make 1,000,000 slots, whether there was a line, whether
--- one was bad or met that limit, and whether an expectation wasn't met
+-- told as that too, a bench whose next line may make 1,000,000 slots, the marks, whether there was a line,
+-- whether one was bad or met that limit, and whether an expectation wasn't met
 pub record HandData : Type 0 where
   pub format : AnswerFormat
   pub cluster : Parts
@@ -120,6 +127,7 @@ pub record HandData : Type 0 where
   pub coded : Option CodedData
   pub is_physical : Bool
   pub bench : BenchState
+  pub marks : List Marked
   pub begun : Bool
   pub was_bad : Bool
   pub was_unmet : Bool
@@ -171,6 +179,11 @@ after_line h m =
       record { entries = es; ending = verdict_ending h.cluster (verdict_with_meaning h.coded m.1) es },
     )
 
+-- a mark is gone back to, with the bench at it and the marks that were set up to it, if there is one
+abbrev pub gone_back : HandData → List ℕ → Option (BenchState × List Marked) → HandData × Answer
+gone_back h name None = (record h { was_bad = true }, answer_without_step (Bad (NoMark name)))
+gone_back h name (Some at) = (record h { bench = at.0; marks = at.1 }, answer_without_step Fine)
+
 -- what something that was heard makes of what is kept, and the answer
 abbrev pub heard_answer : HandData → Result (Option Heard) Reason → HandData × Answer
 heard_answer h (Err why) =
@@ -178,6 +191,9 @@ heard_answer h (Err why) =
 heard_answer h (Ok None) = (h, answer_without_step Fine)
 heard_answer h (Ok (Some (Ask asked))) =
     (h, answer_without_step (Is (asked_value h asked)))
+heard_answer h (Ok (Some (SetMark name))) =
+    (record h { marks = with_mark h.marks name h.bench }, answer_without_step Fine)
+heard_answer h (Ok (Some (GoBack name))) = gone_back h name (bench_at h.marks name)
 heard_answer h (Ok (Some (Make line))) = after_line h (made h.cluster h.opening h.capacity h.bench line)
 
 -- what a line says, and none that is too long
@@ -211,6 +227,13 @@ written h a = (a.0, answer_text h a.1)
 abbrev pub reply : HandData → Option (List ℕ) → HandData × List ℕ
 reply h line = written h (line_answer h line)
 
+-- the reply to a line that says this
+abbrev pub heard_reply : HandData → Heard → HandData × List ℕ
+heard_reply h heard = written h (heard_answer h (Ok (Some heard)))
+
 -- the log would have more entries than it takes
 abbrev pub IsFull : HandData → Option (List ℕ) → Type 0
 IsFull h line = 2 ^ 32 - 1 < length (reply h line).0.bench.past
+
+abbrev pub IsFullFor : HandData → ScriptLine → Type 0
+IsFullFor h line = 2 ^ 32 - 1 < length (heard_reply h (Make line)).0.bench.past

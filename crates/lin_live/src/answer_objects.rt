@@ -12,7 +12,7 @@ ghost use Rattle.lin_log.specs.Words.{spaced_word};
 ghost use Rattle.lin_parts.specs.Cluster.{nodes};
 ghost use Rattle.lin_parts.specs.declared.parts.Parts.{Parts};
 ghost use Rattle.lin_text.specs.Written.{Grows, WritesText};
-ghost use Rattle.lin_live.specs.Hand.{IsBoxedTrackOf, ending_of};
+ghost use Rattle.lin_live.specs.Held.{IsBoxedTrackOf, ending_of};
 ghost use Rattle.lin_live.specs.Serving.{WritesAlone};
 ghost use Rattle.lin_live.specs.Told.{Bad, Is, answer_beginning, answer_object, object_ending, question_reason_text};
 ghost use Rattle.lin_live.specs.Told.{steps_ending, verdict_ending};

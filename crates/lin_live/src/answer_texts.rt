@@ -11,7 +11,7 @@ ghost use Rattle.lin_log.specs.Words.{spaced_word, text};
 ghost use Rattle.lin_parts.specs.Cluster.{nodes};
 ghost use Rattle.lin_parts.specs.declared.parts.Parts.{Parts};
 ghost use Rattle.lin_text.specs.Written.{Grows, WritesText};
-ghost use Rattle.lin_live.specs.Hand.{hash_line_ending};
+ghost use Rattle.lin_live.specs.Held.{hash_line_ending};
 ghost use Rattle.lin_live.specs.Told.{hash_ending, hash_line, question_reason_text, steps_ending};
 ghost use Rattle.lin_live.specs.Values.{addressed_node, as_said, idle_text, objects_version};
 ghost use Rattle.lin_live.specs.Values.{program_version, rules_text, said_text, shown_value, slot_text, with_gaps};
@@ -60,6 +60,17 @@ pub(crate) fn put_why<W: Write>(out: &mut TextWriter<'_, W>, reason: &Reason)
         Reason::UnknownQuestion(fields) => {
             out.put_text("unknown question ");
             put_texts(out, " ", fields.as_slice());
+        }
+        Reason::MarkForm => out.put_text("usage: mark NAME"),
+        Reason::BackForm => out.put_text("usage: back NAME"),
+        Reason::NoName(field) => {
+            out.put_text("expected a name, not ");
+            put_seen(out, field.as_slice());
+        }
+        Reason::StartMark => out.put_text("start is the mark of the beginning"),
+        Reason::NoMark(name) => {
+            out.put_text("unknown mark ");
+            put_seen(out, name.as_slice());
         }
         Reason::TooLong => out.put_text("the line has more than 16,777,216 bytes"),
     }

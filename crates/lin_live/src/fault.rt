@@ -1,7 +1,7 @@
 //! Why lines aren't answered.
 
 ghost use Rattle.std.specs.Prelude.{◌≡◌};
-ghost use Rattle.lin_live.specs.Hand.{fault_of};
+ghost use Rattle.lin_live.specs.Held.{fault_of};
 ghost use Rattle.lin_live.specs.declared.fault.Fault.TheVariants.{OutOfMemory as NoMemory};
 ghost use Rattle.lin_live.specs.declared.fault.Fault.TheVariants.{WriteFailed as NotWritten};
 

@@ -1,66 +1,55 @@
-//! A bench in hand.
+//! Interactive sessions, and their marks.
 
-ghost use Rattle.std.specs.Prelude.{◌≡◌, ◌<◌, ◌≤◌, ◌-◌, ◌^◌, ◌||◌, [], IfOk, IfSome};
-ghost use Rattle.std.specs.Prelude.{None, if◌then◌else◌, length, option_map, reverse, true};
-ghost use Rattle.lin_bench.specs.Scripts.{without_mark};
+ghost use Rattle.std.specs.Prelude.{◌≡◌, ◌≤◌, ◌<◌, [], IfOk, IfSome, OnErr, OnOk, length, option_map};
+ghost use Rattle.std.specs.Prelude.{position, reverse, true};
+ghost use Rattle.std.specs.Str.{bytes_eq};
+ghost use Rattle.lin_bench.specs.Played.{initial_bench};
 ghost use Rattle.lin_live.specs.Asked.{Gives, IsAskable};
-ghost use Rattle.lin_live.specs.Hand.{IsBoxedTrackOf, IsKept, earlier, entries_from, line_text};
-ghost use Rattle.lin_export.specs.LastSlot.{IsKeptOf};
-ghost use Rattle.lin_export.specs.Track.{track_of};
-ghost use Rattle.lin_live.specs.Serving.{WritesAlone, WritesAnswer};
-ghost use Rattle.lin_live.specs.Values.{KeepsLastSlot, as_said};
-ghost use Rattle.lin_live.specs.declared.answer_format.AnswerFormat.TheVariants.{Jsonl, Named};
+ghost use Rattle.lin_live.specs.Hand.{IfHeard, gone_to, other_marks, with_named};
 ghost use Rattle.lin_live.specs.Heard.{IsHeard};
-ghost use Rattle.lin_live.specs.Told.{Bad, Fine, HandData, Is, IsFull, asked_value, ending_text, heard_as};
-ghost use Rattle.lin_live.specs.Told.{heard_answer, is_limit, is_unmet_verdict, reply};
-ghost use Rattle.lin_live.specs.Told.{verdict_with_meaning, without_byte_order_mark, written};
-ghost use Rattle.lin_live.specs.declared.heard.Heard.TheVariants.{Make};
+ghost use Rattle.lin_live.specs.Held.{new_hand};
+ghost use Rattle.lin_live.specs.Marking.{mark_place, with_mark};
+ghost use Rattle.lin_live.specs.Serving.{WritesAnswer};
+ghost use Rattle.lin_live.specs.Told.{Bad, Fine, HandData, Is, IsFull, IsFullFor, asked_value, ending_text};
+ghost use Rattle.lin_live.specs.Told.{heard_as, heard_reply, reply, without_byte_order_mark};
+ghost use Rattle.lin_live.specs.declared.heard.Heard.TheVariants.{GoBack, Make, SetMark};
 
 use crate::answer_format::AnswerFormat;
-use crate::answer_objects::{
-    line_ending, with_objects, write_bad_object, write_line_object, write_object,
-    write_value_object,
-};
-use crate::answer_texts::{
-    with_names, write_bad, write_line, write_ok, write_told_line, write_value,
-};
-use crate::answer_value::{AnswerValue, value_of};
 use crate::answering::Answering;
 use crate::fault::Fault;
-use crate::heard::{Heard, hear};
+use crate::heard::Heard;
+use crate::held::HeldBench;
+use crate::marking::START;
 use crate::question::Question;
 use crate::reason::{LineFault, Reason};
-use lin_bench::{Bench, ScriptLine, Verdict, told_meaning, without_mark};
+use lin_bench::{Mark, ScriptLine};
 use lin_core::{Core, Log};
-use lin_export::{LastSlot, ObjectTrack, Track};
-use lin_text::TextBuffer;
+use lin_export::Opening;
+use lin_parts::Cluster;
+use lin_text::{Text, TextBuffer};
 use lin_values::Coded;
 use std::alloc::{AllocError, Global};
 use std::io::Write;
 use std::marker::Model;
 
-/// A bench that answers lines: those of bench scripts, each by the entries that it makes and by what
-/// it came to, and questions. Contracts see how it tells entries, the cluster, what the core was
-/// opened with, what signals mean and whether that is told, the log, what expectations took, whether
-/// there was a line, and whether one was bad or an expectation not met.
+/// A mark with its name.
+#[derive(Drop)]
+pub(crate) struct NamedMark {
+    pub(crate) name: Text,
+    pub(crate) at: Mark,
+}
+
+/// An interactive session, which answers lines of bench scripts, questions and marks. Contracts see the format
+/// of its answers, the cluster, what the core was opened with, what signals mean and whether answers report
+/// that, the bench, each mark with the bench as it was, whether there was a line, whether one was bad, and
+/// whether an expectation failed.
 #[derive(Drop)]
 pub struct Hand {
-    bench: Bench,
-    format: AnswerFormat,
-    /// What signals mean, where that is known.
-    coded: Option<Coded>,
-    /// Whether values are told as what they mean, too.
-    is_physical: bool,
-    /// What is kept of the log for telling further entries with names, where it is at hand.
-    track: Option<Track>,
-    /// The same for objects, in a box: it has 1 KiB, and each line moves it.
-    objects: Option<Box<ObjectTrack>>,
-    /// The slot that had ended last when it was last asked for.
-    last_slot: Option<LastSlot>,
-    /// Whether there was a line.
-    begun: bool,
-    was_bad: bool,
-    was_unmet: bool,
+    /// `None` if the session ran out of memory while it went back to a mark.
+    held: Option<HeldBench>,
+    opening: Opening,
+    /// In the order in which they were set; `None` after a line without an answer.
+    marks: Option<Vec<NamedMark>>,
 }
 
 impl Model for Hand {
@@ -68,133 +57,87 @@ impl Model for Hand {
 
     ghost Value = { HandData };
 
-    ghost use Rattle.lin_live.specs.Hand.{IsFollowed, hand_data};
+    ghost use Rattle.lin_live.specs.Hand.{HasItsMarks, hand_data};
 
     ghost view = { hand_data };
 
-    ghost invariant = { IsFollowed };
+    ghost invariant = { HasItsMarks };
 }
 
-/// The tracks of a log for writing further entries, if they are at hand.
-#[derive(Drop)]
-struct KeptTracks {
-    track: Option<Track>,
-    objects: Option<Box<ObjectTrack>>,
-}
-
-/// Whether a line made more slots than a line may.
-fn is_limit(verdict: &Verdict) -> bool
-    ensures { result ≡ is_limit verdict.now }
+/// Returns the place of the mark with a name.
+fn mark_place(marks: &[NamedMark], name: &[u8]) -> Option<usize>
+    ensures place { result ≡ position (λ m. bytes_eq m.name name.now) marks.now }
+    ensures there { IfSome result (λ place. place < length marks.now) }
 {
-    match verdict {
-        Verdict::SlotLimit => true,
-        Verdict::Nothing | Verdict::Met(_) | Verdict::Unmet(_, _) => false,
-    }
+    marks.iter().position(|mark| mark.name.as_slice() == name)
 }
 
-/// Whether what a line expects isn't so.
-fn is_unmet(verdict: &Verdict) -> bool
-    ensures { result ≡ is_unmet_verdict verdict.now }
+/// Puts a mark last, in place of an older one of its name. An error means out of memory, and the older one is
+/// gone.
+fn put_mark(marks: &mut Vec<NamedMark>, mark: NamedMark) -> Result<(), AllocError>
+    ensures put { OnOk result (marks.new.items ≡ with_named marks.old.items mark) }
+    ensures rest { OnErr result (marks.new.items ≡ other_marks marks.old.items mark) }
 {
-    match verdict {
-        Verdict::Unmet(_, _) => true,
-        Verdict::Nothing | Verdict::Met(_) | Verdict::SlotLimit => false,
-    }
-}
-
-/// A line without the byte order mark at its beginning.
-fn without_its_mark(line: Option<&[u8]>) -> Option<&[u8]>
-    ensures { option_map (λ l. l.now) result
-        ≡ option_map without_mark (option_map (λ l. l.now) line.entry) }
-{
-    Some(without_mark(line?))
-}
-
-/// What signals mean, where values are told as that.
-fn told_coding(coded: Option<&Coded>, is_physical: bool) -> Option<&Coded>
-    ensures { option_map (λ k. k.now) result
-        ≡ (if is_physical then option_map (λ k. k.now) coded.entry else None) }
-{
-    if is_physical { coded } else { None }
+    let name = mark.name.as_slice();
+    marks.retain(|other| other.name.as_slice() != name);
+    marks.push(mark)?;
+    Ok(())
 }
 
 impl Hand {
-    ghost use Rattle.lin_live.specs.Hand.{new_hand};
-
-    /// A bench over a core with an empty log, on which no line was made, and which tells entries so.
-    /// Where what signals mean is known, lines may say values in words, and where `is_physical`
-    /// values are told as that, too.
+    /// Returns a session over a new core, without lines or marks, whose answers have this format. If it is given
+    /// what signals mean, lines may have physical values; with `is_physical`, answers have them, too. An error
+    /// means out of memory, and the cluster is dropped.
     pub fn new(
         alloc: Global,
-        core: Core,
+        cluster: Cluster,
+        opening: Opening,
         format: AnswerFormat,
         coded: Option<Coded>,
         is_physical: bool,
-    ) -> Hand
-        requires { core.log ≡ [] }
-        ensures { result ≡ new_hand format coded is_physical core }
+    ) -> Result<Hand, AllocError>
+        requires table { opening.table < length cluster.tables }
+        requires some { 1 ≤ opening.capacity }
+        requires few { opening.capacity ≤ 1024 }
+        ensures { IfOk result (λ hand.
+            hand ≡ new_hand format coded is_physical cluster opening.table opening.capacity) }
     {
-        Hand {
-            bench: Bench::new(alloc, core),
-            format,
-            coded,
-            is_physical,
-            track: None,
-            objects: None,
-            last_slot: None,
-            begun: false,
-            was_bad: false,
-            was_unmet: false,
-        }
+        let core = Core::new(alloc, cluster, opening.table, opening.capacity)?;
+        Ok(Hand {
+            held: Some(HeldBench::new(alloc, core, format, coded, is_physical)),
+            opening,
+            marks: Some(Vec::new(alloc)),
+        })
     }
 
-    /// The log of all steps that were made.
-    pub fn log(&self) -> &Log
-        ensures { reverse result.now.entries ≡ self.now.bench.past }
+    /// Returns the log of the steps, without those that `back` has undone; `None` if the session ran out of
+    /// memory while it went back to a mark.
+    pub fn log(&self) -> Option<&Log>
+        ensures { IfSome result (λ log. reverse log.now.entries ≡ self.now.bench.past) }
     {
-        self.bench.core().log()
+        match &self.held {
+            Some(held) => Some(held.log()),
+            None => None,
+        }
     }
 
     /// Whether a line was bad, or made more slots than a line may.
     pub fn was_bad(&self) -> bool
         ensures { result ≡ self.now.was_bad }
     {
-        self.was_bad
-    }
-
-    /// Whether an expectation wasn't met.
-    pub fn was_unmet(&self) -> bool
-        ensures { result ≡ self.now.was_unmet }
-    {
-        self.was_unmet
-    }
-
-    /// A line, of which the first one has no byte order mark.
-    fn unmarked<'l>(&self, line: Option<&'l [u8]>) -> Option<&'l [u8]>
-        ensures { option_map (λ l. l.now) result
-            ≡ without_byte_order_mark self.now (option_map (λ l. l.now) line.entry) }
-    {
-        if self.begun {
-            line
-        } else {
-            without_its_mark(line)
+        match &self.held {
+            Some(held) => held.was_bad(),
+            None => false,
         }
     }
 
-    /// What a line says; none stands for one that is too long.
-    fn hear(&self, alloc: Global, line: Option<&[u8]>) -> Result<Option<Heard>, LineFault>
-        ensures heard { Gives result
-            (heard_as self.now.cluster self.now.coded (option_map (λ l. l.now) line.entry)) }
-        ensures askable { IfOk result (λ said. IfSome said (IsHeard self.now.cluster)) }
+    /// Whether an expectation failed.
+    pub fn was_unmet(&self) -> bool
+        ensures { result ≡ self.now.was_unmet }
     {
-        match line {
-            None => Err(LineFault::Bad(Reason::TooLong)),
-            Some(line) => hear(
-                alloc,
-                self.bench.core().cluster(),
-                self.coded.as_ref(),
-                line,
-            ),
+        match &self.held {
+            Some(held) => held.was_unmet(),
+            None => false,
         }
     }
 
@@ -203,11 +146,10 @@ impl Hand {
         ensures { WritesAnswer (self.now, ending_text self.now Fine)
             ⊥ self.now (W.contents writer.old) (W.contents writer.new) result }
     {
-        match self.format {
-            AnswerFormat::Jsonl => write_object(writer, buffer, &[], "ok", &[])?,
-            AnswerFormat::Log | AnswerFormat::Named => write_ok(writer, buffer)?,
+        match &self.held {
+            Some(held) => held.pass(writer, buffer),
+            None => Err(Fault::OutOfMemory),
         }
-        Ok(())
     }
 
     /// Tells that a line is bad.
@@ -221,56 +163,12 @@ impl Hand {
         ensures { WritesAnswer (record self.old { was_bad = true }, ending_text self.old (Bad reason.now))
             ⊥ self.new (W.contents writer.old) (W.contents writer.new) result }
     {
-        self.was_bad = true;
-        match self.format {
-            AnswerFormat::Jsonl => write_bad_object(alloc, writer, buffer, reason)?,
-            AnswerFormat::Log | AnswerFormat::Named => write_bad(writer, buffer, reason)?,
-        }
-        Ok(())
-    }
-
-    /// Takes the slot that had ended last, if a question asks for it.
-    fn take_slot(&mut self, question: Question) -> Option<LastSlot>
-        ensures same { self.new ≡ self.old }
-        ensures kept { IfSome result (IsKeptOf self.old.cluster (reverse self.old.bench.past)) }
-    {
-        if !matches!(question, Question::LastSlot) {
-            return None;
-        }
-        self.last_slot.take()
-    }
-
-    /// Keeps the slot that ended last, if the answer to a question is that.
-    fn keep_slot(&mut self, value: AnswerValue)
-        requires { KeepsLastSlot self.old.cluster (reverse self.old.bench.past) value }
-        ensures { self.new ≡ self.old }
-    {
-        if let AnswerValue::LastSlot(last) = value {
-            self.last_slot = last;
-        }
-    }
-
-    /// Writes the answer to a question.
-    fn write_asked<W: Write>(
-        &self,
-        alloc: Global,
-        value: &AnswerValue,
-        writer: &mut W,
-        buffer: &mut TextBuffer,
-    ) -> Result<(), Fault>
-        ensures { WritesAlone (W.contents writer.old) (W.contents writer.new)
-            (ending_text self.now (Is (as_said self.now.cluster value.now))) result }
-    {
-        let cluster = self.bench.core().cluster();
-        let coded = told_coding(self.coded.as_ref(), self.is_physical);
-        match self.format {
-            AnswerFormat::Jsonl => {
-                write_value_object(alloc, writer, buffer, cluster, coded, value)?;
-            }
-            AnswerFormat::Log | AnswerFormat::Named => {
-                write_value(writer, buffer, cluster, coded, value)?;
-            }
-        }
+        let Some(held) = &mut self.held else {
+            return Err(Fault::OutOfMemory);
+        };
+        let marks = self.marks.take();
+        held.refuse(alloc, reason, writer, buffer)?;
+        self.marks = marks;
         Ok(())
     }
 
@@ -286,104 +184,13 @@ impl Hand {
         ensures { WritesAnswer (self.old, ending_text self.old (Is (asked_value self.old question)))
             ⊥ self.new (W.contents writer.old) (W.contents writer.new) result }
     {
-        let known = self.take_slot(question);
-        let value = value_of(alloc, &self.bench, known, question)?;
-        self.write_asked(alloc, &value, writer, buffer)?;
-        self.keep_slot(value);
+        let Some(held) = &mut self.held else {
+            return Err(Fault::OutOfMemory);
+        };
+        let marks = self.marks.take();
+        held.ask(alloc, question, writer, buffer)?;
+        self.marks = marks;
         Ok(())
-    }
-
-    /// Keeps what a line came to.
-    fn keep(&mut self, verdict: &Verdict)
-        ensures { self.new ≡ record self.old {
-          was_bad = self.old.was_bad || is_limit verdict.now;
-          was_unmet = self.old.was_unmet || is_unmet_verdict verdict.now;
-        } }
-    {
-        self.was_bad = self.was_bad || is_limit(verdict);
-        self.was_unmet = self.was_unmet || is_unmet(verdict);
-    }
-
-    /// Returns the text of the entries from one on with names, and keeps the track of all. An error
-    /// means out of memory.
-    fn names_from(
-        &mut self,
-        alloc: Global,
-        track: Option<Track>,
-        from: usize,
-    ) -> Result<Vec<u8>, AllocError>
-        requires there { from ≤ length self.old.bench.past }
-        requires track { IfSome track (λ t. t ≡ track_of self.old.cluster (earlier from self.old.bench.past)) }
-        ensures same { self.new ≡ self.old }
-        ensures text { IfOk result (λ text. text.items ≡ entries_from Named self.old from) }
-    {
-        let coded = told_coding(self.coded.as_ref(), self.is_physical);
-        let (text, track) = with_names(alloc, self.bench.core(), coded, track, from)?;
-        self.track = Some(track);
-        Ok(text)
-    }
-
-    /// Returns the objects of the entries from one on, and keeps the track of all. An error means out of
-    /// memory.
-    fn objects_from(
-        &mut self,
-        alloc: Global,
-        objects: Option<Box<ObjectTrack>>,
-        from: usize,
-    ) -> Result<Vec<u8>, AllocError>
-        requires there { from ≤ length self.old.bench.past }
-        requires track { IfSome objects
-            (IsBoxedTrackOf self.old.cluster (earlier from self.old.bench.past)) }
-        ensures same { self.new ≡ self.old }
-        ensures text { IfOk result (λ text. text.items ≡ entries_from Jsonl self.old from) }
-    {
-        let coded = told_coding(self.coded.as_ref(), self.is_physical);
-        let (text, objects) = with_objects(alloc, self.bench.core(), coded, objects, from)?;
-        self.objects = Some(objects);
-        Ok(text)
-    }
-
-    /// Tells the entries from one on, and what their line came to, where what is kept of those before
-    /// is at hand or isn't.
-    fn tell<W: Write>(
-        &mut self,
-        alloc: Global,
-        kept: KeptTracks,
-        from: usize,
-        verdict: Verdict,
-        writer: &mut W,
-        buffer: &mut TextBuffer,
-    ) -> Result<(), Fault>
-        requires there { from ≤ length self.old.bench.past }
-        requires kept { IsKept self.old.cluster (earlier from self.old.bench.past) kept }
-        ensures { WritesAnswer (self.old, line_text self.old from verdict)
-            ⊥ self.new (W.contents writer.old) (W.contents writer.new) result }
-    {
-        let KeptTracks { track, objects } = kept;
-        match self.format {
-            AnswerFormat::Log => write_line(writer, buffer, self.bench.core(), from, &verdict)?,
-            AnswerFormat::Named => {
-                let text = self.names_from(alloc, track, from)?;
-                let told = text.as_slice();
-                write_told_line(writer, buffer, self.bench.core(), from, told, &verdict)?;
-            }
-            AnswerFormat::Jsonl => {
-                let text = self.objects_from(alloc, objects, from)?;
-                let ending = line_ending(alloc, self.bench.core(), from, verdict)?;
-                write_line_object(writer, buffer, text.as_slice(), &ending)?;
-            }
-        }
-        Ok(())
-    }
-
-    /// A verdict; where what is expected in words isn't so, with what the value means.
-    fn in_words(&self, alloc: Global, verdict: Verdict) -> Result<Verdict, AllocError>
-        ensures { IfOk result (λ v. v ≡ verdict_with_meaning self.now.coded verdict) }
-    {
-        match &self.coded {
-            Some(coded) => told_meaning(alloc, coded, verdict),
-            None => Ok(verdict),
-        }
     }
 
     /// Makes a line, and tells its entries and what it came to.
@@ -394,22 +201,127 @@ impl Hand {
         writer: &mut W,
         buffer: &mut TextBuffer,
     ) -> Result<(), Fault>
-        ensures { WritesAnswer (written self.old (heard_answer self.old (Ok (Some (Make line)))))
-            (2 ^ 32 - 1 < length (heard_answer self.old (Ok (Some (Make line)))).0.bench.past) self.new
-            (W.contents writer.old) (W.contents writer.new) result }
+        ensures { WritesAnswer (heard_reply self.old (Make line)) (IsFullFor self.old line)
+            self.new (W.contents writer.old) (W.contents writer.new) result }
     {
-        let from = self.bench.core().log().len();
-        let kept = KeptTracks {
-            track: self.track.take(),
-            objects: self.objects.take(),
+        let Some(held) = &mut self.held else {
+            return Err(Fault::OutOfMemory);
         };
-        let last_slot = self.last_slot.take();
-        self.bench.renew_slots();
-        let verdict = self.bench.make(alloc, line)?;
-        self.last_slot = last_slot;
-        self.keep(&verdict);
-        let told = self.in_words(alloc, verdict)?;
-        self.tell(alloc, kept, from, told, writer, buffer)
+        let marks = self.marks.take();
+        held.make(alloc, line, writer, buffer)?;
+        self.marks = marks;
+        Ok(())
+    }
+
+    /// Sets a mark. An error means out of memory.
+    fn set_mark(&mut self, alloc: Global, name: Text) -> Result<(), AllocError>
+        ensures { OnOk result (self.new
+            ≡ record self.old { marks = with_mark self.old.marks name self.old.bench }) }
+    {
+        let Some(held) = &self.held else {
+            return Err(AllocError);
+        };
+        let Some(marks) = &mut self.marks else {
+            return Err(AllocError);
+        };
+        let at = held.mark(alloc)?;
+        put_mark(marks, NamedMark { name, at })
+    }
+
+    /// Returns the place of the mark with a name.
+    fn place(&self, name: &[u8]) -> Option<usize>
+        ensures place { result ≡ mark_place self.now.marks name.now }
+        ensures there { IfSome result (λ place. place < length self.now.marks) }
+    {
+        match &self.marks {
+            Some(marks) => mark_place(marks.as_slice(), name),
+            None => None,
+        }
+    }
+
+    /// Goes back to the beginning. An error means out of memory, and the bench is dropped.
+    fn go_to_start(&mut self, alloc: Global) -> Result<(), AllocError>
+        ensures { OnOk result (self.new ≡ record self.old { bench = initial_bench; marks = [] }) }
+    {
+        let Some(held) = self.held.take() else {
+            return Err(AllocError);
+        };
+        let Some(mut marks) = self.marks.take() else {
+            return Err(AllocError);
+        };
+        let start = Mark::start(alloc);
+        self.held = Some(held.back(alloc, self.opening, &start)?);
+        marks.clear();
+        self.marks = Some(marks);
+        Ok(())
+    }
+
+    /// Goes back to the mark at a place. An error means out of memory, and the bench is dropped.
+    fn go_to(&mut self, alloc: Global, place: usize) -> Result<(), AllocError>
+        requires { place < length self.old.marks }
+        ensures { OnOk result (self.new ≡ gone_to self.old place) }
+    {
+        let Some(held) = self.held.take() else {
+            return Err(AllocError);
+        };
+        let Some(mut marks) = self.marks.take() else {
+            return Err(AllocError);
+        };
+        let mark = &marks[place];
+        self.held = Some(held.back(alloc, self.opening, &mark.at)?);
+        marks.truncate(place + 1);
+        self.marks = Some(marks);
+        Ok(())
+    }
+
+    /// Goes back to the mark with a name, if there is one, and answers so.
+    fn go_back<W: Write>(
+        &mut self,
+        alloc: Global,
+        name: Text,
+        writer: &mut W,
+        buffer: &mut TextBuffer,
+    ) -> Result<(), Fault>
+        ensures { WritesAnswer (heard_reply self.old (GoBack name))
+            ⊥ self.new (W.contents writer.old) (W.contents writer.new) result }
+    {
+        if name.as_slice() == START {
+            self.go_to_start(alloc)?;
+            return self.pass(writer, buffer);
+        }
+        let Some(place) = self.place(name.as_slice()) else {
+            return self.refuse(alloc, &Reason::NoMark(name), writer, buffer);
+        };
+        self.go_to(alloc, place)?;
+        self.pass(writer, buffer)
+    }
+
+    /// Sets a mark, and answers so.
+    fn mark<W: Write>(
+        &mut self,
+        alloc: Global,
+        name: Text,
+        writer: &mut W,
+        buffer: &mut TextBuffer,
+    ) -> Result<(), Fault>
+        ensures { WritesAnswer (heard_reply self.old (SetMark name))
+            ⊥ self.new (W.contents writer.old) (W.contents writer.new) result }
+    {
+        self.set_mark(alloc, name)?;
+        self.pass(writer, buffer)
+    }
+
+    /// Returns what a line says; none stands for one that is too long.
+    fn listen(&mut self, alloc: Global, line: Option<&[u8]>) -> Result<Option<Heard>, LineFault>
+        ensures heard { Gives result (heard_as self.old.cluster self.old.coded
+            (without_byte_order_mark self.old (option_map (λ l. l.now) line.entry))) }
+        ensures askable { IfOk result (λ said. IfSome said (IsHeard self.old.cluster)) }
+        ensures begun { IfHeard result (self.new ≡ record self.old { begun = true }) }
+    {
+        let Some(held) = &mut self.held else {
+            return Err(LineFault::OutOfMemory);
+        };
+        held.listen(alloc, line)
     }
 }
 
@@ -429,13 +341,13 @@ impl Answering for Hand {
         writer: &mut W,
         buffer: &mut TextBuffer,
     ) -> Result<(), Fault> {
-        let line = self.unmarked(line);
-        self.begun = true;
-        match self.hear(alloc, line) {
+        match self.listen(alloc, line) {
             Err(LineFault::OutOfMemory) => Err(Fault::OutOfMemory),
             Err(LineFault::Bad(reason)) => self.refuse(alloc, &reason, writer, buffer),
             Ok(None) => self.pass(writer, buffer),
             Ok(Some(Heard::Ask(question))) => self.ask(alloc, question, writer, buffer),
+            Ok(Some(Heard::SetMark(name))) => self.mark(alloc, name, writer, buffer),
+            Ok(Some(Heard::GoBack(name))) => self.go_back(alloc, name, writer, buffer),
             Ok(Some(Heard::Make(line))) => self.make(alloc, line, writer, buffer),
         }
     }

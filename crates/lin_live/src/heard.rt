@@ -7,18 +7,24 @@ ghost use Rattle.lin_live.specs.Asked.{Gives};
 ghost use Rattle.lin_live.specs.Heard.{IsHeard, line_heard, of_script};
 
 use crate::asking::question;
+use crate::marking::{back_name, mark_name};
 use crate::question::Question;
 use crate::reason::LineFault;
 use lin_bench::{ScriptLine, read_worded_line};
 use lin_log::first_field;
 use lin_parts::Cluster;
+use lin_text::Text;
 use lin_values::Coded;
 use std::alloc::Global;
 
-/// A question, or what a line of a bench script says.
+/// A question, a mark that is set or gone back to, or what a line of a bench script says.
 #[derive(Drop)]
 pub enum Heard {
     Ask(Question),
+    /// The name of a new mark.
+    SetMark(Text),
+    /// The name of the mark to go back to.
+    GoBack(Text),
     Make(ScriptLine),
 }
 
@@ -57,6 +63,12 @@ pub fn hear(
     match first_field(cluster, line) {
         Some((word, rest)) if word == b"?".as_slice() => {
             Ok(Some(Heard::Ask(question(alloc, cluster, rest)?)))
+        }
+        Some((word, rest)) if word == b"mark".as_slice() => {
+            Ok(Some(Heard::SetMark(mark_name(alloc, cluster, rest)?)))
+        }
+        Some((word, rest)) if word == b"back".as_slice() => {
+            Ok(Some(Heard::GoBack(back_name(alloc, cluster, rest)?)))
         }
         _ => script_line(alloc, cluster, coded, line),
     }

@@ -3,6 +3,7 @@
 ghost use Rattle.std.specs.Prelude.{◌≡◌, ◌++◌, ℕ, List};
 ghost use Rattle.std.specs.List.{AllByRecursion, join_with_byte};
 ghost use Rattle.lin_live.specs.Answers.{AnswersAreTheLog, AnswersAreWritten};
+ghost use Rattle.lin_live.specs.GoingBack.{BackRestores, MarksStay};
 ghost use Rattle.lin_live.specs.Lines.{HasNoLf, pieces_at_lf};
 ghost use Rattle.lin_live.specs.Play.{LiveIsPlay};
 ghost use Rattle.lin_live.specs.Transcript.{state_after, transcript};
@@ -16,8 +17,8 @@ pub fn transcripts_split<S: Answering>()
         ≡ transcript S.reply s xs ++ transcript S.reply (state_after S.reply s xs) ys }
 {}
 
-/// The entries that a bench in hand tells in its answers are those of its log, in order, and a
-/// transcript has nothing but their text and a last line for each line.
+/// If no line goes back to a mark, the entries in the answers of a session are those by which its log
+/// grew, in order, and a transcript has nothing but their text and a last line for each line.
 pub fn answers_tell_the_log()
     ensures entries { AnswersAreTheLog }
     ensures text { AnswersAreWritten }
@@ -27,6 +28,13 @@ pub fn answers_tell_the_log()
 /// same bench, with the same log, and an expectation isn't met where one isn't met there.
 pub fn live_is_play()
     ensures { LiveIsPlay }
+{}
+
+/// Going back to a mark restores the bench at it, with its history, rules and consumed events, whatever the
+/// lines since then did, if the mark is still there. It is if none of them sets a mark or goes back to one.
+pub fn back_restores()
+    ensures bench { BackRestores }
+    ensures mark { MarksStay }
 {}
 
 /// The pieces of an input have no LF in them, and with one between each two they are the input.

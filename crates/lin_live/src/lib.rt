@@ -1,7 +1,7 @@
 //! A bench in hand, and a loop that answers each line of a reader on a writer before it reads on.
 //!
 //! ```
-//! let mut hand = Hand::new(alloc, core, AnswerFormat::Log, None, false);
+//! let mut hand = Hand::new(alloc, cluster, opening, AnswerFormat::Log, None, false)?;
 //! // answers each line of standard input, until it ends
 //! live(alloc, &mut hand, &mut reader, &mut writer)?;
 //! ```
@@ -18,7 +18,9 @@ mod check_texts;
 mod fault;
 mod hand;
 mod heard;
+mod held;
 mod law;
+mod marking;
 mod question;
 mod reason;
 mod serving;
@@ -30,7 +32,10 @@ pub use check_texts::{found_text, what_text, without_space};
 pub use fault::Fault;
 pub use hand::Hand;
 pub use heard::{Heard, hear};
-pub use law::{answers_tell_the_log, live_is_play, pieces_come_back, transcripts_split};
+pub use law::{
+    answers_tell_the_log, back_restores, live_is_play, pieces_come_back, transcripts_split,
+};
+pub use lin_export::Opening;
 pub use question::Question;
 pub use reason::{LineFault, Reason};
 pub use serving::live;

@@ -16,6 +16,16 @@ pub enum Reason {
     AskForm,
     /// `?` has no form of these fields.
     UnknownQuestion(Many<Text>),
+    /// `mark` takes a name.
+    MarkForm,
+    /// `back` takes a name.
+    BackForm,
+    /// A field that isn't letters, digits and `_`, or begins with a digit.
+    NoName(Text),
+    /// A mark can't have the name of the mark of the beginning.
+    StartMark,
+    /// No mark has this name.
+    NoMark(Text),
     /// It has more than 16,777,216 bytes.
     TooLong,
 }

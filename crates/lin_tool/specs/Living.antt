@@ -35,6 +35,7 @@ hand_of_cluster format k is_physical c opening capacity = record {
   coded = k;
   is_physical = is_physical;
   bench = record { past = []; rules = no_rules; taken = []; left = slot_limit };
+  marks = [];
   begun = false;
   was_bad = false;
   was_unmet = false;

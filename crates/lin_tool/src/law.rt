@@ -21,10 +21,11 @@ pub fn named_logs_say_the_same()
 /// the text of its log, byte for byte: the log's own, or the log with names, whichever the bench
 /// tells. A transcript by numbers is a script of its run, each one is a bench script of it, and
 /// each is an input of lines again, which come to the same log: these three where the numbers and
-/// bytes of the log's entries are within their types, as each `LogEntry` has them. Each answer ends
-/// with one line that begins with `#`. All this holds of bad lines too, wherever names are words and
-/// no two nodes, signals or schedule tables have the same one. Where what signals mean is known, no
-/// signal is called `=` or `~`. The lines of each input have no LF in them.
+/// bytes of the log's entries are within their types, as each `LogEntry` has them. This holds of bad
+/// lines too, if none goes back to a mark. Each answer ends with one line that begins with `#`. All
+/// this holds wherever names are words and no two nodes, signals or schedule tables have the same
+/// one. Where what signals mean is known, no signal is called `=` or `~`. The lines of each input
+/// have no LF in them.
 pub fn transcripts_are_logs()
     ensures logs { TranscriptsAreLogs }
     ensures scripts { TranscriptsAreScripts }

@@ -14,7 +14,6 @@ use crate::fault::Fault;
 use crate::formats::Format;
 use crate::notes::Notes;
 use crate::opening::{Opened, Settings, begin, within_limits};
-use lin_core::Core;
 use lin_export::{Opening, write_run};
 use lin_live::{AnswerFormat, Hand};
 use std::alloc::Global;
@@ -51,8 +50,12 @@ pub fn bench_in_hand(alloc: Global, opened: Opened<'_>, format: AnswerFormat) ->
         coded,
         settings,
     } = opened;
-    match Core::new(alloc, cluster, table, within_limits(settings.capacity)) {
-        Ok(core) => Ok(Hand::new(alloc, core, format, coded, settings.is_physical)),
+    let opening = Opening {
+        table,
+        capacity: within_limits(settings.capacity),
+    };
+    match Hand::new(alloc, cluster, opening, format, coded, settings.is_physical) {
+        Ok(hand) => Ok(hand),
         Err(_) => Err(Fault::OutOfMemory),
     }
 }
@@ -76,7 +79,9 @@ pub fn answer_lines<R: Read, W: Write>(
 {
     let done = lin_live::live(alloc, &mut hand, reader, writer);
     let ended = ending(&hand, done);
-    notes.add_refusals(hand.log());
+    if let Some(log) = hand.log() {
+        notes.add_refusals(log);
+    }
     mem::forget(hand);
     ended
 }

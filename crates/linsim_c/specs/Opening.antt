@@ -56,6 +56,7 @@ hand_of_settings s d = record {
   coded = Some d.coded;
   is_physical = s.is_physical;
   bench = record { past = []; rules = no_rules; taken = []; left = slot_limit };
+  marks = [];
   begun = false;
   was_bad = false;
   was_unmet = false;

@@ -14,7 +14,7 @@ use crate::session_bench::SessionBench;
 use crate::settings::{Settings, set_up};
 use crate::written_text::Told;
 use lin_core::Core;
-use lin_live::Hand;
+use lin_live::{Hand, Opening};
 use std::alloc::Global;
 
 /// No text.
@@ -57,8 +57,9 @@ fn new_hand(alloc: Global, ldf: &[u8], settings: &[u8]) -> Result<Hand, Fault>
     if usize::from(table) >= cluster.tables() {
         return Err(Fault::NoSuchTable);
     }
-    match Core::new(alloc, cluster, table, capacity) {
-        Ok(core) => Ok(Hand::new(alloc, core, format, Some(coded), is_physical)),
+    let opening = Opening { table, capacity };
+    match Hand::new(alloc, cluster, opening, format, Some(coded), is_physical) {
+        Ok(hand) => Ok(hand),
         Err(_) => Err(Fault::OutOfMemory),
     }
 }

@@ -24,26 +24,28 @@ use Rattle.lin_export.specs.Named.{reply_lines}
 use Rattle.lin_bench.specs.Fields.{line_fields}
 use Rattle.lin_values.specs.Coded.{CodedData}
 use Rattle.lin_bench.specs.Lines.{line_form, line_of_fields, read_line}
-use Rattle.lin_bench.specs.Plain.{SaysSteps}
+use Rattle.lin_bench.specs.Plain.{HasNoMarks, SaysSteps}
 use Rattle.lin_bench.specs.Scripts.{Script, read, read_lines, with_read_line, without_mark}
 use Rattle.lin_bench.specs.Words.{read_worded_line, worded}
-use Rattle.lin_bench.specs.Made.{made}
+use Rattle.lin_bench.specs.Made.{BenchState, made}
 use Rattle.lin_bench.specs.Strict.{entries_since, first_refusal}
 use Rattle.lin_bench.specs.declared.got.Verdict.{Verdict}
 use Rattle.lin_bench.specs.declared.got.Verdict.TheVariants.{Nothing, Met, Unmet, SlotLimit}
 use Rattle.lin_bench.specs.declared.line.ScriptLine.{ScriptLine}
 use Rattle.lin_bench.specs.declared.reason.Reason.{Reason as ScriptReason}
 use Rattle.lin_live.proofs.Cuts.{pieces-some}
-use Rattle.lin_live.proofs.Growth.{Keeps, kept-made}
+use Rattle.lin_live.proofs.Growth.{IsForward, Keeps, kept-made, line-forward}
 use Rattle.lin_live.proofs.Plays.{live-is-play}
 use Rattle.lin_live.specs.Lines.{but_last, last_line as last_of, last_one, lines, pieces_at_lf}
-use Rattle.lin_live.specs.Play.{IsPlain, is_question, in_hand_of, empty_run}
-use Rattle.lin_live.specs.Told.{Ending, HandData, entries_text, hash_ending, heard_as, is_text, last_line, verdict_with_meaning, reply, shown_coding, steps_ending, heard_answer, without_byte_order_mark, verdict_ending}
+use Rattle.lin_live.specs.Play.{IsPlain, is_of_live, in_hand_of, empty_run}
+use Rattle.lin_live.specs.Told.{Ending, HandData, entries_text, gone_back, hash_ending, heard_as, is_text, last_line, verdict_with_meaning, reply, shown_coding, steps_ending, heard_answer, without_byte_order_mark, verdict_ending}
 use Rattle.lin_live.specs.Transcript.{state_after, most_bytes, short, transcript}
 use Rattle.lin_live.specs.declared.answer_format.AnswerFormat.{AnswerFormat}
 use Rattle.lin_live.specs.declared.answer_format.AnswerFormat.TheVariants.{Log, Named, Jsonl}
 use Rattle.lin_live.specs.declared.heard.Heard.{Heard}
-use Rattle.lin_live.specs.declared.heard.Heard.TheVariants.{Ask, Make}
+use Rattle.lin_live.specs.declared.heard.Heard.TheVariants.{Ask, GoBack, Make, SetMark}
+use Rattle.lin_live.specs.Answers.{KeepsLog}
+use Rattle.lin_live.specs.Marking.{Marked, bench_at}
 use Rattle.lin_live.specs.declared.reason.Reason.{Reason}
 use Rattle.lin_tool.specs.laws.Transcripts.{AreShort, IsTranscript, TranscriptsAreInputs, anew, log_after}
 use Rattle.lin_tool.proofs.laws.LogLines.{plain_replies}
@@ -59,26 +61,35 @@ history-keeps c opening capacity past s h = ap (λ (p : List LogEntry). entry_of
 abbrev HasHistory : HandData → Type 0
 HasHistory h = IsHistory h.cluster h.opening h.capacity h.bench.past
 
-told-history : (h : HandData) (said : Result (Option Heard) Reason) → HasHistory h → HasHistory (heard_answer h said).0
-told-history h (Err why) k = k
-told-history h (Ok None) k = k
-told-history h (Ok (Some (Ask asked))) k = k
-told-history h (Ok (Some (Make line))) k =
+told-history : (h : HandData) (said : Result (Option Heard) Reason) → IsForward said → HasHistory h → HasHistory (heard_answer h said).0
+told-history h (Err why) f k = k
+told-history h (Ok None) f k = k
+told-history h (Ok (Some (Ask asked))) f k = k
+told-history h (Ok (Some (SetMark name))) f k = k
+told-history h (Ok (Some (GoBack name))) f k = absurd f
+told-history h (Ok (Some (Make line))) f k =
     kept-made h.cluster h.opening h.capacity (IsHistory h.cluster h.opening h.capacity) (history-keeps h.cluster h.opening h.capacity) h.bench line k
 
-after-history : (h : HandData) (ls : List (List ℕ)) → HasHistory h → HasHistory (state_after reply h ls)
-after-history h [] k = k
-after-history h (line ∷ more) k =
-    after-history (reply h (short line)).0 more (told-history (record h { begun = true }) (heard_as h.cluster h.coded (without_byte_order_mark h (short line))) k)
+after-history : (h : HandData) (ls : List (List ℕ)) → AllByRecursion KeepsLog ls → HasHistory h → HasHistory (state_after reply h ls)
+after-history h [] on k = k
+after-history h (line ∷ more) (on, rest-on) k =
+    after-history (reply h (short line)).0 more rest-on
+    (told-history (record h { begun = true }) (heard_as h.cluster h.coded (without_byte_order_mark h (short line))) (line-forward h line on) k)
 
 -- what stays of a bench in hand
 abbrev Stays : HandData → HandData → Type 0
 Stays h k = (k.cluster ≡ h.cluster) × (k.opening ≡ h.opening) × (k.capacity ≡ h.capacity)
 
+back-stays : (h : HandData) (name : List ℕ) (at : Option (BenchState × List Marked)) → Stays h (gone_back h name at).0
+back-stays h name None = (refl, refl, refl)
+back-stays h name (Some at) = (refl, refl, refl)
+
 told-stays : (h : HandData) (said : Result (Option Heard) Reason) → Stays h (heard_answer h said).0
 told-stays h (Err why) = (refl, refl, refl)
 told-stays h (Ok None) = (refl, refl, refl)
 told-stays h (Ok (Some (Ask asked))) = (refl, refl, refl)
+told-stays h (Ok (Some (SetMark name))) = (refl, refl, refl)
+told-stays h (Ok (Some (GoBack name))) = back-stays h name (bench_at h.marks name)
 told-stays h (Ok (Some (Make line))) = (refl, refl, refl)
 
 after-stays : (h : HandData) (ls : List (List ℕ)) → Stays h (state_after reply h ls)
@@ -88,26 +99,26 @@ after-stays h (line ∷ more) =
     let rest = after-stays (reply h (short line)).0 more in
     (rest.0 ∙ one.0, rest.1 ∙ one.1, rest.2 ∙ one.2)
 
-log-again : (h : HandData) (ls : List (List ℕ)) → IsTranscript h
+log-again : (h : HandData) (ls : List (List ℕ)) → IsTranscript h ls
     → history h.cluster h.opening h.capacity (reverse (steps_of (log_after h ls))) ≡ (state_after reply h ls).bench.past
 log-again h ls t =
     let k = state_after reply h ls in
     let s = after-stays h ls in
-    let was : HasHistory k = after-history h ls (rw (t.begins) refl) in
+    let was : HasHistory k = after-history h ls t.forward (rw (t.begins) refl) in
     ap (history h.cluster h.opening h.capacity) (ap reverse (steps_of-reverse k.bench.past) ∙ reverse-reverse (steps_of k.bench.past)) ∙ sym (rw (s.0, s.1, s.2) at was)
 
--- ---- no line of a bench script asks
+-- ---- no line of a bench script asks, sets a mark or goes back to one
 is-text : (x : ℕ) (xs : List ℕ) → is_not_empty (x ∷ xs) ≡ true
 is-text x xs = grind (arith, common_steps)
 
-first-by : (ps : List (List ℕ)) → is_question (take_while (λ f. not (is_comment true f)) (filter is_not_empty (onto_first 62 ps))) ≡ false
+first-by : (ps : List (List ℕ)) → is_of_live (take_while (λ f. not (is_comment true f)) (filter is_not_empty (onto_first 62 ps))) ≡ false
 first-by [] = refl
 first-by (p ∷ ps) = rw (is-text 62 p, one-add) refl
 
 is-reply : (x : ℕ) → (x == 62) ≡ true → x ≡ 62
 is-reply x h = grind (arith, common_steps)
 
-reply-asks : (line : List ℕ) → (slice_index line 0 == 62) ≡ true → is_question (line_fields line) ≡ false
+reply-asks : (line : List ℕ) → (slice_index line 0 == 62) ≡ true → is_of_live (line_fields line) ≡ false
 reply-asks [] h = absurd (cc)
 reply-asks (x ∷ xs) h = let is = is-reply x h in rw is (first-by (slice_split (is_gap true) xs))
 
@@ -115,20 +126,33 @@ asking-bad : (c : Parts) (fs : List (List ℕ)) (said : Option ScriptLine) → l
 unfolding line_form step_form
 asking-bad c fs said e = absurd (cc)
 
-word-asks : (c : Parts) (w : List ℕ) (fs : List (List ℕ)) (said : Option ScriptLine) (t : Bool) → bytes_eq w (codes "?") ≡ t → line_of_fields c (w ∷ fs) ≡ Ok said → t ≡ false
-word-asks c w fs said false h e = refl
-word-asks c w fs said true h e = let is = (bytes_eq-Decides w (codes "?")).0 h in absurd (asking-bad c fs said (rw is at e))
+marking-bad : (c : Parts) (fs : List (List ℕ)) (said : Option ScriptLine) → line_of_fields c (codes "mark" ∷ fs) ≡ Ok said → ⊥
+unfolding line_form step_form
+marking-bad c fs said e = absurd (cc)
 
-fields-ask : (c : Parts) (fs : List (List ℕ)) (said : Option ScriptLine) → line_of_fields c fs ≡ Ok said → is_question fs ≡ false
+going-bad : (c : Parts) (fs : List (List ℕ)) (said : Option ScriptLine) → line_of_fields c (codes "back" ∷ fs) ≡ Ok said → ⊥
+unfolding line_form step_form
+going-bad c fs said e = absurd (cc)
+
+word-asks : (c : Parts) (v w : List ℕ) (fs : List (List ℕ)) (said : Option ScriptLine) → (line_of_fields c (v ∷ fs) ≡ Ok said → ⊥) → (t : Bool) → bytes_eq w v ≡ t
+    → line_of_fields c (w ∷ fs) ≡ Ok said → t ≡ false
+word-asks c v w fs said bad false h e = refl
+word-asks c v w fs said bad true h e = let is = (bytes_eq-Decides w v).0 h in absurd (bad (rw is at e))
+
+fields-ask : (c : Parts) (fs : List (List ℕ)) (said : Option ScriptLine) → line_of_fields c fs ≡ Ok said → is_of_live fs ≡ false
 fields-ask c [] said e = refl
-fields-ask c (w ∷ fs) said e = word-asks c w fs said (bytes_eq w (codes "?")) refl e
+fields-ask c (w ∷ fs) said e =
+    let asks = word-asks c (codes "?") w fs said (asking-bad c fs said) (bytes_eq w (codes "?")) refl e in
+    let marks = word-asks c (codes "mark") w fs said (marking-bad c fs said) (bytes_eq w (codes "mark")) refl e in
+    let goes = word-asks c (codes "back") w fs said (going-bad c fs said) (bytes_eq w (codes "back")) refl e in
+    rw (asks, marks, goes) refl
 
 line-by : (c : Parts) (line : List ℕ) (said : Option ScriptLine) (t : Bool) → (slice_index line 0 == 62) ≡ t
-    → (if t then Ok None else line_of_fields c (line_fields line)) ≡ Ok said → is_question (line_fields line) ≡ false
+    → (if t then Ok None else line_of_fields c (line_fields line)) ≡ Ok said → is_of_live (line_fields line) ≡ false
 line-by c line said true h e = reply-asks line h
 line-by c line said false h e = fields-ask c (line_fields line) said e
 
-line-asks : (c : Parts) (line : List ℕ) (said : Option ScriptLine) → read_worded_line c None line ≡ Ok said → is_question (line_fields line) ≡ false
+line-asks : (c : Parts) (line : List ℕ) (said : Option ScriptLine) → read_worded_line c None line ≡ Ok said → is_of_live (line_fields line) ≡ false
 unfolding read_worded_line read_line
 line-asks c line said e = line-by c line said (slice_index line 0 == 62) refl e
 
@@ -179,10 +203,16 @@ verdict-begins c k (Unmet what got) es rest = (35, _, refl, (refl, refl, refl))
 verdict-begins c k Nothing es rest = steps-begin c k (first_refusal es) rest
 verdict-begins c k (Met what) es rest = steps-begin c k (first_refusal es) rest
 
+back-begins : (h : HandData) (k : Option CodedData) (name : List ℕ) (at : Option (BenchState × List Marked)) (rest : List ℕ) → Begins (hash_ending h.cluster k (gone_back h name at).1.ending ++ rest)
+back-begins h k name None rest = (35, _, refl, (refl, refl, refl))
+back-begins h k name (Some at) rest = (35, _, refl, (refl, refl, refl))
+
 hash-begins : (h : HandData) (k : Option CodedData) (said : Result (Option Heard) Reason) (rest : List ℕ) → Begins (hash_ending h.cluster k (heard_answer h said).1.ending ++ rest)
 hash-begins h k (Err why) rest = (35, _, refl, (refl, refl, refl))
 hash-begins h k (Ok None) rest = (35, _, refl, (refl, refl, refl))
 hash-begins h k (Ok (Some (Ask asked))) rest = (35, _, refl, (refl, refl, refl))
+hash-begins h k (Ok (Some (SetMark name))) rest = (35, _, refl, (refl, refl, refl))
+hash-begins h k (Ok (Some (GoBack name))) rest = back-begins h k name (bench_at h.marks name) rest
 hash-begins h k (Ok (Some (Make line))) rest =
     let m = made h.cluster h.opening h.capacity h.bench line in verdict-begins h.cluster k (verdict_with_meaning h.coded m.1) (entries_since h.bench.past m.0.past) rest
 
@@ -209,10 +239,16 @@ begins-unmarked : (t : List ℕ) → Begins t → without_mark t ≡ t
 begins-unmarked t b = no-mark t (ap (λ (l : List ℕ). slice_index l 0 == 239) b.2 ∙ b.3.0)
 
 -- ---- the lines of an input, and its pieces
+back-begun : (h : HandData) (name : List ℕ) (at : Option (BenchState × List Marked)) → h.begun ≡ true → (gone_back h name at).0.begun ≡ true
+back-begun h name None b = b
+back-begun h name (Some at) b = b
+
 told-begun : (h : HandData) (said : Result (Option Heard) Reason) → h.begun ≡ true → (heard_answer h said).0.begun ≡ true
 told-begun h (Err why) b = b
 told-begun h (Ok None) b = b
 told-begun h (Ok (Some (Ask asked))) b = b
+told-begun h (Ok (Some (SetMark name))) b = b
+told-begun h (Ok (Some (GoBack name))) b = back-begun h name (bench_at h.marks name) b
 told-begun h (Ok (Some (Make line))) b = b
 
 nothing-read : (c : Parts) (k : Option CodedData) → read_worded_line c k [] ≡ Ok None
@@ -285,7 +321,7 @@ reads-coded c opening capacity t steps (Some k) none says = says.coded none k
 abbrev Again : HandData → List (List ℕ) → HandData → Type 0
 Again h ls k = (reverse k.bench.past ≡ log_after h ls) × (k.was_bad ≡ false)
 
-again-by : (h : HandData) (ls : List (List ℕ)) → IsTranscript h → All FitsEntry (log_after h ls) → AreShort (transcript reply h ls)
+again-by : (h : HandData) (ls : List (List ℕ)) → IsTranscript h ls → All FitsEntry (log_after h ls) → AreShort (transcript reply h ls)
     → (b : Begins (transcript reply h ls)) → Again h ls (state_after reply (anew h) (lines (transcript reply h ls)))
 unfolding read
 again-by h ls t fits shorts b =
@@ -296,7 +332,7 @@ again-by h ls t fits shorts b =
     ap (λ (u : List ℕ). read_lines h.cluster None 1 (pieces_at_lf u)) (sym (begins-unmarked text b)) ∙ says.reading in
     let reading : read_lines h.cluster h.coded 1 (pieces_at_lf text) ≡ Ok says.lines =
     ap (λ (u : List ℕ). read_lines h.cluster h.coded 1 (pieces_at_lf u)) (sym (begins-unmarked text b))
-    ∙ reads-coded h.cluster h.opening h.capacity text (steps_of (log_after h ls)) h.coded t.no_marks says in
+    ∙ reads-coded h.cluster h.opening h.capacity text (steps_of (log_after h ls)) h.coded t.texts.no_marks says in
     let some = pieces-some text in
     let played = live-is-play h.format h.coded h.is_physical h.cluster h.opening h.capacity (pieces_at_lf text) says.lines _
     (all-plain h.cluster 1 (pieces_at_lf text) says.lines shorts plain) reading says.steps_alone in
@@ -308,4 +344,4 @@ again-by h ls t fits shorts b =
 
 pub transcripts-are-inputs : TranscriptsAreInputs
 transcripts-are-inputs h [] t fits shorts = (ap (λ (p : List LogEntry). reverse p) (sym t.begins), refl)
-transcripts-are-inputs h (line ∷ more) t fits shorts = again-by h (line ∷ more) t fits shorts (transcript-begins h line more t.of_text)
+transcripts-are-inputs h (line ∷ more) t fits shorts = again-by h (line ∷ more) t fits shorts (transcript-begins h line more t.texts.of_text)

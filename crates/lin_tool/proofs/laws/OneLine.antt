@@ -63,4 +63,6 @@ module _ (l : Language) (frames : Called) where
 pub live-quiet : (why : LiveReason) → Quiet (live_text why)
 live-quiet (live.Script why) = line-quiet plain nameless (reason_words why)
 live-quiet (live.UnknownQuestion fields) = quiet-seen-texts (codes " ") refl fields
+live-quiet (live.NoName field) = quiet-seen-text field
+live-quiet (live.NoMark name) = quiet-seen-text name
 live-quiet why = refl

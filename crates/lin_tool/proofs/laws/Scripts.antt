@@ -127,13 +127,13 @@ entries-say Log c k log text a fits = texts-again plain plain_replies log plain-
 entries-say Named c k log text a fits = texts-again (named_language c) (reply_lines c k) log a fits
 entries-say Jsonl c k log text a fits = absurd (cc)
 
-pub transcript-says : (h : HandData) (ls : List (List ℕ)) → IsTranscript h → All FitsEntry (log_after h ls)
+pub transcript-says : (h : HandData) (ls : List (List ℕ)) → IsTranscript h ls → All FitsEntry (log_after h ls)
     → text_says (told_in h.format h.cluster) (transcript reply h ls) ≡ Ok (steps_of (log_after h ls))
 transcript-says h ls t fits =
     let l = told_in h.format h.cluster in
     remarks-say-nothing l (transcript reply h ls) (steps_of (log_after h ls))
     (ap (text_says l) (transcripts-are-logs h ls t)
-    ∙ entries-say h.format h.cluster (shown_coding h) (log_after h ls) t.of_text t.names fits)
+    ∙ entries-say h.format h.cluster (shown_coding h) (log_after h ls) t.texts.of_text t.texts.names fits)
 
 pub transcripts-are-scripts : TranscriptsAreScripts
 unfolding script

@@ -11,15 +11,17 @@ use Rattle.lin_values.specs.Coded.{CodedData}
 use Rattle.lin_live.proofs.Cuts.{pieces-clean, tail-clean}
 use Rattle.lin_live.proofs.Growth.{answers-are-the-log, answers-are-written, told-kept}
 use Rattle.lin_live.specs.Answers.{answers, answers_text}
-use Rattle.lin_bench.specs.Made.{made}
+use Rattle.lin_bench.specs.Made.{BenchState, made}
 use Rattle.lin_bench.specs.Strict.{entries_since}
-use Rattle.lin_live.specs.Told.{Answer, Ending, HandData, hash_ending, is_text, last_line, line_answer, entries_text, heard_as, verdict_with_meaning, question_reason_text, shown_coding, heard_answer, without_byte_order_mark}
+use Rattle.lin_live.specs.Told.{Answer, Ending, HandData, gone_back, hash_ending, is_text, last_line, line_answer, entries_text, heard_as, verdict_with_meaning, question_reason_text, shown_coding, heard_answer, without_byte_order_mark}
 use Rattle.lin_live.specs.Lines.{HasNoLf, but_last, last_line as last_of, pieces_at_lf, after_last_lf}
 use Rattle.lin_live.specs.Transcript.{short}
 use Rattle.lin_live.specs.declared.answer_format.AnswerFormat.{AnswerFormat}
 use Rattle.lin_live.specs.declared.answer_format.AnswerFormat.TheVariants.{Log, Named, Jsonl}
 use Rattle.lin_live.specs.declared.heard.Heard.{Heard}
-use Rattle.lin_live.specs.declared.heard.Heard.TheVariants.{Ask, Make}
+use Rattle.lin_live.specs.declared.heard.Heard.TheVariants.{Ask, GoBack, Make, SetMark}
+use Rattle.lin_live.specs.Marking.{Marked, bench_at}
+use Rattle.lin_live.specs.declared.reason.Reason.TheVariants.{NoMark}
 use Rattle.lin_live.specs.declared.reason.Reason.{Reason}
 use Rattle.lin_tool.specs.laws.Transcripts.{IsRemark, LastLinesAreRemarks, LinesHaveNoLf, TranscriptsAreLogs, without_remarks}
 use Rattle.lin_tool.proofs.laws.LastLines.{ending-remark, value-remark, verdict-remark}
@@ -37,12 +39,19 @@ text-line Log c k e is h = h
 text-line Named c k e is h = h
 text-line Jsonl c k e is h = absurd (cc)
 
+back-remark : (h : HandData) → HasNames (named_language h.cluster) → (name : List ℕ) (at : Option (BenchState × List Marked))
+    → IsRemark (hash_ending h.cluster (shown_coding h) (gone_back h name at).1.ending)
+back-remark h a name None = ending-remark h.cluster a (codes "bad line: " ++ question_reason_text (NoMark name)) (live-quiet (NoMark name))
+back-remark h a name (Some at) = ending-remark h.cluster a (codes "ok") refl
+
 told-remark : (h : HandData) → HasNames (named_language h.cluster) → (said : Result (Option Heard) Reason)
     → IsRemark (hash_ending h.cluster (shown_coding h) (heard_answer h said).1.ending)
 told-remark h a (Err why) = ending-remark h.cluster a (codes "bad line: " ++ question_reason_text why) (live-quiet why)
 told-remark h a (Ok None) = ending-remark h.cluster a (codes "ok") refl
 told-remark h a (Ok (Some (Ask asked))) =
     value-remark h.cluster a (shown_coding h) h.opening h.bench.past h.bench.rules asked
+told-remark h a (Ok (Some (SetMark name))) = ending-remark h.cluster a (codes "ok") refl
+told-remark h a (Ok (Some (GoBack name))) = back-remark h a name (bench_at h.marks name)
 told-remark h a (Ok (Some (Make line))) =
     let m = made h.cluster h.opening h.capacity h.bench line in
     verdict-remark h.cluster a (shown_coding h) (verdict_with_meaning h.coded m.1) (entries_since h.bench.past m.0.past)
@@ -85,10 +94,10 @@ pub transcripts-are-logs : TranscriptsAreLogs
 transcripts-are-logs h ls t =
     let all = flat_map (λ x. x.entries) (answers h ls) in
     let k = shown_coding h in
-    ap without_remarks (answers-are-written h ls)
-    ∙ answers-left h.format h.cluster k t.names h.bench.past (answers h ls) t.of_text (last-lines-are-remarks h ls t)
+    ap without_remarks (answers-are-written h ls t.forward)
+    ∙ answers-left h.format h.cluster k t.texts.names h.bench.past (answers h ls) t.texts.of_text (last-lines-are-remarks h ls t.texts)
     ∙ ap (λ p. entries_text h.format h.cluster k p all) t.begins
-    ∙ ap (entries_text h.format h.cluster k []) (sym (answers-are-the-log h ls ∙ ap (λ (p : List LogEntry). reverse p ++ all) t.begins))
+    ∙ ap (entries_text h.format h.cluster k []) (sym (answers-are-the-log h ls t.forward ∙ ap (λ (p : List LogEntry). reverse p ++ all) t.begins))
 
 -- ---- the lines of an input
 strip-clean : (p : List ℕ) → HasNoLf p → HasNoLf (strip_carriage_return p)

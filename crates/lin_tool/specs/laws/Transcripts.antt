@@ -10,7 +10,7 @@ use Rattle.lin_log.specs.Laws.{FitsEntry, HasNames}
 use Rattle.lin_log.specs.Script.{script}
 use Rattle.lin_parts.specs.declared.parts.Parts.{Parts}
 use Rattle.lin_bench.specs.Plain.{HasNoMarks, SaysSteps}
-use Rattle.lin_live.specs.Answers.{answers}
+use Rattle.lin_live.specs.Answers.{KeepsLog, answers}
 use Rattle.lin_live.specs.Lines.{HasNoLf, but_last, lines, pieces_at_lf, after_last_lf}
 use Rattle.lin_live.specs.Play.{in_hand_of, empty_run}
 use Rattle.lin_live.specs.Told.{HandData, entries_text, is_text, last_line, reply, shown_coding}
@@ -31,26 +31,30 @@ is_said line = not (slice_index line 0 == 35)
 abbrev pub without_remarks : List ℕ → List ℕ
 without_remarks bytes = flat_map (λ line. line) (filter is_said (lines_with_ends bytes))
 
--- names are words, and where what signals mean is known, none is called as a mark; a bench in hand that
--- begins answers lines in texts
-pub record IsTranscript (h : HandData) : Type 0 where
+-- names are words, and a session answers in texts; where what signals mean is known, none is called as a mark
+pub record AnswersInTexts (h : HandData) : Type 0 where
   pub of_text : is_text h.format ≡ true
   pub names : HasNames (named_language h.cluster)
   pub no_marks : IfSome h.coded (λ k. HasNoMarks h.cluster)
+
+-- such a session begins, and none of its lines goes back to a mark
+pub record IsTranscript (h : HandData) (ls : List (List ℕ)) : Type 0 where
+  pub texts : AnswersInTexts h
   pub begins : h.bench.past ≡ []
+  pub forward : AllByRecursion KeepsLog ls
 
 abbrev pub log_after : HandData → List (List ℕ) → List LogEntry
 log_after h ls = reverse (state_after reply h ls).bench.past
 
 -- without the lines that begin with `#`, a transcript is the text of the log, byte for byte
 abbrev pub TranscriptsAreLogs : Type 0
-TranscriptsAreLogs = (h : HandData) (ls : List (List ℕ)) → IsTranscript h
+TranscriptsAreLogs = (h : HandData) (ls : List (List ℕ)) → IsTranscript h ls
     → without_remarks (transcript reply h ls)
     ≡ entries_text h.format h.cluster (shown_coding h) [] (log_after h ls)
 
 -- a transcript by numbers is a script of its run
 abbrev pub TranscriptsAreScripts : Type 0
-TranscriptsAreScripts = (h : HandData) (ls : List (List ℕ)) → IsTranscript h
+TranscriptsAreScripts = (h : HandData) (ls : List (List ℕ)) → IsTranscript h ls
     → All FitsEntry (log_after h ls) → h.format ≡ Log
     → script (transcript reply h ls) ≡ Ok (steps_of (log_after h ls))
 
@@ -58,7 +62,7 @@ TranscriptsAreScripts = (h : HandData) (ls : List (List ℕ)) → IsTranscript h
 -- expects nothing
 abbrev pub TranscriptsAreBenchScripts : Type 0
 TranscriptsAreBenchScripts = (h : HandData) (ls : List (List ℕ)) (opening capacity : ℕ)
-    → IsTranscript h → All FitsEntry (log_after h ls)
+    → IsTranscript h ls → All FitsEntry (log_after h ls)
     → SaysSteps h.cluster opening capacity (transcript reply h ls) (steps_of (log_after h ls))
 
 -- a bench in hand that begins, with the same cluster, meanings and settings and without rules
@@ -77,7 +81,7 @@ AreShort bytes =
 -- them is bad
 abbrev pub TranscriptsAreInputs : Type 0
 TranscriptsAreInputs = (h : HandData) (ls : List (List ℕ))
-    → IsTranscript h → All FitsEntry (log_after h ls) → AreShort (transcript reply h ls)
+    → IsTranscript h ls → All FitsEntry (log_after h ls) → AreShort (transcript reply h ls)
     → (log_after (anew h) (lines (transcript reply h ls)) ≡ log_after h ls)
     × ((state_after reply (anew h) (lines (transcript reply h ls))).was_bad ≡ false)
 
@@ -88,7 +92,7 @@ pub record IsRemark (t : List ℕ) : Type 0 where
   pub whole : t ≡ 35 ∷ (words ++ 10 ∷ [])
 
 abbrev pub LastLinesAreRemarks : Type 0
-LastLinesAreRemarks = (h : HandData) (ls : List (List ℕ)) → IsTranscript h
+LastLinesAreRemarks = (h : HandData) (ls : List (List ℕ)) → AnswersInTexts h
     → AllByRecursion (λ a. IsRemark (last_line h.format h.cluster (shown_coding h) a.ending)) (answers h ls)
 
 -- the lines of an input have no LF in them

@@ -1,20 +1,27 @@
-use Rattle.std.proofs.Common.{◌∙◌, ◌≡◌, Err, ap, subst}
+use Rattle.std.proofs.Common.{◌∙◌, Err, ap, refl}
 use Rattle.std.proofs.lemmas.Result.{err_from_is_err_and}
-use Rattle.lin_live.specs.Serving.{WritesAlone}
-use Rattle.lin_live.specs.Told.{HandData, Is, asked_value, ending_text}
-use Rattle.lin_live.specs.Values.{Said, as_said}
-use Rattle.lin_live.proofs.LinesTold.{failed-alone}
+use Rattle.lin_text.proofs.Adding.{appends-nothing}
+use Rattle.lin_live.proofs.HeldMarks.{asked-its, failed-so, asked-by, asking}
 use Rattle.lin_live.proofs.hand.Hand.ask.Goals as goal
 
-pub returns-in_err-write_asked : goal.returns-in_err-write_asked
-returns-in_err-write_asked g c =
-    let after = c.take_slot-known.new.self in
-    let value = c.in_ok-value.value in
-    let q = c.args.question in
-    let said = subst (λ (h : HandData). as_said h.cluster value ≡ asked_value h q) c.self.view_is c.in_ok-value.ensures.said in
-    let text =
-    ap (λ (s : Said). ending_text after (Is s)) said ∙ ap (λ (h : HandData). ending_text h (Is (asked_value h q))) c.take_slot-known.ensures.same in
-    let written =
-    subst (λ t. WritesAlone (g.W.Write.contents c.args.writer.now) (g.W.Write.contents c.write_asked.new.writer) t c.write_asked.result) text c.write_asked.ensures in
-    let p = err_from_is_err_and c.from_residual-in_err-write_asked.result c.from_residual-in_err-write_asked.ensures.1 in
-    failed-alone _ _ _ _ _ c.write_asked.result c.from_residual-in_err-write_asked.result c.in_err-write_asked.field-0.0 written c.in_err-write_asked.was (p.1 ∙ ap Err p.2)
+pub returns-in_default : goal.returns-in_default
+returns-in_default g c = appends-nothing (g.W.Write.contents c.args.writer.now)
+
+pub returns-in_err-ask : goal.returns-in_err-ask
+returns-in_err-ask g c =
+    let a = c.self.inside in
+    let p = err_from_is_err_and c.from_residual.result c.from_residual.ensures.1 in
+    failed-so (asking c.args.self.now c.args.question) ⊥ _ _ _ _ c.ask.result c.from_residual.result c.in_err-ask.field-0.0 c.in_err-ask.was (p.1 ∙ ap Err p.2)
+    (asked-by a.held a.marks a.marks c.in-Some.held c.args.self.now c.ask.new.self c.args.question _ _ c.ask.result refl c.in-Some.is c.self.view_is c.ask.ensures)
+
+pub invariant_of-self-2 : goal.invariant_of-self-2
+invariant_of-self-2 g c =
+    let a = c.self.inside in
+    asked-its a.held a.marks c.take-marks.result a.opening c.in-Some.held c.ask.new.self c.take-marks.ensures.value c.in-Some.is c.self.invariant
+    (rw c.in_ok-ask.was at c.ask.ensures).1
+
+pub returns : goal.returns
+returns g c =
+    let a = c.self.inside in
+    rw c.in_ok-ask.was at (asked-by a.held a.marks c.take-marks.result c.in-Some.held c.args.self.now c.ask.new.self c.args.question _ _ c.ask.result
+    c.take-marks.ensures.value c.in-Some.is c.self.view_is c.ask.ensures)

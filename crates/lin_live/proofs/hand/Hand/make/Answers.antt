@@ -1,64 +1,29 @@
-use Rattle.std.proofs.Common.{◌≤◌, ◌<◌, ◌-◌, ◌^◌, ◌∙◌, ℕ, Err, List, ap, length, rules, subst, sym}
+use Rattle.std.proofs.Common.{◌∙◌, Err, ap, refl}
 use Rattle.std.proofs.lemmas.Result.{err_from_is_err_and}
-use Rattle.lin_core.specs.Core.{CoreData}
-use Rattle.lin_bench.specs.Made.{made}
-use Rattle.lin_live.specs.Hand.{IsKept, earlier, hand_data}
-use Rattle.lin_live.specs.Serving.{WritesAnswer}
-use Rattle.lin_live.specs.Told.{HandData, after_line, verdict_with_meaning, written}
-use Rattle.lin_live.specs.declared.hand.KeptTracks.{KeptTracks}
-use Rattle.lin_live.proofs.LinesTold.{from-there, kept-there, line-grown, line-told-so, not-made, other-state, slot-there, telling}
-use Rattle.lin_live.proofs.Replying.{tells-anyway}
+use Rattle.lin_text.proofs.Adding.{appends-nothing}
+use Rattle.lin_live.specs.Told.{IsFullFor, heard_reply}
+use Rattle.lin_live.specs.declared.heard.Heard.TheVariants.{Make}
+use Rattle.lin_live.proofs.HeldMarks.{failed-so, made-by, made-its}
 use Rattle.lin_live.proofs.hand.Hand.make.Goals as goal
 
-pub tell-requires-clause-there : goal.tell-requires-clause-there
-tell-requires-clause-there g c =
-    let from = c.len-from.ensures.len ∙ ap length (c.log.ensures.entries ∙ ap (λ (k : CoreData). k.log) c.core.ensures) in
-    subst (λ (h : HandData). c.len-from.result ≤ length h.bench.past) (sym c.keep.ensures)
-    (from-there c.self.inside c.make.new.self c.len-from.result
-    (line-grown c.self.inside c.renew_slots.new.self c.make.new.self c.args.line c.in_ok-verdict.verdict c.renew_slots.ensures c.in_ok-verdict.ensures) from)
+pub returns-in_default : goal.returns-in_default
+returns-in_default g c = appends-nothing (g.W.Write.contents c.args.writer.now)
 
-pub tell-requires-clause-kept : goal.tell-requires-clause-kept
-tell-requires-clause-kept g c =
-    let from = c.len-from.ensures.len ∙ ap length (c.log.ensures.entries ∙ ap (λ (k : CoreData). k.log) c.core.ensures) in
-    let kept : KeptTracks = record { track = c.take.result; objects = c.take-2.result } in
-    subst (λ (h : HandData). IsKept h.cluster (earlier c.len-from.result h.bench.past) kept) (sym c.keep.ensures)
-    (kept-there c.self.inside c.renew_slots.new.self c.make.new.self c.args.line c.in_ok-verdict.verdict c.len-from.result kept
-    c.renew_slots.ensures c.in_ok-verdict.ensures from c.take.ensures.value c.take-2.ensures.value c.self.invariant)
+pub returns-in_err-make : goal.returns-in_err-make
+returns-in_err-make g c =
+    let a = c.self.inside in
+    let p = err_from_is_err_and c.from_residual.result c.from_residual.ensures.1 in
+    failed-so (heard_reply c.args.self.now (Make c.args.line)) (IsFullFor c.args.self.now c.args.line) _ _ _ _ c.make.result c.from_residual.result c.in_err-make.field-0.0 c.in_err-make.was (p.1 ∙ ap Err p.2)
+    (made-by a.opening a.held a.marks a.marks c.in-Some.held c.args.self.now c.make.new.self c.args.line _ _ c.make.result refl c.in-Some.is c.self.invariant c.self.view_is c.make.ensures)
 
 pub invariant_of-self-2 : goal.invariant_of-self-2
-invariant_of-self-2 g c = record {
-  track = search rules;
-  objects = search rules;
-  slot =
-      slot-there c.self.inside c.renew_slots.new.self c.make.new.self c.args.line c.in_ok-verdict.verdict c.take-last_slot.result
-      c.renew_slots.ensures c.in_ok-verdict.ensures c.take-last_slot.ensures.value c.self.invariant;
-}
-
-pub returns-in_err-verdict : goal.returns-in_err-verdict
-returns-in_err-verdict g c =
-    let p = err_from_is_err_and c.from_residual.result c.from_residual.ensures.1 in
-    let old = g.W.Write.contents c.args.writer.now in
-    other-state _ _ c.args.self.now _ _ _ c.from_residual.result p.0 p.1
-    (subst
-    (λ (x : HandData). WritesAnswer (written x (after_line x (made x.cluster x.opening x.capacity x.bench c.args.line)))
-    (2 ^ 32 - 1 < length (made x.cluster x.opening x.capacity x.bench c.args.line).0.past) c.args.self.now old old c.from_residual.result)
-    c.self.view_is
-    (not-made c.self.inside c.renew_slots.new.self c.make.new.self c.args.line c.in_err-verdict.field-0.0 c.args.self.now old c.from_residual.result
-    c.renew_slots.ensures (c.in_err-verdict.ensures).0 (p.1 ∙ ap Err p.2)))
+invariant_of-self-2 g c =
+    let a = c.self.inside in
+    made-its a.held a.marks c.take-marks.result a.opening c.in-Some.held c.make.new.self c.args.line c.take-marks.ensures.value c.in-Some.is c.self.invariant
+    (rw c.in_ok-make.was at c.make.ensures).1
 
 pub returns : goal.returns
 returns g c =
-    let from = c.len-from.ensures.len ∙ ap length (c.log.ensures.entries ∙ ap (λ (k : CoreData). k.log) c.core.ensures) in
-    let told = c.in_ok-told.ensures ∙ ap (λ (h : HandData). verdict_with_meaning h.coded c.in_ok-verdict.verdict) c.keep.ensures in
-    let same = line-told-so c.self.inside c.renew_slots.new.self c.make.new.self c.args.line c.in_ok-verdict.verdict c.in_ok-told.told c.len-from.result c.keep.new.self
-    c.renew_slots.ensures c.in_ok-verdict.ensures from c.keep.ensures told in
-    let old = g.W.Write.contents c.args.writer.now in
-    let new = g.W.Write.contents c.tell.new.writer in
-    let h = hand_data c.self.inside in
-    let full = 2 ^ 32 - 1 < length (made h.cluster h.opening h.capacity h.bench c.args.line).0.past in
-    subst
-    (λ (x : HandData). WritesAnswer (written x (after_line x (made x.cluster x.opening x.capacity x.bench c.args.line)))
-    (2 ^ 32 - 1 < length (made x.cluster x.opening x.capacity x.bench c.args.line).0.past) c.tell.new.self old new c.tell.result)
-    c.self.view_is
-    (subst (λ (p : HandData × List ℕ). WritesAnswer p full c.tell.new.self old new c.tell.result) same
-    (tells-anyway (telling c.keep.new.self c.len-from.result c.in_ok-told.told) full c.tell.new.self old new c.tell.result c.tell.ensures))
+    let a = c.self.inside in
+    rw c.in_ok-make.was at (made-by a.opening a.held a.marks c.take-marks.result c.in-Some.held c.args.self.now c.make.new.self c.args.line _ _ c.make.result
+    c.take-marks.ensures.value c.in-Some.is c.self.invariant c.self.view_is c.make.ensures)

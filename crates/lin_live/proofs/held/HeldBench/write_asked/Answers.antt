@@ -4,7 +4,7 @@ use Rattle.lin_core.specs.Core.{CoreData}
 use Rattle.lin_values.specs.Coded.{CodedData}
 use Rattle.lin_live.specs.Told.{HandData, shown_coding}
 use Rattle.lin_live.proofs.LinesTold.{asked-object}
-use Rattle.lin_live.proofs.hand.Hand.write_asked.Goals as goal
+use Rattle.lin_live.proofs.held.HeldBench.write_asked.Goals as goal
 
 pub returns-in_ok-write_value_object-in-Jsonl : goal.returns-in_ok-write_value_object-in-Jsonl
 returns-in_ok-write_value_object-in-Jsonl g c =

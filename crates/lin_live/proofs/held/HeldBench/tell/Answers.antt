@@ -5,7 +5,7 @@ use Rattle.lin_core.specs.Core.{CoreData}
 use Rattle.lin_text.specs.Written.{WritesText}
 use Rattle.lin_live.specs.Told.{HandData, object_ending, shown_coding}
 use Rattle.lin_live.proofs.LinesTold.{log-told, names-told, no-memory, not-told, objects-told, telling}
-use Rattle.lin_live.proofs.hand.Hand.tell.Goals as goal
+use Rattle.lin_live.proofs.held.HeldBench.tell.Goals as goal
 
 pub returns-in_err-write_line-in-Log : goal.returns-in_err-write_line-in-Log
 returns-in_err-write_line-in-Log g c =

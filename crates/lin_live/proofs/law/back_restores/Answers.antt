@@ -1,0 +1,8 @@
+use Rattle.lin_live.proofs.Returning.{back-restores, marks-stay}
+use Rattle.lin_live.proofs.law.back_restores.Goals as goal
+
+pub returns-clause-bench : goal.returns-clause-bench
+returns-clause-bench c = back-restores
+
+pub returns-clause-mark : goal.returns-clause-mark
+returns-clause-mark c = marks-stay
