@@ -17,13 +17,13 @@ use Rattle.lin_export.specs.declared.fault.ExportFault.{ExportFault}
 use Rattle.lin_export.specs.declared.fault.ExportFault.TheVariants as export
 use Rattle.lin_tool.specs.Formats.{Begins, export_fault}
 use Rattle.lin_tool.specs.Playing.{WritesTextOrPart}
-use Rattle.lin_tool.specs.campaign.Played.{IsPlayFault, PlaysRow}
+use Rattle.lin_tool.specs.campaign.Played.{IsUnfinished, PlaysRow}
 use Rattle.lin_tool.specs.campaign.Rows.{IsPart, bound, part_of, places_of, rows}
 use Rattle.lin_tool.specs.campaign.Shown.{RowData}
 use Rattle.lin_tool.specs.campaign.Singles.{faults_at, only_single, singles}
-use Rattle.lin_tool.specs.campaign.Steps.{AreNamed, AreRowsOf, CountsMore, IsBegun, IsNamed, IsPlanned, IsRowFault, IsTable, WritesRow, WritesRows, calm_row, cases_of, counts_text, disturbed_row, end_row, first_disturbed, first_of, first_row, is_page, row_of_play, stage_of, worst_places}
+use Rattle.lin_tool.specs.campaign.Steps.{AreNamed, AreRowsOf, BreaksOff, CountsMore, IsBegun, IsNamed, IsPlanned, IsTable, WritesRow, WritesRows, calm_row, cases_of, counts_text, disturbed_row, end_row, first_disturbed, first_of, first_row, is_page, row_of_play, stage_of, worst_places}
 use Rattle.lin_tool.specs.campaign.Summary.{AreCountsOf, CountsData, NumberedRow, is_denied, lines_broken, lines_text, numbers_text, rows_of, worse, worst_after, worst_of}
-use Rattle.lin_tool.specs.campaign.Written.{AreRowsFrom, Ends, IsRowOf, Plays, Stage, WritesPlays, before, behind, rows_with_faults, counts, denies, plays_in_output, numbered_row, numbered_rows, row_as, row_in_output, rows_in_output, campaign_output}
+use Rattle.lin_tool.specs.campaign.Written.{AreRowsFrom, Ends, IsRowOf, Plays, SomeRowOverfills, Stage, WritesPlays, is_full, before, behind, rows_with_faults, counts, denies, plays_in_output, numbered_row, numbered_rows, row_as, row_in_output, rows_in_output, campaign_output}
 use Rattle.lin_tool.specs.declared.campaign.Campaign.{Campaign}
 use Rattle.lin_tool.specs.declared.campaign.Plan.{Plan}
 use Rattle.lin_tool.specs.declared.campaign.Play.{Play}
@@ -104,21 +104,22 @@ row-done on t c x handed ls n p counts more old new is same written counted = (p
 
 -- a beginning of it was written
 pub row-begun : (on : Campaign) (t : Table) (c x : Parts) (ls : List (ℕ × ScriptLine)) (n : ℕ) (p : RowData) (fault : Fault) (counts more : CountsData) (old new : Option (List ℕ))
-    → IsRowOf (stage_of on c ls) t.singles.now n (places_of t.rows.now n) p → x ≡ c → Begins old new (disturbed_row on t x p) → IsRowFault fault
+    → IsRowOf (stage_of on c ls) t.singles.now n (places_of t.rows.now n) p → x ≡ c → Begins old new (disturbed_row on t x p) → BreaksOff on t c ls fault
     → WritesRow on t c ls n (Err fault) counts more old new
 row-begun on t c x ls n p fault counts more old new is same begun failed = (p, is, subst (λ y. Begins old new (disturbed_row on t y p)) same begun, failed)
 
-pub row-fault : (fault : Fault) → IsPlayFault fault → IsRowFault fault
-row-fault LogFull h = tt
-row-fault OutOfMemory h = tt
-row-fault fault h = absurd h
+pub row-fault : (on : Campaign) (t : Table) (c : Parts) (ls : List (ℕ × ScriptLine)) (n : ℕ) (fault : Fault) → n < length (rows t.rows.now)
+    → IsUnfinished on c (faults_at t.singles.now (places_of t.rows.now n)) ls fault → BreaksOff on t c ls fault
+row-fault on t c ls n LogFull there h = (n, there, h)
+row-fault on t c ls n OutOfMemory there h = tt
+row-fault on t c ls n fault there h = absurd h
 
-pub written-fault : (fault : ExportFault) → IsRowFault (export_fault fault)
-written-fault export.OutOfMemory = tt
-written-fault export.WriteFailed = tt
+pub written-fault : (on : Campaign) (t : Table) (c : Parts) (ls : List (ℕ × ScriptLine)) (fault : ExportFault) → BreaksOff on t c ls (export_fault fault)
+written-fault on t c ls export.OutOfMemory = tt
+written-fault on t c ls export.WriteFailed = tt
 
 -- a row of which nothing was written
-pub row-unbegun : (on : Campaign) (t : Table) (c : Parts) (ls : List (ℕ × ScriptLine)) (n : ℕ) (fault : Fault) (counts more : CountsData) (old : Option (List ℕ)) → IsRowFault fault
+pub row-unbegun : (on : Campaign) (t : Table) (c : Parts) (ls : List (ℕ × ScriptLine)) (n : ℕ) (fault : Fault) (counts more : CountsData) (old : Option (List ℕ)) → BreaksOff on t c ls fault
     → WritesRow on t c ls n (Err fault) counts more old old
 row-unbegun on t c ls n fault counts more old failed =
     let p = a-row (stage_of on c ls) t.singles.now n (places_of t.rows.now n) in (p.0, p.1, begins-nothing old (disturbed_row on t c p.0), failed)
@@ -259,6 +260,8 @@ record HasWhole (on : Campaign) (plan : Plan) (t : Table) (core : CoreData) (ls 
   pub text : campaign_output on.script.now on.file.now on.bytes.now it ≡ text_of on t core ps
   pub named_are : numbered_rows it.played ≡ map numbered_row ps
   pub judged : it.calm.judgements ≡ t.judgements.now
+  pub singles : it.singles_are ≡ t.singles.now
+  pub table : it.table ≡ t.rows.now
 
 -- the same, with a format and a part that are the plan's
 whole-text : (format : RowFormat) (script file bytes : List ℕ) (c : Parts) (calm : RowData) (t : Rows) (first : Bool) (cases : ℕ) (from to : ℕ) (ps all : List RowData) (lost : List LostMessage) (refused : List RefusedStep)
@@ -312,15 +315,28 @@ has-whole on plan t core ls ps is h =
           (sym h.plan_is.format) (sym h.plan_is.part);
       named_are = ap (map numbered_row) all.1.counted_are;
       judged = refl;
+      singles = refl;
+      table = refl;
     }
 
 -- ---- the end
-fault-ends : (watched denied : Bool) (fault : Fault) (text told : List ℕ) (old new silent heard : Option (List ℕ)) → IsRowFault fault → Begins old new text
-    → Ends watched (Err fault) denied text told old new silent heard
-fault-ends watched denied LogFull text told old new silent heard failed h = h
-fault-ends watched denied OutOfMemory text told old new silent heard failed h = h
-fault-ends watched denied WriteFailed text told old new silent heard failed h = h
-fault-ends watched denied fault text told old new silent heard failed h = absurd failed
+fault-ends : (on : Campaign) (t : Table) (c : Parts) (ls : List (ℕ × ScriptLine)) (watched denied : Bool) (fault : Fault) (text told : List ℕ) (old new silent heard : Option (List ℕ))
+    → BreaksOff on t c ls fault → Begins old new text → Ends watched (Err fault) denied text told old new silent heard
+fault-ends on t c ls watched denied LogFull text told old new silent heard failed h = h
+fault-ends on t c ls watched denied OutOfMemory text told old new silent heard failed h = h
+fault-ends on t c ls watched denied WriteFailed text told old new silent heard failed h = h
+fault-ends on t c ls watched denied fault text told old new silent heard failed h = absurd failed
+
+not-true : {X : Type 0} → false ≡ true → X
+not-true h = absurd (cc)
+
+-- the row whose log is full
+full-row : (on : Campaign) (plan : Plan) (t : Table) (c : Parts) (ls : List (ℕ × ScriptLine)) (fault : Fault) (it : Plays (stage_of on c ls) plan) → it.singles_are ≡ t.singles.now → it.table ≡ t.rows.now
+    → BreaksOff on t c ls fault → is_full (Err fault) ≡ true → SomeRowOverfills it
+full-row on plan t c ls LogFull it singles table failed full = rw (singles, table) failed
+full-row on plan t c ls OutOfMemory it singles table failed full = not-true full
+full-row on plan t c ls WriteFailed it singles table failed full = not-true full
+full-row on plan t c ls fault it singles table failed full = absurd failed
 
 -- each campaign has plays
 any-plays : (on : Stage) (plan : Plan) (calm : RowData) → IsPart plan.part → IsRowOf on [] 0 [] calm → some_unmet calm.judgements ≡ false → Plays on plan
@@ -363,30 +379,27 @@ planned on plan calm t ls h row judgements part are made = record {
 }
 
 -- a campaign of which nothing was written
-pub campaign-unwritten : (on : Campaign) (plan : Plan) (calm : Play) (ls : List (ℕ × ScriptLine)) (watched : Bool) (fault : Fault) (old silent heard : Option (List ℕ)) → IsPart plan.part
-    → IsBegun on plan calm ls → IsRowFault fault
-    → WritesPlays (stage_of on calm.core.cluster ls) plan watched on.script.now on.file.now on.bytes.now (Err fault) old old silent heard
-campaign-unwritten on plan calm ls watched fault old silent heard part h failed =
-    let it = any-plays (stage_of on calm.core.cluster ls) plan (row_of_play calm) part h.undisturbed h.met in (
-      it,
-      fault-ends watched (denies it) fault (campaign_output on.script.now on.file.now on.bytes.now it) (counts on.script.now it) old old silent heard failed
-          (begins-nothing old (campaign_output on.script.now on.file.now on.bytes.now it)),
-    )
+pub campaign-unwritten : (on : Campaign) (plan : Plan) (calm : Play) (ls : List (ℕ × ScriptLine)) (watched : Bool) (old silent heard : Option (List ℕ)) → IsPart plan.part → IsBegun on plan calm ls
+    → WritesPlays (stage_of on calm.core.cluster ls) plan watched on.script.now on.file.now on.bytes.now (Err OutOfMemory) old old silent heard
+campaign-unwritten on plan calm ls watched old silent heard part h =
+    let it = any-plays (stage_of on calm.core.cluster ls) plan (row_of_play calm) part h.undisturbed h.met in
+    (it, (λ full. not-true full), begins-nothing old (campaign_output on.script.now on.file.now on.bytes.now it))
 
 -- a campaign of which a beginning was written
 pub campaign-broke : (on : Campaign) (plan : Plan) (t : Table) (core : CoreData) (ls : List (ℕ × ScriptLine)) (ps : List RowData) (watched : Bool) (fault : Fault) (old new silent heard : Option (List ℕ))
-    → IsTable t → ArePlayed on plan t core ls ps → IsRowFault fault → Begins old new (text_of on t core ps)
+    → IsTable t → ArePlayed on plan t core ls ps → BreaksOff on t core.cluster ls fault → Begins old new (text_of on t core ps)
     → WritesPlays (stage_of on core.cluster ls) plan watched on.script.now on.file.now on.bytes.now (Err fault) old new silent heard
 campaign-broke on plan t core ls ps watched fault old new silent heard is h failed begun =
     let w = has-whole on plan t core ls ps is h in (
       w.it,
-      fault-ends watched (denies w.it) fault (campaign_output on.script.now on.file.now on.bytes.now w.it) (counts on.script.now w.it) old new silent heard failed
+      full-row on plan t core.cluster ls fault w.it w.singles w.table failed,
+      fault-ends on t core.cluster ls watched (denies w.it) fault (campaign_output on.script.now on.file.now on.bytes.now w.it) (counts on.script.now w.it) old new silent heard failed
           (subst (λ l. Begins old new l) (sym w.text) begun),
     )
 
 -- before its rows with faults were played
 pub campaign-unplayed : (on : Campaign) (plan : Plan) (t : Table) (core : CoreData) (ls : List (ℕ × ScriptLine)) (watched : Bool) (fault : Fault) (old new silent heard : Option (List ℕ))
-    → IsTable t → IsPlanned on plan t core ls → IsRowFault fault → Begins old new (first_of on t core.cluster (calm_row t core))
+    → IsTable t → IsPlanned on plan t core ls → BreaksOff on t core.cluster ls fault → Begins old new (first_of on t core.cluster (calm_row t core))
     → WritesPlays (stage_of on core.cluster ls) plan watched on.script.now on.file.now on.bytes.now (Err fault) old new silent heard
 campaign-unplayed on plan t core ls watched fault old new silent heard is h failed begun =
     let ps = some-rows (stage_of on core.cluster ls) t.singles.now t.rows.now (first_disturbed (first_row t)) (cases_of t) in
@@ -395,16 +408,17 @@ campaign-unplayed on plan t core ls watched fault old new silent heard is h fail
 
 -- a campaign that was written
 pub campaign-ended : (on : Campaign) (plan : Plan) (t : Table) (core : CoreData) (ls : List (ℕ × ScriptLine)) (ps : List RowData) (watched : Bool) (result : Result Unit Fault)
-    (old new silent heard : Option (List ℕ)) → IsTable t → ArePlayed on plan t core ls ps → Appends old new (text_of on t core ps)
+    (old new silent heard : Option (List ℕ)) → IsTable t → ArePlayed on plan t core ls ps → is_full result ≡ false → Appends old new (text_of on t core ps)
     → (watched ≡ false → WritesTextOrPart silent heard (counts_text on t core.cluster (map numbered_row ps)))
     → (((denied : Bool) → denied ≡ is_denied plan.denies_broken plan.denies_never t.judgements.now (rows_of (map numbered_row ps)) → (text told : List ℕ) → Appends old new text
     → (watched ≡ false → WritesTextOrPart silent heard told) → Ends watched result denied text told old new silent heard))
     → WritesPlays (stage_of on core.cluster ls) plan watched on.script.now on.file.now on.bytes.now result old new silent heard
-campaign-ended on plan t core ls ps watched result old new silent heard is h written told ends =
+campaign-ended on plan t core ls ps watched result old new silent heard is h unfull written told ends =
     let w = has-whole on plan t core ls ps is h in
     let same : counts on.script.now w.it ≡ counts_text on t core.cluster (map numbered_row ps) =
     ap₂ (λ js rs. lines_text on.script.now core.cluster js (rows_of rs) ++ numbers_text core.cluster rs) w.judged w.named_are in (
       w.it,
+      (λ full. not-true (sym unfull ∙ full)),
       ends (denies w.it) (ap₂ (λ js rs. is_denied plan.denies_broken plan.denies_never js (rows_of rs)) w.judged w.named_are)
           (campaign_output on.script.now on.file.now on.bytes.now w.it) (counts on.script.now w.it) (subst (λ l. Appends old new l) (sym w.text) written)
           (λ quiet. subst (λ l. WritesTextOrPart silent heard l) (sym same) (told quiet)),
@@ -434,7 +448,7 @@ rows-fail on plan t core ls watched fault counts more old mid new silent heard i
 -- something behind the rows failed
 pub tail-fails : {E : Type 0} (on : Campaign) (plan : Plan) (t : Table) (core : CoreData) (handed : Parts) (ls : List (ℕ × ScriptLine)) (watched : Bool) (fault : Fault) (r : Result Unit E) (counts more : CountsData)
     (old mid rest new silent heard : Option (List ℕ)) → IsTable t → IsPlanned on plan t core ls → Appends old mid (first_of on t core.cluster (calm_row t core))
-    → WritesRows on t core.cluster ls (Ok handed) counts more mid rest → WritesText rest new r (behind on.format) → IsRowFault fault
+    → WritesRows on t core.cluster ls (Ok handed) counts more mid rest → WritesText rest new r (behind on.format) → BreaksOff on t core.cluster ls fault
     → WritesPlays (stage_of on core.cluster ls) plan watched on.script.now on.file.now on.bytes.now (Err fault) old new silent heard
 tail-fails on plan t core handed ls watched fault r counts more old mid rest new silent heard is h first (ps, rows-are, many, written, counted) tail failed =
     let texts = flat_map (disturbed_row on t core.cluster) ps in
@@ -444,21 +458,21 @@ tail-fails on plan t core handed ls watched fault r counts more old mid rest new
 
 -- all was written
 pub table-done : (on : Campaign) (plan : Plan) (t : Table) (core : CoreData) (handed : Parts) (ls : List (ℕ × ScriptLine)) (watched denied : Bool) (result : Result Unit Fault)
-    (counts more : CountsData) (old mid rest new silent quiet heard : Option (List ℕ)) → IsTable t → IsPlanned on plan t core ls → Appends old mid (first_of on t core.cluster (calm_row t core))
+    (counts more : CountsData) (old mid rest new silent quiet heard : Option (List ℕ)) → IsTable t → IsPlanned on plan t core ls → is_full result ≡ false → Appends old mid (first_of on t core.cluster (calm_row t core))
     → AreCountsOf t.judgements.now [] counts → WritesRows on t core.cluster ls (Ok handed) counts more mid rest → (watched ≡ false → Keeps silent quiet)
     → Appends rest new (behind on.format)
     → ((rs : List NumberedRow) → AreCountsOf t.judgements.now rs more → AreNamed t rs → WritesTextOrPart quiet heard (counts_text on t core.cluster rs))
     → ((js : List Judgement) → (rs : List NumberedRow) → AreCountsOf js rs more → denied ≡ is_denied plan.denies_broken plan.denies_never t.judgements.now (rows_of rs))
     → ((text told : List ℕ) → Appends old new text → (watched ≡ false → WritesTextOrPart silent heard told) → Ends watched result denied text told old new silent heard)
     → WritesPlays (stage_of on core.cluster ls) plan watched on.script.now on.file.now on.bytes.now result old new silent heard
-table-done on plan t core handed ls watched denied result counts more old mid rest new silent quiet heard is h first none (ps, rows-are, many, written, counted) kept tail told denies-are ends =
+table-done on plan t core handed ls watched denied result counts more old mid rest new silent quiet heard is h unfull first none (ps, rows-are, many, written, counted) kept tail told denies-are ends =
     let c = core.cluster in
     let texts = flat_map (disturbed_row on t c) ps in
     let all : AreCountsOf t.judgements.now (map numbered_row ps) more = counted t.judgements.now [] none in
     let names : AreNamed t (map numbered_row ps) = rows-named on t c ls (first_disturbed (first_row t)) ps rows-are (part-fits t ps is many) in
     let heard-all = told (map numbered_row ps) all names in
     let denied-is = denies-are t.judgements.now (map numbered_row ps) all in
-    campaign-ended on plan t core ls ps watched result old new silent heard is (record { plan_is = h; rows_are = rows-are; many = many })
+    campaign-ended on plan t core ls ps watched result old new silent heard is (record { plan_is = h; rows_are = rows-are; many = many }) unfull
     (Appends-trans old mid new (first_of on t c (calm_row t core)) (texts ++ behind on.format) first (Appends-trans mid rest new texts (behind on.format) written tail))
     (λ so. text-after silent quiet heard (counts_text on t c (map numbered_row ps)) (kept so) heard-all)
     (λ other e text said all-written all-told. subst (λ b. Ends watched result b text said old new silent heard) (denied-is ∙ sym e) (ends text said all-written all-told))

@@ -8,7 +8,7 @@ use Rattle.lin_parts.specs.declared.parts.Parts.{Parts}
 use Rattle.lin_text.specs.Written.{WritesText}
 use Rattle.lin_values.specs.Coded.{CodedData}
 use Rattle.lin_bench.specs.Played.{Run, played_under, some_unmet}
-use Rattle.lin_bench.specs.Plays.{ComesUnder, PlaysUnder, run_or_limit}
+use Rattle.lin_bench.specs.Plays.{ComesUnder, OverfillsUnder, PlaysUnder, run_or_limit}
 use Rattle.lin_bench.specs.Scripts.{Script, read}
 use Rattle.lin_bench.specs.declared.fault.PlayFault.{PlayFault}
 use Rattle.lin_bench.specs.declared.fault.PlayFault.TheVariants as play
@@ -18,7 +18,7 @@ use Rattle.lin_bench.specs.declared.line.ScriptLine.{ScriptLine}
 use Rattle.lin_bench.specs.declared.playing.PlayedUnder.{PlayedUnder}
 use Rattle.lin_export.specs.WhereTold.{given_coding}
 use Rattle.lin_tool.specs.Playing.{IsUnread, ReportsJudgements, Says, WritesTextOrPart, fails, judgements_with_meanings, play_fault, told_text}
-use Rattle.lin_tool.specs.campaign.Played.{IsPlayFault, IsPlayOf, IsUndisturbed, PlaysRow, PlaysUndisturbed}
+use Rattle.lin_tool.specs.campaign.Played.{IsOutOfMemory, IsPlayOf, IsUndisturbed, IsUnfinished, PlaysRow, PlaysUndisturbed}
 use Rattle.lin_tool.specs.campaign.Steps.{IsBegun, SaysLines, row_of_play, stage_of}
 use Rattle.lin_tool.specs.campaign.Written.{Ends, IsRowOf, Stage, WritesCampaign, WritesPlays, WritesPlaysOfScript, counts, denies, name_or, campaign_output}
 use Rattle.lin_tool.specs.declared.campaign.Campaign.{Campaign}
@@ -56,7 +56,8 @@ campaign-unplayable plan k file named on strict c opening capacity (SlotLimit n)
     rw (is.strictly, is.table, is.room) at (h.comes.lines ∙ ap (run_or_limit (record { bench = h.comes.bench; judgements = h.it.judgements })) h.limit) in
     ((ls, says, came), Keeps-refl old, kept)
 campaign-unplayable plan k file named on strict c opening capacity OutOfMemory told old silent heard ls is says h kept = inl (Keeps-refl old, kept)
-campaign-unplayable plan k file named on strict c opening capacity LogFull told old silent heard ls is says h kept = inl (Keeps-refl old, kept)
+campaign-unplayable plan k file named on strict c opening capacity LogFull told old silent heard ls is says h kept =
+    let full : OverfillsUnder c opening capacity [] ls = subst (λ n. OverfillsUnder c opening n [] ls) is.room (subst (λ n. OverfillsUnder c n on.capacity [] ls) is.table h) in inl (ls, says, full, Keeps-refl old, kept)
 campaign-unplayable plan k file named on strict c opening capacity fault told old silent heard ls is says h kept = absurd h
 
 -- a play with a judgement that isn't met fails, whatever its faults changed
@@ -155,7 +156,7 @@ rows-of-script plan k file named on strict c opening capacity result told old ne
     let there =
     subst (λ x. WritesPlays (record { strict = strict; cluster = c; coded = k; opening = opening; capacity = capacity; lines = ls }) plan plan.is_watched (name_or named (codes "-")) (name_or file []) x result old new mid heard)
     bytes h7 in
-    (ls, it, (there.0, ends-after plan.is_watched (denies there.0) result (campaign_output (name_or named (codes "-")) (name_or file []) it.bytes there.0) (counts (name_or named (codes "-")) there.0) old new silent mid heard kept there.1))
+    (ls, it, (there.0, there.1, ends-after plan.is_watched (denies there.0) result (campaign_output (name_or named (codes "-")) (name_or file []) it.bytes there.0) (counts (name_or named (codes "-")) there.0) old new silent mid heard kept there.2))
 
 written-by : (plan : Plan) (k : Option CodedData) (file named : Option (Bor (List ℕ))) (strict : Bool) (c : Parts) (opening capacity : ℕ) (result : Result Unit Fault)
     (told old new silent heard : Option (List ℕ)) → WritesPlaysOfScript plan k file named strict c opening capacity result told old new silent heard
@@ -165,7 +166,7 @@ written-by plan k file named strict c opening capacity (Err Denied) told old new
 written-by plan k file named strict c opening capacity (Err WriteFailed) told old new silent heard h = h
 written-by plan k file named strict c opening capacity (Err OutOfMemory) told old new silent heard h = inr h
 written-by plan k file named strict c opening capacity (Err LogFull) told old new silent heard h = inr h
-written-by plan k file named strict c opening capacity (Err fault) told old new silent heard (ls, it, (plays, ends)) = absurd ends
+written-by plan k file named strict c opening capacity (Err fault) told old new silent heard (ls, it, (plays, full, ends)) = absurd ends
 
 pub campaign-written : (plan : Plan) (k : Option CodedData) (file named : Option (Bor (List ℕ))) (on : Campaign) (strict : Bool) (c : Parts) (opening capacity : ℕ) (result : Result Unit Fault)
     (told old new silent mid heard : Option (List ℕ)) (ls : List (ℕ × ScriptLine)) (it : Says c k told (Ok ls)) (calm : Parts) → calm ≡ c → IsCampaign on k file named strict opening capacity
@@ -176,34 +177,39 @@ campaign-written plan k file named on strict c opening capacity result told old 
     (rows-of-script plan k file named on strict c opening capacity result told old new silent mid heard ls it calm same is bytes kept h)
 
 -- lines that can't be played under faults
-pub unplayed-fault : (strict : Bool) (c : Parts) (opening capacity : ℕ) (fs : List SlotFault) (ls : List (ℕ × ScriptLine)) (fault : PlayFault) → PlaysUnder strict c opening capacity fs ls (Err fault)
-    → IsPlayFault (play_fault fault)
-unplayed-fault strict c opening capacity fs ls (play.SlotLimit n) h = absurd h
-unplayed-fault strict c opening capacity fs ls play.LogFull h = tt
-unplayed-fault strict c opening capacity fs ls play.OutOfMemory h = tt
+pub unplayed-fault : (on : Campaign) (c : Parts) (fs : List SlotFault) (ls : List (ℕ × ScriptLine)) (fault : PlayFault) → PlaysUnder on.is_strict c on.table on.capacity fs ls (Err fault)
+    → IsUnfinished on c fs ls (play_fault fault)
+unplayed-fault on c fs ls (play.SlotLimit n) h = absurd h
+unplayed-fault on c fs ls play.LogFull h = h
+unplayed-fault on c fs ls play.OutOfMemory h = tt
+
+-- a play for which memory ran out
+ran-out : (on : Campaign) (c : Parts) (fs : List SlotFault) (ls : List (ℕ × ScriptLine)) (fault : Fault) → IsOutOfMemory fault → IsUnfinished on c fs ls fault
+ran-out on c fs ls OutOfMemory h = tt
+ran-out on c fs ls fault h = absurd h
 
 pub same-ok : {X E : Type 0} (r : Result X E) (x y : X) → r ≡ Ok x → r ≡ Ok y → x ≡ y
 same-ok r x y e f = cc
 
 -- a play and its row, or the fault of one
 pub judged-row : (on : Campaign) (c : Parts) (fs : List SlotFault) (said ls : List (ℕ × ScriptLine)) (it : PlayedUnder) (r : Result Play Fault) → said ≡ ls
-    → ComesUnder on.is_strict c on.table on.capacity fs said it → IfOk r (λ p. IsPlayOf (given_coding on.coded) it p) → IfErr r IsPlayFault → PlaysRow on c fs ls r
+    → ComesUnder on.is_strict c on.table on.capacity fs said it → IfOk r (λ p. IsPlayOf (given_coding on.coded) it p) → IfErr r IsOutOfMemory → PlaysRow on c fs ls r
 judged-row on c fs said ls it (Ok p) same comes is fails =
     record { it = it; comes = subst (λ l. ComesUnder on.is_strict c on.table on.capacity fs l it) same comes; is = is }
-judged-row on c fs said ls it (Err fault) same comes is fails = fails
+judged-row on c fs said ls it (Err fault) same comes is fails = ran-out on c fs ls fault fails
 
 pub judged-cluster : (k : Option CodedData) (c : Parts) (it : PlayedUnder) (r : Result Play Fault) → it.core.cluster ≡ c → IfOk r (λ p. IsPlayOf k it p) → IfOk r (λ p. p.core.cluster ≡ c)
 judged-cluster k c it (Ok p) same is = ap (λ x. x.cluster) is.core ∙ same
 judged-cluster k c it (Err fault) same is = tt
 
-pub undisturbed-fault : (on : Campaign) (c : Parts) (ls : List (ℕ × ScriptLine)) (fault : Fault) → IsPlayFault fault → PlaysUndisturbed on c ls (Err fault)
+pub undisturbed-fault : (on : Campaign) (c : Parts) (ls : List (ℕ × ScriptLine)) (fault : Fault) → IsUnfinished on c [] ls fault → PlaysUndisturbed on c ls (Err fault)
 undisturbed-fault on c ls (SlotLimit n) h = absurd h
-undisturbed-fault on c ls LogFull h = tt
+undisturbed-fault on c ls LogFull h = h
 undisturbed-fault on c ls OutOfMemory h = tt
 undisturbed-fault on c ls fault h = absurd h
 
 -- without the limit
 pub judged-undisturbed : (on : Campaign) (c : Parts) (ls : List (ℕ × ScriptLine)) (it : PlayedUnder) (r : Result Play Fault) → ComesUnder on.is_strict c on.table on.capacity [] ls it → it.limit ≡ None
-    → IfOk r (λ p. IsPlayOf (given_coding on.coded) it p) → IfErr r IsPlayFault → PlaysUndisturbed on c ls r
+    → IfOk r (λ p. IsPlayOf (given_coding on.coded) it p) → IfErr r IsOutOfMemory → PlaysUndisturbed on c ls r
 judged-undisturbed on c ls it (Ok p) comes limit is fails = record { it = it; comes = comes; is = is; limit = limit }
-judged-undisturbed on c ls it (Err fault) comes limit is fails = undisturbed-fault on c ls fault fails
+judged-undisturbed on c ls it (Err fault) comes limit is fails = undisturbed-fault on c ls fault (ran-out on c [] ls fault fails)

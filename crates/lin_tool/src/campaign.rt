@@ -10,7 +10,7 @@ ghost use Rattle.lin_bench.specs.declared.line.ScriptLine.{ScriptLine};
 ghost use Rattle.lin_export.specs.Putting.{PutsAll};
 ghost use Rattle.lin_export.specs.WhereTold.{given_coding};
 ghost use Rattle.lin_tool.specs.campaign.Page.{in_page};
-ghost use Rattle.lin_tool.specs.campaign.Played.{IsPlayFault, IsPlayOf, PlaysRow, PlaysUndisturbed};
+ghost use Rattle.lin_tool.specs.campaign.Played.{IsOutOfMemory, IsPlayOf, IsUnfinished, PlaysRow, PlaysUndisturbed};
 ghost use Rattle.lin_tool.specs.campaign.Rows.{IsPart, rows};
 ghost use Rattle.lin_tool.specs.campaign.Shown.{row_data};
 ghost use Rattle.lin_tool.specs.campaign.Steps.{AreWorstFaults, IsDenial, IsReady, IsTable, SaysLines, WritesCounts};
@@ -202,7 +202,7 @@ impl Campaign<'_, '_> {
         requires ready { IsReady self.now cluster }
         ensures plays { IfOk result (λ it. ComesUnder self.now.is_strict cluster self.now.table
             self.now.capacity faults.now lines.items it) }
-        ensures fails { IfErr result IsPlayFault }
+        ensures fails { IfErr result (IsUnfinished self.now cluster faults.now lines.items) }
     {
         let played = play_under(
             self.alloc,
@@ -222,7 +222,7 @@ impl Campaign<'_, '_> {
     /// `OutOfMemory`.
     fn judged(&self, played: PlayedUnder) -> Result<Play, Fault>
         ensures row { IfOk result (λ play. IsPlayOf (given_coding self.now.coded) played play) }
-        ensures fails { IfErr result IsPlayFault }
+        ensures fails { IfErr result IsOutOfMemory }
     {
         let row = row_of(self.alloc, &played)?;
         let PlayedUnder {

@@ -2,7 +2,7 @@
 use Rattle.std.specs.Prelude.{◌≡◌, ℕ, List, [], Option, Some, None, Result, Ok, Err}
 use Rattle.lin_parts.specs.declared.parts.Parts.{Parts}
 use Rattle.lin_values.specs.Coded.{CodedData}
-use Rattle.lin_bench.specs.Plays.{ComesUnder}
+use Rattle.lin_bench.specs.Plays.{ComesUnder, OverfillsUnder}
 use Rattle.lin_bench.specs.declared.faults.SlotFault.{SlotFault}
 use Rattle.lin_bench.specs.declared.line.ScriptLine.{ScriptLine}
 use Rattle.lin_bench.specs.declared.playing.PlayedUnder.{PlayedUnder}
@@ -20,11 +20,15 @@ pub record IsPlayOf (k : Option CodedData) (it : PlayedUnder) (p : Play) : Type 
   pub judgements : p.judgements ≡ judgements_with_meanings k it.judgements
   pub row : p.row ≡ row_of it
 
--- the faults of a play that isn't finished
-abbrev pub IsPlayFault : Fault → Type 0
-IsPlayFault LogFull = Unit {0}
-IsPlayFault OutOfMemory = Unit {0}
-IsPlayFault fault = ⊥
+-- why a play of these lines under these faults isn't finished
+abbrev pub IsUnfinished : Campaign → Parts → List SlotFault → List (ℕ × ScriptLine) → Fault → Type 0
+IsUnfinished on c fs ls LogFull = OverfillsUnder c on.table on.capacity fs ls
+IsUnfinished on c fs ls OutOfMemory = Unit {0}
+IsUnfinished on c fs ls fault = ⊥
+
+abbrev pub IsOutOfMemory : Fault → Type 0
+IsOutOfMemory OutOfMemory = Unit {0}
+IsOutOfMemory fault = ⊥
 
 -- a play of these lines under these faults
 pub record IsPlayUnder (on : Campaign) (c : Parts) (fs : List SlotFault) (ls : List (ℕ × ScriptLine))
@@ -37,7 +41,7 @@ pub record IsPlayUnder (on : Campaign) (c : Parts) (fs : List SlotFault) (ls : L
 abbrev pub PlaysRow : Campaign → Parts → List SlotFault → List (ℕ × ScriptLine)
     → Result Play Fault → Type 0
 PlaysRow on c fs ls (Ok p) = IsPlayUnder on c fs ls p
-PlaysRow on c fs ls (Err fault) = IsPlayFault fault
+PlaysRow on c fs ls (Err fault) = IsUnfinished on c fs ls fault
 
 -- what playing the script without faults answers: the slot limit is an error here
 pub record ReachesLimit (on : Campaign) (c : Parts) (ls : List (ℕ × ScriptLine)) (n : ℕ) : Type 0
@@ -56,4 +60,4 @@ pub record IsUndisturbed (on : Campaign) (c : Parts) (ls : List (ℕ × ScriptLi
 abbrev pub PlaysUndisturbed : Campaign → Parts → List (ℕ × ScriptLine) → Result Play Fault → Type 0
 PlaysUndisturbed on c ls (Ok p) = IsUndisturbed on c ls p
 PlaysUndisturbed on c ls (Err (SlotLimit n)) = ReachesLimit on c ls n
-PlaysUndisturbed on c ls (Err fault) = IsPlayFault fault
+PlaysUndisturbed on c ls (Err fault) = IsUnfinished on c [] ls fault

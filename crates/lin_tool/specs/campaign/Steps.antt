@@ -8,6 +8,7 @@ use Rattle.std.specs.Option.{option_map_or}
 use Rattle.lin_parts.specs.declared.parts.Parts.{Parts}
 use Rattle.lin_core.specs.Core.{CoreData}
 use Rattle.lin_bench.specs.Played.{some_unmet}
+use Rattle.lin_bench.specs.Plays.{OverfillsUnder}
 use Rattle.lin_bench.specs.Scripts.{read}
 use Rattle.lin_bench.specs.declared.faults.SlotFault.{SlotFault}
 use Rattle.lin_bench.specs.declared.got.Judgement.{Judgement}
@@ -170,12 +171,15 @@ IsDenial plan counts judgements answer =
     → answer ≡ is_denied plan.denies_broken plan.denies_never judgements (rows_of rows)
 
 -- ---- what is answered
--- the faults after which only a beginning was written
-abbrev pub IsRowFault : Fault → Type 0
-IsRowFault LogFull = Unit {0}
-IsRowFault OutOfMemory = Unit {0}
-IsRowFault WriteFailed = Unit {0}
-IsRowFault fault = ⊥
+-- why only a beginning was written: the log of some row would have more entries than a log takes, memory
+-- ran out, or the writer failed
+abbrev pub BreaksOff : Campaign → Table → Parts → List (ℕ × ScriptLine) → Fault → Type 0
+BreaksOff on t c ls LogFull =
+    (n : ℕ) × (n < length (rows t.rows.now))
+    × OverfillsUnder c on.table on.capacity (faults_at t.singles.now (places_of t.rows.now n)) ls
+BreaksOff on t c ls OutOfMemory = Unit {0}
+BreaksOff on t c ls WriteFailed = Unit {0}
+BreaksOff on t c ls fault = ⊥
 
 -- counters that count these rows more
 abbrev pub CountsMore : List RowData → CountsData → CountsData → Type 0
@@ -191,7 +195,7 @@ WritesRow on t c ls n (Ok handed) counts more old new =
     × Appends old new (disturbed_row on t c p) × CountsMore (p ∷ []) counts more
 WritesRow on t c ls n (Err fault) counts more old new =
     (p : RowData) × IsRowOf (stage_of on c ls) t.singles.now n (places_of t.rows.now n) p
-    × Begins old new (disturbed_row on t c p) × IsRowFault fault
+    × Begins old new (disturbed_row on t c p) × BreaksOff on t c ls fault
 
 -- likewise all rows of the part but row 0
 abbrev pub WritesRows : Campaign → Table → Parts → List (ℕ × ScriptLine) → Result Parts Fault
@@ -203,7 +207,7 @@ WritesRows on t c ls (Ok handed) counts more old new =
 WritesRows on t c ls (Err fault) counts more old new =
     (ps : List RowData) × AreRowsOf (stage_of on c ls) t.singles.now t.rows.now (first_disturbed (first_row t)) ps
     × (length ps ≡ cases_of t) × Begins old new (flat_map (disturbed_row on t c) ps)
-    × IsRowFault fault
+    × BreaksOff on t c ls fault
 
 -- the same, whatever lines the script says
 abbrev pub PlaysAndWritesRow : Campaign → Table → Parts → ℕ → Result Parts Fault → CountsData → CountsData

@@ -1,5 +1,5 @@
 -- What a campaign answers and writes. A row is the play of the script under its faults.
-use Rattle.std.specs.Prelude.{◌≡◌, ℕ, suc, ◌-◌, ◌==◌, Bool, true, false, not, if◌then◌else◌, List, [], ◌∷◌, ◌++◌}
+use Rattle.std.specs.Prelude.{◌≡◌, ◌<◌, ℕ, suc, ◌-◌, ◌==◌, Bool, true, false, not, if◌then◌else◌, List, [], ◌∷◌, ◌++◌}
 use Rattle.std.specs.Prelude.{◌⊎◌, codes, filter, flat_map, length, map, reverse, Option, Some, None}
 use Rattle.std.specs.Prelude.{Result, Ok, Err}
 use Rattle.std.specs.Borrow.{Bor}
@@ -10,7 +10,7 @@ use Rattle.lin_log.specs.declared.fault.ScriptFault.TheVariants as script
 use Rattle.lin_text.specs.Written.{WritesText}
 use Rattle.lin_values.specs.Coded.{CodedData}
 use Rattle.lin_bench.specs.Played.{Run, some_unmet}
-use Rattle.lin_bench.specs.Plays.{ComesUnder}
+use Rattle.lin_bench.specs.Plays.{ComesUnder, OverfillsUnder}
 use Rattle.lin_bench.specs.declared.got.Judgement.{Judgement}
 use Rattle.lin_bench.specs.declared.line.ScriptLine.{ScriptLine}
 use Rattle.lin_bench.specs.declared.playing.PlayedUnder.{PlayedUnder}
@@ -25,7 +25,7 @@ use Rattle.lin_tool.specs.campaign.Jsonl.{head_object, row_object}
 use Rattle.lin_tool.specs.campaign.Junit.{report_end, report_head, row_case}
 use Rattle.lin_tool.specs.campaign.Page.{data_head, object_text}
 use Rattle.lin_tool.specs.campaign.Row.{row_of}
-use Rattle.lin_tool.specs.campaign.Rows.{bound, part_of, rows}
+use Rattle.lin_tool.specs.campaign.Rows.{bound, part_of, places_of, rows}
 use Rattle.lin_tool.specs.campaign.Shown.{RowData}
 use Rattle.lin_tool.specs.campaign.Singles.{faults_at, only_single, singles}
 use Rattle.lin_tool.specs.campaign.Summary.{NumberedRow, is_denied, lines_text, numbers_text, rows_of}
@@ -180,11 +180,22 @@ Ends watched (Err OutOfMemory) denied text told old new silent heard = Begins ol
 Ends watched (Err LogFull) denied text told old new silent heard = Begins old new text
 Ends watched (Err fault) denied text told old new silent heard = ⊥
 
+-- the log is full in some row: it would have more entries than a log takes
+abbrev pub SomeRowOverfills : {on : Stage} {plan : Plan} → Plays on plan → Type 0
+SomeRowOverfills {on} it =
+    (n : ℕ) × (n < length (rows it.table))
+    × OverfillsUnder on.cluster on.opening on.capacity
+    (faults_at it.singles_are (places_of it.table n)) on.lines
+
+abbrev pub is_full : Result Unit Fault → Bool
+is_full (Err LogFull) = true
+is_full result = false
+
 -- the lines of a script that is read, and what is written of their plays
 abbrev pub WritesPlays : Stage → Plan → Bool → List ℕ → List ℕ → List ℕ → Result Unit Fault
     → Option (List ℕ) → Option (List ℕ) → Option (List ℕ) → Option (List ℕ) → Type 0
 WritesPlays on plan watched script file bytes result old new silent heard =
-    (it : Plays on plan)
+    (it : Plays on plan) × (is_full result ≡ true → SomeRowOverfills it)
     × Ends watched result (denies it) (campaign_output script file bytes it) (counts script it) old new
     silent heard
 
@@ -241,7 +252,8 @@ WritesCampaign plan k file named strict c opening capacity
     told old new silent heard
 WritesCampaign plan k file named strict c opening capacity
     (Err LogFull) told old new silent heard =
-    (Keeps old new × Keeps silent heard)
+    ((ls : List (ℕ × ScriptLine)) × Says c k told (Ok ls) × OverfillsUnder c opening capacity [] ls
+    × Keeps old new × Keeps silent heard)
     ⊎ WritesPlaysOfScript plan k file named strict c opening capacity (Err LogFull)
     told old new silent heard
 WritesCampaign plan k file named strict c opening capacity

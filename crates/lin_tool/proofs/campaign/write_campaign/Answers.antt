@@ -3,7 +3,6 @@ use Rattle.std.proofs.lemmas.Result.{err_from_is_err_and}
 use Rattle.lin_tool.specs.campaign.Singles.{singles}
 use Rattle.lin_tool.specs.declared.campaign.rows.RandomSets.{RandomSets}
 use Rattle.lin_tool.specs.declared.campaign.rows.Rows.{Rows}
-use Rattle.lin_tool.specs.declared.fault.Fault.TheVariants.{OutOfMemory}
 use Rattle.lin_tool.proofs.CampaignEnds.{campaign-unwritten, planned}
 use Rattle.lin_tool.proofs.campaign.write_campaign.Goals as goal
 
@@ -15,7 +14,7 @@ returns-in_err-singles g c = λ ls is.
     let p = err_from_is_err_and c.from_residual.result c.from_residual.ensures.1 in
     let silent = g.E.Write.contents c.args.errors.now in
     rw (p.1, p.2)
-    (campaign-unwritten c.args.campaign.now c.args.plan.now c.args.calm ls c.args.plan.now.is_watched OutOfMemory (g.W.Write.contents c.args.writer.now) silent silent c.requires.part is tt)
+    (campaign-unwritten c.args.campaign.now c.args.plan.now c.args.calm ls c.args.plan.now.is_watched (g.W.Write.contents c.args.writer.now) silent silent c.requires.part is)
 
 pub returns : goal.returns
 returns g c = λ ls is.

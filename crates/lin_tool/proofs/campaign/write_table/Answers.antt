@@ -1,4 +1,4 @@
-use Rattle.std.proofs.Common.{◌≡◌, ◌∙◌, Err, Ok, subst, sym}
+use Rattle.std.proofs.Common.{◌≡◌, ◌∙◌, Err, Ok, refl, subst, sym}
 use Rattle.std.proofs.lemmas.Result.{err_from_is_err_and}
 use Rattle.lin_tool.specs.Formats.{export_fault}
 use Rattle.lin_tool.specs.Playing.{WritesTextOrPart}
@@ -29,7 +29,7 @@ returns-in_err-write_first g c = λ ls is.
     let p = err_from_is_err_and c.from_residual-in_err-write_first.result c.from_residual-in_err-write_first.ensures.1 in
     rw (p.1, p.2)
     (campaign-unplayed on c.args.plan.now t core ls t.is_watched (export_fault c.in_err-write_first.field-0.0) old mid silent silent c.requires.table is
-    (written-fault c.in_err-write_first.field-0.0) (text-begins c.write_first.ensures))
+    (written-fault on t core.cluster ls c.in_err-write_first.field-0.0) (text-begins c.write_first.ensures))
 
 pub returns-in_err-cluster : goal.returns-in_err-cluster
 returns-in_err-cluster g c = λ ls is.
@@ -106,7 +106,7 @@ returns-then-is_denied g c = λ ls is.
     let quiet = g.E.Write.contents c.write_rows.new.errors in
     let heard = g.E.Write.contents c.write_counts.new.errors in
     table-done on c.args.plan.now t core c.in_ok-cluster.cluster ls t.is_watched c.is_denied.result (Err Denied) before after old mid rest (g.W.Write.contents c.write_tail.new.writer) silent quiet
-    heard c.requires.table is first c.in_ok-counts.ensures rows c.write_rows.ensures.quiet (writes-whole c.in_ok-write_tail.was c.write_tail.ensures)
+    heard c.requires.table is refl first c.in_ok-counts.ensures rows c.write_rows.ensures.quiet (writes-whole c.in_ok-write_tail.was c.write_tail.ensures)
     (λ rs are names.
     subst (λ x. WritesTextOrPart quiet heard (counts_text on t x rs)) (c.in_ok-cluster.ensures.same ∙ same)
     (when-ok c.write_counts.result tt c.in_ok-write_counts.was c.write_counts.ensures rs are names))
@@ -130,7 +130,7 @@ returns g c = λ ls is.
     let quiet = g.E.Write.contents c.write_rows.new.errors in
     let heard = g.E.Write.contents c.write_counts.new.errors in
     table-done on c.args.plan.now t core c.in_ok-cluster.cluster ls t.is_watched c.is_denied.result (Ok tt) before after old mid rest (g.W.Write.contents c.write_tail.new.writer) silent quiet
-    heard c.requires.table is first c.in_ok-counts.ensures rows c.write_rows.ensures.quiet (writes-whole c.in_ok-write_tail.was c.write_tail.ensures)
+    heard c.requires.table is refl first c.in_ok-counts.ensures rows c.write_rows.ensures.quiet (writes-whole c.in_ok-write_tail.was c.write_tail.ensures)
     (λ rs are names.
     subst (λ x. WritesTextOrPart quiet heard (counts_text on t x rs)) (c.in_ok-cluster.ensures.same ∙ same)
     (when-ok c.write_counts.result tt c.in_ok-write_counts.was c.write_counts.ensures rs are names))

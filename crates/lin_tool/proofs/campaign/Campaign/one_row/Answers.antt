@@ -2,7 +2,7 @@ use Rattle.std.proofs.Common.{◌∙◌, List, Ok, ap, subst, sym}
 use Rattle.std.proofs.lemmas.Result.{err_from_is_err_and}
 use Rattle.lin_bench.specs.declared.faults.SlotFault.{SlotFault}
 use Rattle.lin_tool.specs.Formats.{export_fault}
-use Rattle.lin_tool.specs.campaign.Played.{PlaysRow}
+use Rattle.lin_tool.specs.campaign.Played.{IsUnfinished, PlaysRow}
 use Rattle.lin_tool.specs.campaign.Singles.{faults_at, only_single}
 use Rattle.lin_tool.specs.declared.fault.Fault.TheVariants.{OutOfMemory}
 use Rattle.lin_tool.proofs.CampaignEnds.{is-row, played_data, row-begun, row-done, row-fault, row-unbegun, text-begins, written-fault}
@@ -21,11 +21,15 @@ returns-in_err-faults-clause-writes g c = λ ls says.
 
 pub returns-in_err-play-clause-writes : goal.returns-in_err-play-clause-writes
 returns-in_err-play-clause-writes g c = λ ls says.
+    let on = c.args.self.now in
+    let t = c.args.table.now in
     let fault = c.in_err-play.field-0.0 in
+    let faults = c.as_slice-2.ensures.value ∙ c.in_ok-faults.ensures ∙ ap (faults_at t.singles.now) (c.as_slice.ensures.value ∙ c.in_ok-places.ensures) in
+    let failed = subst (λ (l : List SlotFault). IsUnfinished on c.args.cluster l ls fault) faults (c.in_err-play.ensures.plays ls says) in
     let p = err_from_is_err_and c.from_residual-in_err-play.result c.from_residual-in_err-play.ensures.1 in
     rw (p.1, p.2)
     (row-unbegun c.args.self.now c.args.table.now c.args.cluster ls c.args.number fault c.args.counts.now c.args.counts.now (g.W.Write.contents c.args.writer.now)
-    (row-fault fault (c.in_err-play.ensures.plays ls says)))
+    (row-fault on t c.args.cluster ls c.args.number fault c.requires.row failed))
 
 pub returns-in_err-write_row-clause-writes : goal.returns-in_err-write_row-clause-writes
 returns-in_err-write_row-clause-writes g c = λ ls says.
@@ -44,7 +48,7 @@ returns-in_err-write_row-clause-writes g c = λ ls says.
     rw (p.1, p.2)
     (row-begun on t c.args.cluster play.core.cluster ls c.args.number shown (export_fault c.in_err-write_row.field-0.0) c.args.counts.now c.args.counts.now
     (g.W.Write.contents c.args.writer.now) (g.W.Write.contents c.write_row.new.writer) row c.in_ok-play.ensures.same (text-begins c.write_row.ensures)
-    (written-fault c.in_err-write_row.field-0.0))
+    (written-fault on t c.args.cluster ls c.in_err-write_row.field-0.0))
 
 pub returns-in_err-count-clause-writes : goal.returns-in_err-count-clause-writes
 returns-in_err-count-clause-writes g c = λ ls says.

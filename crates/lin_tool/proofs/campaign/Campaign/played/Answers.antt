@@ -6,4 +6,4 @@ pub returns-in_err-played-clause-fails : goal.returns-in_err-played-clause-fails
 returns-in_err-played-clause-fails c =
     let on = c.args.self.now in
     let p = err_from_is_err_and c.from_residual.result c.from_residual.ensures.1 in
-    rw (p.1, p.2) (unplayed-fault on.is_strict c.args.cluster on.table on.capacity c.args.faults.now c.args.lines.items c.in_err-played.field-0.0 c.in_err-played.ensures.plays)
+    rw (p.1, p.2) (unplayed-fault on c.args.cluster c.args.faults.now c.args.lines.items c.in_err-played.field-0.0 c.in_err-played.ensures.plays)
