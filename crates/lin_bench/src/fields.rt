@@ -346,7 +346,7 @@ fn after_dots(text: &[u8]) -> Option<&[u8]>
     }
 }
 
-/// What stands before and after the first `..` of a field.
+/// The text before the first `..` of a field, and the text after it.
 pub(crate) fn range_ends(field: &[u8]) -> Option<(&[u8], &[u8])>
     ensures { option_map (λ ends. (ends.0.now, ends.1.now)) result ≡ range_ends field.now }
 {

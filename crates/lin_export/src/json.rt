@@ -234,7 +234,7 @@ pub(crate) fn put_object_line<W: Write>(
     out.put(b"}\n");
 }
 
-/// What stands before a value or a member by its place in a list: a comma, but for the first.
+/// The comma before a value or a member of a list. The first one has none.
 pub fn put_separator<W: Write>(out: &mut TextWriter<'_, W>, place: usize)
     ensures { Grows W.contents out.old out.new (if place == 0 then [] else after_comma []) }
 {

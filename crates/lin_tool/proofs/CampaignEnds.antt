@@ -23,7 +23,7 @@ use Rattle.lin_tool.specs.campaign.Shown.{RowData}
 use Rattle.lin_tool.specs.campaign.Singles.{faults_at, only_single, singles}
 use Rattle.lin_tool.specs.campaign.Steps.{AreNamed, AreRowsOf, BreaksOff, CountsMore, IsBegun, IsNamed, IsPlanned, IsTable, WritesRow, WritesRows, calm_row, cases_of, counts_text, disturbed_row, end_row, first_disturbed, first_of, first_row, is_page, row_of_play, stage_of, worst_places}
 use Rattle.lin_tool.specs.campaign.Summary.{AreCountsOf, CountsData, NumberedRow, is_denied, lines_broken, lines_text, numbers_text, rows_of, worse, worst_after, worst_of}
-use Rattle.lin_tool.specs.campaign.Written.{AreRowsFrom, Ends, IsRowOf, Plays, SomeRowOverfills, Stage, WritesPlays, is_full, before, behind, rows_with_faults, counts, denies, plays_in_output, numbered_row, numbered_rows, row_as, row_in_output, rows_in_output, campaign_output}
+use Rattle.lin_tool.specs.campaign.Written.{AreRowsFrom, Ends, IsRowOf, Plays, SomeRowOverfills, Stage, WritesPlays, is_full, text_before_rows, text_after_rows, rows_with_faults, counts, denies, plays_in_output, numbered_row, numbered_rows, row_as, row_in_output, rows_in_output, campaign_output}
 use Rattle.lin_tool.specs.declared.campaign.Campaign.{Campaign}
 use Rattle.lin_tool.specs.declared.campaign.Plan.{Plan}
 use Rattle.lin_tool.specs.declared.campaign.Play.{Play}
@@ -125,16 +125,16 @@ row-unbegun on t c ls n fault counts more old failed =
     let p = a-row (stage_of on c ls) t.singles.now n (places_of t.rows.now n) in (p.0, p.1, begins-nothing old (disturbed_row on t c p.0), failed)
 
 -- ---- the rows of a part
-counts-same : (js : List Judgement) (before : List NumberedRow) (counts : CountsData) → AreCountsOf js before counts → AreCountsOf js (before ++ []) counts
-counts-same js before counts h = subst (λ l. AreCountsOf js l counts) (sym (append-nil before)) h
+counts-same : (js : List Judgement) (counted : List NumberedRow) (counts : CountsData) → AreCountsOf js counted counts → AreCountsOf js (counted ++ []) counts
+counts-same js counted counts h = subst (λ l. AreCountsOf js l counts) (sym (append-nil counted)) h
 
 pub none-counted : (counts : CountsData) → CountsMore [] counts counts
-none-counted counts = λ js before h. counts-same js before counts h
+none-counted counts = λ js counted h. counts-same js counted counts h
 
 pub more-counted : (ps qs : List RowData) (old mid new : CountsData) → CountsMore ps old mid → CountsMore qs mid new → CountsMore (ps ++ qs) old new
-more-counted ps qs old mid new h k = λ js before are.
-    subst (λ l. AreCountsOf js l new) (append_assoc before (map numbered_row ps) (map numbered_row qs) ∙ ap (λ l. before ++ l) (sym (map-append numbered_row ps qs)))
-    (k js (before ++ map numbered_row ps) (h js before are))
+more-counted ps qs old mid new h k = λ js counted are.
+    subst (λ l. AreCountsOf js l new) (append_assoc counted (map numbered_row ps) (map numbered_row qs) ∙ ap (λ l. counted ++ l) (sym (map-append numbered_row ps qs)))
+    (k js (counted ++ map numbered_row ps) (h js counted are))
 
 -- the rows with faults up to number n were written and counted
 pub record WroteUpTo (on : Campaign) (t : Table) (c : Parts) (ls : List (ℕ × ScriptLine)) (n : ℕ) (counts more : CountsData) (old new : Option (List ℕ)) : Type 0 where
@@ -253,7 +253,7 @@ pub record ArePlayed (on : Campaign) (plan : Plan) (t : Table) (core : CoreData)
 
 -- what is written of these
 abbrev pub text_of : Campaign → Table → CoreData → List RowData → List ℕ
-text_of on t core ps = first_of on t core.cluster (calm_row t core) ++ (flat_map (disturbed_row on t core.cluster) ps ++ behind on.format)
+text_of on t core ps = first_of on t core.cluster (calm_row t core) ++ (flat_map (disturbed_row on t core.cluster) ps ++ text_after_rows on.format)
 
 record HasWhole (on : Campaign) (plan : Plan) (t : Table) (core : CoreData) (ls : List (ℕ × ScriptLine)) (ps : List RowData) : Type 0 where
   pub it : Plays (stage_of on core.cluster ls) plan
@@ -268,17 +268,17 @@ whole-text : (format : RowFormat) (script file bytes : List ℕ) (c : Parts) (ca
     → lost ≡ calm.row.lost → refused ≡ calm.row.refused → length (rows_with_faults all) ≡ cases
     → flat_map (row_in_output format script c calm) (plays_in_output format calm all)
     ≡ (if ((from == 0) && nat_lt 0 to) || is_page format then row_as format script c [] [] calm else []) ++ flat_map (row_as format script c calm.row.lost calm.row.refused) ps
-    → before format first script file bytes (length (rows_with_faults all)) t c calm ++ (rows_in_output format script c calm (plays_in_output format calm all) ++ behind format)
-    ≡ (before format first script file bytes cases t c calm ++ (if ((from == 0) && nat_lt 0 to) || is_page format then row_as format script c [] [] calm else []))
-    ++ (flat_map (row_as format script c lost refused) ps ++ behind format)
+    → text_before_rows format first script file bytes (length (rows_with_faults all)) t c calm ++ (rows_in_output format script c calm (plays_in_output format calm all) ++ text_after_rows format)
+    ≡ (text_before_rows format first script file bytes cases t c calm ++ (if ((from == 0) && nat_lt 0 to) || is_page format then row_as format script c [] [] calm else []))
+    ++ (flat_map (row_as format script c lost refused) ps ++ text_after_rows format)
 whole-text format script file bytes c calm t first cases from to ps all lost refused lost-is refused-is many e =
-    let start = before format first script file bytes cases t c calm in
+    let start = text_before_rows format first script file bytes cases t c calm in
     let zeroth = (if ((from == 0) && nat_lt 0 to) || is_page format then row_as format script c [] [] calm else []) in
     let others = flat_map (row_as format script c calm.row.lost calm.row.refused) ps in
-    ap₂ (λ n l. before format first script file bytes n t c calm ++ (l ++ behind format)) many e
-    ∙ ap (λ l. start ++ l) (append_assoc zeroth others (behind format))
-    ∙ sym (append_assoc start zeroth (others ++ behind format))
-    ∙ ap₂ (λ a b. (start ++ zeroth) ++ (flat_map (row_as format script c a b) ps ++ behind format)) (sym lost-is) (sym refused-is)
+    ap₂ (λ n l. text_before_rows format first script file bytes n t c calm ++ (l ++ text_after_rows format)) many e
+    ∙ ap (λ l. start ++ l) (append_assoc zeroth others (text_after_rows format))
+    ∙ sym (append_assoc start zeroth (others ++ text_after_rows format))
+    ∙ ap₂ (λ a b. (start ++ zeroth) ++ (flat_map (row_as format script c a b) ps ++ text_after_rows format)) (sym lost-is) (sym refused-is)
 
 has-whole : (on : Campaign) (plan : Plan) (t : Table) (core : CoreData) (ls : List (ℕ × ScriptLine)) (ps : List RowData) → IsTable t → ArePlayed on plan t core ls ps
     → HasWhole on plan t core ls ps
@@ -309,9 +309,9 @@ has-whole on plan t core ls ps is h =
       text =
           text
           ∙ ap₂
-          (λ (f : RowFormat) (p : Part). (before f (p.number == 1) on.script.now on.file.now on.bytes.now (cases_of t) t.rows.now c calm
+          (λ (f : RowFormat) (p : Part). (text_before_rows f (p.number == 1) on.script.now on.file.now on.bytes.now (cases_of t) t.rows.now c calm
           ++ (if ((first_row t == 0) && nat_lt 0 (end_row t)) || is_page f then row_as f on.script.now c [] [] calm else []))
-          ++ (flat_map (row_as f on.script.now c t.calm.now.lost t.calm.now.refused) ps ++ behind f))
+          ++ (flat_map (row_as f on.script.now c t.calm.now.lost t.calm.now.refused) ps ++ text_after_rows f))
           (sym h.plan_is.format) (sym h.plan_is.part);
       named_are = ap (map numbered_row) all.1.counted_are;
       judged = refl;
@@ -404,7 +404,7 @@ pub campaign-unplayed : (on : Campaign) (plan : Plan) (t : Table) (core : CoreDa
 campaign-unplayed on plan t core ls watched fault old new silent heard is h failed begun =
     let ps = some-rows (stage_of on core.cluster ls) t.singles.now t.rows.now (first_disturbed (first_row t)) (cases_of t) in
     campaign-broke on plan t core ls ps.0 watched fault old new silent heard is (record { plan_is = h; rows_are = ps.1; many = ps.2 }) failed
-    (begins-longer old new (first_of on t core.cluster (calm_row t core)) (flat_map (disturbed_row on t core.cluster) ps.0 ++ behind on.format) begun)
+    (begins-longer old new (first_of on t core.cluster (calm_row t core)) (flat_map (disturbed_row on t core.cluster) ps.0 ++ text_after_rows on.format) begun)
 
 -- a campaign that was written
 pub campaign-ended : (on : Campaign) (plan : Plan) (t : Table) (core : CoreData) (ls : List (ℕ × ScriptLine)) (ps : List RowData) (watched : Bool) (result : Result Unit Fault)
@@ -443,24 +443,24 @@ pub rows-fail : (on : Campaign) (plan : Plan) (t : Table) (core : CoreData) (ls 
 rows-fail on plan t core ls watched fault counts more old mid new silent heard is h first (ps, rows-are, many, begun, failed) =
     let texts = flat_map (disturbed_row on t core.cluster) ps in
     campaign-broke on plan t core ls ps watched fault old new silent heard is (record { plan_is = h; rows_are = rows-are; many = many }) failed
-    (begins-behind old mid new (first_of on t core.cluster (calm_row t core)) (texts ++ behind on.format) first (begins-longer mid new texts (behind on.format) begun))
+    (begins-behind old mid new (first_of on t core.cluster (calm_row t core)) (texts ++ text_after_rows on.format) first (begins-longer mid new texts (text_after_rows on.format) begun))
 
 -- something behind the rows failed
 pub tail-fails : {E : Type 0} (on : Campaign) (plan : Plan) (t : Table) (core : CoreData) (handed : Parts) (ls : List (ℕ × ScriptLine)) (watched : Bool) (fault : Fault) (r : Result Unit E) (counts more : CountsData)
     (old mid rest new silent heard : Option (List ℕ)) → IsTable t → IsPlanned on plan t core ls → Appends old mid (first_of on t core.cluster (calm_row t core))
-    → WritesRows on t core.cluster ls (Ok handed) counts more mid rest → WritesText rest new r (behind on.format) → BreaksOff on t core.cluster ls fault
+    → WritesRows on t core.cluster ls (Ok handed) counts more mid rest → WritesText rest new r (text_after_rows on.format) → BreaksOff on t core.cluster ls fault
     → WritesPlays (stage_of on core.cluster ls) plan watched on.script.now on.file.now on.bytes.now (Err fault) old new silent heard
 tail-fails on plan t core handed ls watched fault r counts more old mid rest new silent heard is h first (ps, rows-are, many, written, counted) tail failed =
     let texts = flat_map (disturbed_row on t core.cluster) ps in
     campaign-broke on plan t core ls ps watched fault old new silent heard is (record { plan_is = h; rows_are = rows-are; many = many }) failed
-    (begins-behind old mid new (first_of on t core.cluster (calm_row t core)) (texts ++ behind on.format) first
-    (begins-behind mid rest new texts (behind on.format) written (text-begins tail)))
+    (begins-behind old mid new (first_of on t core.cluster (calm_row t core)) (texts ++ text_after_rows on.format) first
+    (begins-behind mid rest new texts (text_after_rows on.format) written (text-begins tail)))
 
 -- all was written
 pub table-done : (on : Campaign) (plan : Plan) (t : Table) (core : CoreData) (handed : Parts) (ls : List (ℕ × ScriptLine)) (watched denied : Bool) (result : Result Unit Fault)
     (counts more : CountsData) (old mid rest new silent quiet heard : Option (List ℕ)) → IsTable t → IsPlanned on plan t core ls → is_full result ≡ false → Appends old mid (first_of on t core.cluster (calm_row t core))
     → AreCountsOf t.judgements.now [] counts → WritesRows on t core.cluster ls (Ok handed) counts more mid rest → (watched ≡ false → Keeps silent quiet)
-    → Appends rest new (behind on.format)
+    → Appends rest new (text_after_rows on.format)
     → ((rs : List NumberedRow) → AreCountsOf t.judgements.now rs more → AreNamed t rs → WritesTextOrPart quiet heard (counts_text on t core.cluster rs))
     → ((js : List Judgement) → (rs : List NumberedRow) → AreCountsOf js rs more → denied ≡ is_denied plan.denies_broken plan.denies_never t.judgements.now (rows_of rs))
     → ((text told : List ℕ) → Appends old new text → (watched ≡ false → WritesTextOrPart silent heard told) → Ends watched result denied text told old new silent heard)
@@ -473,6 +473,6 @@ table-done on plan t core handed ls watched denied result counts more old mid re
     let heard-all = told (map numbered_row ps) all names in
     let denied-is = denies-are t.judgements.now (map numbered_row ps) all in
     campaign-ended on plan t core ls ps watched result old new silent heard is (record { plan_is = h; rows_are = rows-are; many = many }) unfull
-    (Appends-trans old mid new (first_of on t c (calm_row t core)) (texts ++ behind on.format) first (Appends-trans mid rest new texts (behind on.format) written tail))
+    (Appends-trans old mid new (first_of on t c (calm_row t core)) (texts ++ text_after_rows on.format) first (Appends-trans mid rest new texts (text_after_rows on.format) written tail))
     (λ so. text-after silent quiet heard (counts_text on t c (map numbered_row ps)) (kept so) heard-all)
     (λ other e text said all-written all-told. subst (λ b. Ends watched result b text said old new silent heard) (denied-is ∙ sym e) (ends text said all-written all-told))

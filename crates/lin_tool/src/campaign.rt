@@ -17,7 +17,7 @@ ghost use Rattle.lin_tool.specs.campaign.Steps.{AreWorstFaults, IsDenial, IsRead
 ghost use Rattle.lin_tool.specs.campaign.Steps.{PlaysAndWritesRow, PlaysAndWritesRows, WritesAfter, WritesTable};
 ghost use Rattle.lin_tool.specs.campaign.Steps.{calm_row, cases_of, first_disturbed, first_of, head_of, is_page};
 ghost use Rattle.lin_tool.specs.campaign.Steps.{object_if, object_with, row_without, shows_calm, worst_places};
-ghost use Rattle.lin_tool.specs.campaign.Written.{WritesOpened, behind, name_or};
+ghost use Rattle.lin_tool.specs.campaign.Written.{WritesOpened, text_after_rows, name_or};
 
 mod csv;
 mod fault_names;
@@ -376,7 +376,7 @@ impl Campaign<'_, '_> {
 
     /// What a format has after the rows.
     fn put_tail<W: Write>(&self, out: &mut TextWriter<'_, W>)
-        ensures { Grows W.contents out.old out.new (behind self.now.format) }
+        ensures { Grows W.contents out.old out.new (text_after_rows self.now.format) }
     {
         match self.format {
             RowFormat::Junit => out.put_text(junit::TAIL),
@@ -395,7 +395,7 @@ impl Campaign<'_, '_> {
         writer: &mut W,
     ) -> Result<(), WriteFailed>
         ensures { WritesText (W.contents writer.old) (W.contents writer.new) result
-            (behind self.now.format) }
+            (text_after_rows self.now.format) }
     {
         let mut out = TextWriter::new(writer, buffer);
         self.put_tail(&mut out);

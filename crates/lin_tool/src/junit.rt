@@ -155,7 +155,7 @@ fn put_cases<W: Write>(
     Ok(())
 }
 
-/// What stands before the cases: how many there are, and how many fail.
+/// The start of a report, before its cases: how many there are, and how many fail.
 fn put_head<W: Write>(out: &mut TextWriter<'_, W>, file: &str, judgements: &[Judgement])
     ensures { Grows W.contents out.old out.new (junit_head file.now judgements.now) }
 {

@@ -22,7 +22,7 @@ use Rattle.lin_tool.specs.campaign.Singles.{faults_at, singles}
 use Rattle.lin_tool.specs.campaign.Summary.{AreCountsOf, CountsData, NumberedRow, is_denied, lines_text, numbers_text}
 use Rattle.lin_tool.specs.campaign.Summary.{rows_of, worst_faults}
 use Rattle.lin_tool.specs.campaign.Text.{known_losses, known_refusals}
-use Rattle.lin_tool.specs.campaign.Written.{IsRowOf, Stage, WritesPlays, before, numbered_row, object_of, row_as}
+use Rattle.lin_tool.specs.campaign.Written.{IsRowOf, Stage, WritesPlays, text_before_rows, numbered_row, object_of, row_as}
 use Rattle.lin_tool.specs.declared.campaign.Campaign.{Campaign}
 use Rattle.lin_tool.specs.declared.campaign.Plan.{Plan}
 use Rattle.lin_tool.specs.declared.campaign.Play.{Play}
@@ -119,7 +119,7 @@ calm_row t core = record {
 
 abbrev pub head_of : Campaign → Table → Parts → RowData → List ℕ
 head_of on t c calm =
-    before on.format (t.part.number == 1) on.script.now on.file.now on.bytes.now (cases_of t)
+    text_before_rows on.format (t.part.number == 1) on.script.now on.file.now on.bytes.now (cases_of t)
     t.rows.now c calm
 
 -- what stands before the rows with faults
@@ -184,8 +184,8 @@ BreaksOff on t c ls fault = ⊥
 -- counters that count these rows more
 abbrev pub CountsMore : List RowData → CountsData → CountsData → Type 0
 CountsMore ps old new =
-    (js : List Judgement) → (before : List NumberedRow) → AreCountsOf js before old
-    → AreCountsOf js (before ++ map numbered_row ps) new
+    (js : List Judgement) → (text_before_rows : List NumberedRow) → AreCountsOf js text_before_rows old
+    → AreCountsOf js (text_before_rows ++ map numbered_row ps) new
 
 -- row n was played, written and counted, or a beginning of it was written
 abbrev pub WritesRow : Campaign → Table → Parts → List (ℕ × ScriptLine) → ℕ → Result Parts Fault

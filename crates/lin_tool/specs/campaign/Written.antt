@@ -99,19 +99,19 @@ rows_in_output format script c calm ps = flat_map (row_in_output format script c
 abbrev pub object_of : List ℕ → Rows → Parts → RowData → List ℕ
 object_of script t c calm = head_object c script t.singles (length (rows t)) calm
 
-abbrev pub before : RowFormat → Bool → List ℕ → List ℕ → List ℕ → ℕ → Rows → Parts → RowData
+abbrev pub text_before_rows : RowFormat → Bool → List ℕ → List ℕ → List ℕ → ℕ → Rows → Parts → RowData
     → List ℕ
-before Text first script file bytes cases t c calm = []
-before Csv first script file bytes cases t c calm = if first then HEAD.now else []
-before Jsonl first script file bytes cases t c calm = if first then object_of script t c calm else []
-before Junit first script file bytes cases t c calm = report_head script cases
-before Html first script file bytes cases t c calm =
+text_before_rows Text first script file bytes cases t c calm = []
+text_before_rows Csv first script file bytes cases t c calm = if first then HEAD.now else []
+text_before_rows Jsonl first script file bytes cases t c calm = if first then object_of script t c calm else []
+text_before_rows Junit first script file bytes cases t c calm = report_head script cases
+text_before_rows Html first script file bytes cases t c calm =
     PAGE.now ++ (data_head file bytes c calm.log ++ object_text (object_of script t c calm))
 
-abbrev pub behind : RowFormat → List ℕ
-behind Junit = report_end
-behind Html = PAGE_END.now
-behind format = []
+abbrev pub text_after_rows : RowFormat → List ℕ
+text_after_rows Junit = report_end
+text_after_rows Html = PAGE_END.now
+text_after_rows format = []
 
 -- ---- the whole
 -- the plays of a campaign: the undisturbed one, of which each judgement is met, and those of the rows of
@@ -142,10 +142,10 @@ rows_with_faults ps = filter (λ (p : RowData). not (p.number == 0)) ps
 
 abbrev pub campaign_output : {on : Stage} {plan : Plan} → List ℕ → List ℕ → List ℕ → Plays on plan → List ℕ
 campaign_output {on} {plan} script file bytes it =
-    before plan.format (plan.part.number == 1) script file bytes (length (rows_with_faults it.played))
+    text_before_rows plan.format (plan.part.number == 1) script file bytes (length (rows_with_faults it.played))
     it.table on.cluster it.calm
     ++ (rows_in_output plan.format script on.cluster it.calm (plays_in_output plan.format it.calm it.played)
-    ++ behind plan.format)
+    ++ text_after_rows plan.format)
 
 abbrev pub numbered_row : RowData → NumberedRow
 numbered_row p = record {

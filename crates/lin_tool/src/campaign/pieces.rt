@@ -1,6 +1,6 @@
 //! The pieces of a page that are the same for each campaign, made by tools/page.
 
-/// What stands before the data: the style, and the page without its script.
+/// The text before the data: the style, and the page without its script.
 pub const HEAD: &str = "<!doctype html>
 <html lang=\"en\"><head><meta charset=\"utf-8\"><meta name=\"viewport\" content=\"width=device-width,initial-scale=1\">
 <title>LIN campaign</title>
@@ -63,7 +63,7 @@ details th{color:var(--soft)}
 <script type=\"text/plain\" id=\"data\">
 ";
 
-/// What stands after the data: the script.
+/// The text after the data: the script.
 pub const TAIL: &str = "</script>
 <script>
 'use strict';

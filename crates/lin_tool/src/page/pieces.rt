@@ -1,6 +1,6 @@
 //! The pieces of a page that are the same for each run, made by tools/page.
 
-/// What stands before the data: the style, and the page without its script.
+/// The text before the data: the style, and the page without its script.
 pub const HEAD: &str = "<!DOCTYPE html>
 <html lang=\"en\"><head><meta charset=\"utf-8\">
 <meta name=\"viewport\" content=\"width=device-width\">
@@ -86,12 +86,12 @@ h2{break-after:avoid}
 <script type=\"text/plain\" id=\"run\">
 ";
 
-/// What stands between the data and what is shown without a script.
+/// The text between the data and what is shown without a script.
 pub const MIDDLE: &str = "</script>
 <noscript>
 ";
 
-/// What stands after that: the scripts.
+/// The text after that: the scripts.
 pub const TAIL: &str = "</noscript>
 <script>
 'use strict';
