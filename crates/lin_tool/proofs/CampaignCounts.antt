@@ -12,10 +12,10 @@ use Rattle.std.specs.Option.{option_map_or, option_or}
 use Rattle.lin_frame.specs.Words.{numbers}
 use Rattle.lin_core.specs.History.{is_in}
 use Rattle.lin_bench.specs.declared.got.Judgement.{Judgement}
-use Rattle.lin_tool.specs.campaign.Summary.{AreCounts, AreCountsOf, CountsData, IsCountOf, IsLineCount, NumberedRow, bound_of, breaks, broken_lines, counted_by, first_at, has_judgement, is_broken, is_counted, is_limited, is_tolerated, line_at, lines, lines_broken, lines_of, one_if, place_from, rows_of, some_not_tolerated, worse, worse_of, worst_after, worst_of}
+use Rattle.lin_tool.specs.campaign.Summary.{AreCounts, AreCountsOf, RowCountsData, IsCountOf, IsLineCount, NumberedRow, bound_of, breaks, broken_lines, counted_by, first_at, has_judgement, is_broken, is_counted, is_limited, is_tolerated, line_at, counted_lines, lines_broken, judged_lines, one_if, place_from, rows_of, some_not_tolerated, worse, worse_of, worst_after, worst_of}
 use Rattle.lin_tool.specs.declared.campaign.row.Row.{Row}
-use Rattle.lin_tool.specs.declared.campaign.row.Verdict.{Verdict}
-use Rattle.lin_tool.specs.declared.campaign.row.Verdict.TheVariants.{Tolerated, Broken, Limit}
+use Rattle.lin_tool.specs.declared.campaign.row.RowVerdict.{RowVerdict}
+use Rattle.lin_tool.specs.declared.campaign.row.RowVerdict.TheVariants.{Tolerated, Broken, Limit}
 use Rattle.lin_tool.specs.declared.campaign.summary.LineCount.{LineCount}
 use Rattle.lin_tool.specs.declared.campaign.summary.Worst.{Worst}
 
@@ -184,7 +184,7 @@ worse-is : (w : Option NumberedRow) (r : NumberedRow) → option_map worst_of (w
 worse-is None r = map-if (ltb 0 (lines_broken r.row)) r None
 worse-is (Some x) r = map-if (ltb (lines_broken x.row) (lines_broken r.row)) r (Some x)
 
-pub counts-more : (js : List Judgement) (rows : List NumberedRow) (r : NumberedRow) (old new : CountsData) → AreCounts old → AreCountsOf js rows old
+pub counts-more : (js : List Judgement) (rows : List NumberedRow) (r : NumberedRow) (old new : RowCountsData) → AreCounts old → AreCountsOf js rows old
     → ((n : ℕ) → line_at new.lines n ≡ (if is_in (broken_lines r.row) n then counted_by (old.rows + 1) (line_at old.lines n) else line_at old.lines n))
     → new.rows ≡ old.rows + 1 → new.tolerated ≡ old.tolerated + one_if (is_tolerated r.row.verdict) → new.broken ≡ old.broken + one_if (is_broken r.row.verdict)
     → new.limited ≡ old.limited + one_if (is_limited r.row.verdict) → new.missed ≡ old.missed + one_if (ltb 0 r.row.missed)
@@ -204,7 +204,7 @@ above-true : (b : Bool) → true ≡ (b || true)
 above-true true = refl
 above-true false = refl
 
-is-either : (v : Verdict) → not (is_tolerated v) ≡ (is_broken v || is_limited v)
+is-either : (v : RowVerdict) → not (is_tolerated v) ≡ (is_broken v || is_limited v)
 is-either Tolerated = refl
 is-either Broken = refl
 is-either (Limit n) = refl
@@ -296,7 +296,7 @@ above-bound (k ∷ ks) start n h =
     let (less, rest) = above-bound ks (max start (k + 1)) n h in
     (omega (arith, less), ap (λ b. b || is_in ks n) (eqb-below k n (omega (arith, less))) ∙ rest)
 
-in-lines : (js : List Judgement) (n : ℕ) → has_judgement js n ≡ is_in (lines_of js) n
+in-lines : (js : List Judgement) (n : ℕ) → has_judgement js n ≡ is_in (judged_lines js) n
 in-lines [] n = refl
 in-lines (j ∷ js) n = ap (λ b. (j.line == n) || b) (in-lines js n)
 
@@ -304,10 +304,10 @@ in-rows : (rows : List Row) (n : ℕ) → list_any (breaks n) rows ≡ is_in (fl
 in-rows [] n = refl
 in-rows (r ∷ rs) n = ap (λ b. breaks n r || b) (in-rows rs n) ∙ sym (list_any-append (λ x. x == n) (broken_lines r) (flat_map broken_lines rs))
 
-pub counted-below : (js : List Judgement) (rows : List Row) (n : ℕ) → bound_of (lines_of js ++ flat_map broken_lines rows) ≤ n → is_counted js rows n ≡ false
+pub counted-below : (js : List Judgement) (rows : List Row) (n : ℕ) → bound_of (judged_lines js ++ flat_map broken_lines rows) ≤ n → is_counted js rows n ≡ false
 counted-below js rows n h =
     ap₂ (λ a b. a || b) (in-lines js n) (in-rows rows n)
-    ∙ sym (list_any-append (λ x. x == n) (lines_of js) (flat_map broken_lines rows)) ∙ (above-bound (lines_of js ++ flat_map broken_lines rows) 0 n h).1
+    ∙ sym (list_any-append (λ x. x == n) (judged_lines js) (flat_map broken_lines rows)) ∙ (above-bound (judged_lines js ++ flat_map broken_lines rows) 0 n h).1
 
 pub counted-there : (js : List Judgement) (rows : List Row) (xs : List LineCount) (n : ℕ) → ((k : ℕ) → IsCountOf js rows k (line_at xs k)) → length xs ≤ n → is_counted js rows n ≡ false
 counted-there js rows xs n h long = sym (counted-is js rows n (line_at xs n) (h n)) ∙ ap (λ (l : LineCount). is_some l.judgement || ltb 0 l.broken) (past-end xs n long)
@@ -315,9 +315,9 @@ counted-there js rows xs n h long = sym (counted-is js rows n (line_at xs n) (h 
 pub line-there : (xs ys : List LineCount) (n : ℕ) (x : LineCount) → x ≡ get_or xs n x → n < length xs → xs ≡ ys → x ≡ line_at ys n
 line-there xs ys n x e h same = e ∙ same-item xs n x no_count h ∙ ap (λ l. line_at l n) same
 
-pub all-lines : (js : List Judgement) (rows : List Row) (xs : List LineCount) → ((k : ℕ) → IsCountOf js rows k (line_at xs k)) → filter (is_counted js rows) (numbers (length xs)) ≡ lines js rows
+pub all-lines : (js : List Judgement) (rows : List Row) (xs : List LineCount) → ((k : ℕ) → IsCountOf js rows k (line_at xs k)) → filter (is_counted js rows) (numbers (length xs)) ≡ counted_lines js rows
 all-lines js rows xs h =
-    same-filter (is_counted js rows) (length xs) (bound_of (lines_of js ++ flat_map broken_lines rows)) (λ k long. counted-there js rows xs k h long) (λ k long. counted-below js rows k long)
+    same-filter (is_counted js rows) (length xs) (bound_of (judged_lines js ++ flat_map broken_lines rows)) (λ k long. counted-there js rows xs k h long) (λ k long. counted-below js rows k long)
 
 text-if : (f : ℕ → List ℕ) (b : Bool) (n : ℕ) → (if b then f n else []) ≡ flat_map f (cond b (n ∷ []) [])
 text-if f true n = sym (append-nil (f n))

@@ -8,6 +8,7 @@ use Rattle.std.proofs.lemmas.List.{length_push, map-append}
 use Rattle.lin_parts.specs.declared.parts.Parts.{Parts}
 use Rattle.lin_core.specs.Core.{CoreData}
 use Rattle.lin_text.specs.Written.{WritesText}
+use Rattle.lin_bench.specs.Plays.{OverfillsUnder}
 use Rattle.lin_bench.specs.Played.{some_unmet}
 use Rattle.lin_bench.specs.declared.faults.SlotFault.{SlotFault}
 use Rattle.lin_bench.specs.declared.got.Judgement.{Judgement}
@@ -22,17 +23,17 @@ use Rattle.lin_tool.specs.campaign.Rows.{IsPart, bound, part_of, places_of, rows
 use Rattle.lin_tool.specs.campaign.Shown.{RowData}
 use Rattle.lin_tool.specs.campaign.Singles.{faults_at, only_single, singles}
 use Rattle.lin_tool.specs.campaign.Steps.{AreNamed, AreRowsOf, BreaksOff, CountsMore, IsBegun, IsNamed, IsPlanned, IsTable, WritesRow, WritesRows, calm_row, cases_of, counts_text, disturbed_row, end_row, first_disturbed, first_of, first_row, is_page, row_of_play, stage_of, worst_places}
-use Rattle.lin_tool.specs.campaign.Summary.{AreCountsOf, CountsData, NumberedRow, is_denied, lines_broken, lines_text, numbers_text, rows_of, worse, worst_after, worst_of}
+use Rattle.lin_tool.specs.campaign.Summary.{AreCountsOf, RowCountsData, NumberedRow, is_denied, lines_broken, lines_text, numbers_text, rows_of, worse, worst_after, worst_of}
 use Rattle.lin_tool.specs.campaign.Written.{AreRowsFrom, Ends, IsRowOf, Plays, SomeRowOverfills, Stage, WritesPlays, is_full, text_before_rows, text_after_rows, rows_with_faults, counts, denies, plays_in_output, numbered_row, numbered_rows, row_as, row_in_output, rows_in_output, campaign_output}
 use Rattle.lin_tool.specs.declared.campaign.Campaign.{Campaign}
-use Rattle.lin_tool.specs.declared.campaign.Plan.{Plan}
+use Rattle.lin_tool.specs.declared.campaign.CampaignPlan.{CampaignPlan}
 use Rattle.lin_tool.specs.declared.campaign.Play.{Play}
 use Rattle.lin_tool.specs.declared.campaign.RowFormat.{RowFormat}
-use Rattle.lin_tool.specs.declared.campaign.Table.{Table}
+use Rattle.lin_tool.specs.declared.campaign.RowSource.{RowSource}
 use Rattle.lin_tool.specs.declared.campaign.row.LostMessage.{LostMessage}
 use Rattle.lin_tool.specs.declared.campaign.row.RefusedStep.{RefusedStep}
 use Rattle.lin_tool.specs.declared.campaign.row.Row.{Row}
-use Rattle.lin_tool.specs.declared.campaign.rows.Part.{Part}
+use Rattle.lin_tool.specs.declared.campaign.rows.CampaignPart.{CampaignPart}
 use Rattle.lin_tool.specs.declared.campaign.rows.Rows.{Rows}
 use Rattle.lin_tool.specs.declared.campaign.singles.Single.{Single}
 use Rattle.lin_tool.specs.declared.fault.Fault.{Fault}
@@ -90,65 +91,65 @@ played_data n fs one p js = record {
   judgements = js;
 }
 
-pub is-row : (on : Campaign) (t : Table) (c : Parts) (ls : List (ℕ × ScriptLine)) (n : ℕ) (places : List ℕ) (fs : List SlotFault) (one : Option Single) (p : Play) (js : List Judgement)
+pub is-row : (on : Campaign) (t : RowSource) (c : Parts) (ls : List (ℕ × ScriptLine)) (n : ℕ) (places : List ℕ) (fs : List SlotFault) (one : Option Single) (p : Play) (js : List Judgement)
     → places ≡ places_of t.rows.now n → fs ≡ faults_at t.singles.now places → one ≡ only_single t.singles.now places → js ≡ p.judgements → PlaysRow on c fs ls (Ok p)
     → IsRowOf (stage_of on c ls) t.singles.now n (places_of t.rows.now n) (played_data n fs one p js)
 is-row on t c ls n places fs one p js at faults single judged h =
     subst (λ l. IsRowOf (stage_of on c ls) t.singles.now n l (played_data n fs one p js)) at (row-played on c ls t.singles.now n places fs one p js faults single judged h)
 
 -- its row was written whole and counted
-pub row-done : (on : Campaign) (t : Table) (c x handed : Parts) (ls : List (ℕ × ScriptLine)) (n : ℕ) (p : RowData) (counts more : CountsData) (old new : Option (List ℕ))
+pub row-done : (on : Campaign) (t : RowSource) (c x handed : Parts) (ls : List (ℕ × ScriptLine)) (n : ℕ) (p : RowData) (counts more : RowCountsData) (old new : Option (List ℕ))
     → IsRowOf (stage_of on c ls) t.singles.now n (places_of t.rows.now n) p → x ≡ c → Appends old new (disturbed_row on t x p) → CountsMore (p ∷ []) counts more
     → WritesRow on t c ls n (Ok handed) counts more old new
 row-done on t c x handed ls n p counts more old new is same written counted = (p, is, subst (λ y. Appends old new (disturbed_row on t y p)) same written, counted)
 
 -- a beginning of it was written
-pub row-begun : (on : Campaign) (t : Table) (c x : Parts) (ls : List (ℕ × ScriptLine)) (n : ℕ) (p : RowData) (fault : Fault) (counts more : CountsData) (old new : Option (List ℕ))
+pub row-begun : (on : Campaign) (t : RowSource) (c x : Parts) (ls : List (ℕ × ScriptLine)) (n : ℕ) (p : RowData) (fault : Fault) (counts more : RowCountsData) (old new : Option (List ℕ))
     → IsRowOf (stage_of on c ls) t.singles.now n (places_of t.rows.now n) p → x ≡ c → Begins old new (disturbed_row on t x p) → BreaksOff on t c ls fault
     → WritesRow on t c ls n (Err fault) counts more old new
 row-begun on t c x ls n p fault counts more old new is same begun failed = (p, is, subst (λ y. Begins old new (disturbed_row on t y p)) same begun, failed)
 
-pub row-fault : (on : Campaign) (t : Table) (c : Parts) (ls : List (ℕ × ScriptLine)) (n : ℕ) (fault : Fault) → n < length (rows t.rows.now)
+pub row-fault : (on : Campaign) (t : RowSource) (c : Parts) (ls : List (ℕ × ScriptLine)) (n : ℕ) (fault : Fault) → n < length (rows t.rows.now)
     → IsUnfinished on c (faults_at t.singles.now (places_of t.rows.now n)) ls fault → BreaksOff on t c ls fault
 row-fault on t c ls n LogFull there h = (n, there, h)
 row-fault on t c ls n OutOfMemory there h = tt
 row-fault on t c ls n fault there h = absurd h
 
-pub written-fault : (on : Campaign) (t : Table) (c : Parts) (ls : List (ℕ × ScriptLine)) (fault : ExportFault) → BreaksOff on t c ls (export_fault fault)
+pub written-fault : (on : Campaign) (t : RowSource) (c : Parts) (ls : List (ℕ × ScriptLine)) (fault : ExportFault) → BreaksOff on t c ls (export_fault fault)
 written-fault on t c ls export.OutOfMemory = tt
 written-fault on t c ls export.WriteFailed = tt
 
 -- a row of which nothing was written
-pub row-unbegun : (on : Campaign) (t : Table) (c : Parts) (ls : List (ℕ × ScriptLine)) (n : ℕ) (fault : Fault) (counts more : CountsData) (old : Option (List ℕ)) → BreaksOff on t c ls fault
+pub row-unbegun : (on : Campaign) (t : RowSource) (c : Parts) (ls : List (ℕ × ScriptLine)) (n : ℕ) (fault : Fault) (counts more : RowCountsData) (old : Option (List ℕ)) → BreaksOff on t c ls fault
     → WritesRow on t c ls n (Err fault) counts more old old
 row-unbegun on t c ls n fault counts more old failed =
     let p = a-row (stage_of on c ls) t.singles.now n (places_of t.rows.now n) in (p.0, p.1, begins-nothing old (disturbed_row on t c p.0), failed)
 
 -- ---- the rows of a part
-counts-same : (js : List Judgement) (counted : List NumberedRow) (counts : CountsData) → AreCountsOf js counted counts → AreCountsOf js (counted ++ []) counts
+counts-same : (js : List Judgement) (counted : List NumberedRow) (counts : RowCountsData) → AreCountsOf js counted counts → AreCountsOf js (counted ++ []) counts
 counts-same js counted counts h = subst (λ l. AreCountsOf js l counts) (sym (append-nil counted)) h
 
-pub none-counted : (counts : CountsData) → CountsMore [] counts counts
+pub none-counted : (counts : RowCountsData) → CountsMore [] counts counts
 none-counted counts = λ js counted h. counts-same js counted counts h
 
-pub more-counted : (ps qs : List RowData) (old mid new : CountsData) → CountsMore ps old mid → CountsMore qs mid new → CountsMore (ps ++ qs) old new
+pub more-counted : (ps qs : List RowData) (old mid new : RowCountsData) → CountsMore ps old mid → CountsMore qs mid new → CountsMore (ps ++ qs) old new
 more-counted ps qs old mid new h k = λ js counted are.
     subst (λ l. AreCountsOf js l new) (append_assoc counted (map numbered_row ps) (map numbered_row qs) ∙ ap (λ l. counted ++ l) (sym (map-append numbered_row ps qs)))
     (k js (counted ++ map numbered_row ps) (h js counted are))
 
 -- the rows with faults up to number n were written and counted
-pub record WroteUpTo (on : Campaign) (t : Table) (c : Parts) (ls : List (ℕ × ScriptLine)) (n : ℕ) (counts more : CountsData) (old new : Option (List ℕ)) : Type 0 where
+pub record WroteUpTo (on : Campaign) (t : RowSource) (c : Parts) (ls : List (ℕ × ScriptLine)) (n : ℕ) (counts more : RowCountsData) (old new : Option (List ℕ)) : Type 0 where
   pub ps : List RowData
   pub rows_are : AreRowsOf (stage_of on c ls) t.singles.now t.rows.now (first_disturbed (first_row t)) ps
   pub many : length ps + first_disturbed (first_row t) ≡ n
   pub written : Appends old new (flat_map (disturbed_row on t c) ps)
   pub counted : CountsMore ps counts more
 
-pub wrote-none : (on : Campaign) (t : Table) (c : Parts) (ls : List (ℕ × ScriptLine)) (n : ℕ) (counts : CountsData) (old : Option (List ℕ)) → first_disturbed (first_row t) ≡ n
+pub wrote-none : (on : Campaign) (t : RowSource) (c : Parts) (ls : List (ℕ × ScriptLine)) (n : ℕ) (counts : RowCountsData) (old : Option (List ℕ)) → first_disturbed (first_row t) ≡ n
     → WroteUpTo on t c ls n counts counts old old
 wrote-none on t c ls n counts old e = record { ps = []; rows_are = tt; many = omega (arith, e); written = Appends-nil old; counted = none-counted counts }
 
-pub wrote-more : (on : Campaign) (t : Table) (c handed : Parts) (ls : List (ℕ × ScriptLine)) (n m : ℕ) (counts mid more : CountsData) (old now new : Option (List ℕ)) → m ≡ n + 1
+pub wrote-more : (on : Campaign) (t : RowSource) (c handed : Parts) (ls : List (ℕ × ScriptLine)) (n m : ℕ) (counts mid more : RowCountsData) (old now new : Option (List ℕ)) → m ≡ n + 1
     → WroteUpTo on t c ls n counts mid old now → WritesRow on t c ls n (Ok handed) mid more now new → WroteUpTo on t c ls m counts more old new
 wrote-more on t c handed ls n m counts mid more old now new e h k = record {
   ps = h.ps ++ k.0 ∷ [];
@@ -162,7 +163,7 @@ wrote-more on t c handed ls n m counts mid more old now new e h k = record {
 }
 
 -- a row broke off: the others are rows too
-pub rows-broke : (on : Campaign) (t : Table) (c : Parts) (ls : List (ℕ × ScriptLine)) (n : ℕ) (fault : Fault) (counts mid more : CountsData) (old now new : Option (List ℕ)) → n < end_row t
+pub rows-broke : (on : Campaign) (t : RowSource) (c : Parts) (ls : List (ℕ × ScriptLine)) (n : ℕ) (fault : Fault) (counts mid more : RowCountsData) (old now new : Option (List ℕ)) → n < end_row t
     → WroteUpTo on t c ls n counts mid old now → WritesRow on t c ls n (Err fault) mid more now new → WritesRows on t c ls (Err fault) counts more old new
 rows-broke on t c ls n fault counts mid more old now new there h k =
     let on_ = stage_of on c ls in
@@ -187,46 +188,46 @@ rows-broke on t c ls n fault counts mid more old now new there h k =
     )
 
 -- all rows were written
-pub rows-written : (on : Campaign) (t : Table) (c handed : Parts) (ls : List (ℕ × ScriptLine)) (n : ℕ) (counts more : CountsData) (old new : Option (List ℕ)) → n ≡ max (end_row t) (first_disturbed (first_row t))
+pub rows-written : (on : Campaign) (t : RowSource) (c handed : Parts) (ls : List (ℕ × ScriptLine)) (n : ℕ) (counts more : RowCountsData) (old new : Option (List ℕ)) → n ≡ max (end_row t) (first_disturbed (first_row t))
     → WroteUpTo on t c ls n counts more old new → WritesRows on t c ls (Ok handed) counts more old new
 rows-written on t c handed ls n counts more old new e h = (h.ps, h.rows_are, omega (arith, e, h.many), h.written, h.counted)
 
 -- ---- the worst row
-abbrev IfNamed : Table → Option NumberedRow → Type 0
+abbrev IfNamed : RowSource → Option NumberedRow → Type 0
 IfNamed t None = Unit {0}
 IfNamed t (Some r) = IsNamed t r
 
-if-named : (t : Table) (b : Bool) (r : NumberedRow) (o : Option NumberedRow) → IsNamed t r → IfNamed t o → IfNamed t (if b then Some r else o)
+if-named : (t : RowSource) (b : Bool) (r : NumberedRow) (o : Option NumberedRow) → IsNamed t r → IfNamed t o → IfNamed t (if b then Some r else o)
 if-named t true r o h k = h
 if-named t false r o h k = k
 
-worse-named : (t : Table) (w : Option NumberedRow) (r : NumberedRow) → IfNamed t w → IsNamed t r → IfNamed t (worse w r)
+worse-named : (t : RowSource) (w : Option NumberedRow) (r : NumberedRow) → IfNamed t w → IsNamed t r → IfNamed t (worse w r)
 worse-named t None r h k = if-named t (nat_lt 0 (lines_broken r.row)) r None k tt
 worse-named t (Some w) r h k = if-named t (nat_lt (lines_broken w.row) (lines_broken r.row)) r (Some w) k h
 
-worst-named : (t : Table) (w : Option NumberedRow) (rs : List NumberedRow) → IfNamed t w → AreNamed t rs → IfNamed t (worst_after w rs)
+worst-named : (t : RowSource) (w : Option NumberedRow) (rs : List NumberedRow) → IfNamed t w → AreNamed t rs → IfNamed t (worst_after w rs)
 worst-named t w [] h k = h
 worst-named t w (r ∷ rs) h k = worst-named t (worse w r) rs (worse-named t w r h k.0) k.1
 
-worst-by : (t : Table) (w : Option NumberedRow) → IfNamed t w → option_map_or (λ (r : NumberedRow). r.faults) w [] ≡ faults_at t.singles.now (worst_places t (option_map worst_of w))
+worst-by : (t : RowSource) (w : Option NumberedRow) → IfNamed t w → option_map_or (λ (r : NumberedRow). r.faults) w [] ≡ faults_at t.singles.now (worst_places t (option_map worst_of w))
 worst-by t None h = refl
 worst-by t (Some r) h = h.1
 
-worst-faults : (t : Table) (js : List Judgement) (rs : List NumberedRow) (counts : CountsData) (places : List ℕ) (fs : List SlotFault) → places ≡ worst_places t counts.worst → fs ≡ faults_at t.singles.now places
+worst-faults : (t : RowSource) (js : List Judgement) (rs : List NumberedRow) (counts : RowCountsData) (places : List ℕ) (fs : List SlotFault) → places ≡ worst_places t counts.worst → fs ≡ faults_at t.singles.now places
     → AreCountsOf js rs counts → AreNamed t rs → option_map_or (λ (r : NumberedRow). r.faults) (worst_after None rs) [] ≡ fs
 worst-faults t js rs counts places fs at is h named =
     worst-by t (worst_after None rs) (worst-named t None rs tt named)
     ∙ ap (λ w. faults_at t.singles.now (worst_places t w)) (sym h.worst) ∙ ap (faults_at t.singles.now) (sym at) ∙ sym is
 
 -- faults that are read, or an error
-pub worst-faults-by : {V E : Type 0} (items : V → List SlotFault) (t : Table) (counts : CountsData) (places lent : List ℕ) (r : Result V E) → places ≡ worst_places t counts.worst → lent ≡ places
+pub worst-faults-by : {V E : Type 0} (items : V → List SlotFault) (t : RowSource) (counts : RowCountsData) (places lent : List ℕ) (r : Result V E) → places ≡ worst_places t counts.worst → lent ≡ places
     → IfOk r (λ v. items v ≡ faults_at t.singles.now lent)
     → IfOk r (λ v. (js : List Judgement) → (rs : List NumberedRow) → AreCountsOf js rs counts → AreNamed t rs → option_map_or (λ (w : NumberedRow). w.faults) (worst_after None rs) [] ≡ items v)
 worst-faults-by items t counts places lent (Ok v) at same is = λ js rs are names. worst-faults t js rs counts lent (items v) (same ∙ at) is are names
 worst-faults-by items t counts places lent (Err fault) at same is = tt
 
 -- rows of a table are named by it
-pub rows-named : (on : Campaign) (t : Table) (c : Parts) (ls : List (ℕ × ScriptLine)) (n : ℕ) (ps : List RowData) → AreRowsOf (stage_of on c ls) t.singles.now t.rows.now n ps
+pub rows-named : (on : Campaign) (t : RowSource) (c : Parts) (ls : List (ℕ × ScriptLine)) (n : ℕ) (ps : List RowData) → AreRowsOf (stage_of on c ls) t.singles.now t.rows.now n ps
     → n + length ps ≤ length (rows t.rows.now) → AreNamed t (map numbered_row ps)
 rows-named on t c ls n [] h few = tt
 rows-named on t c ls n (p ∷ ps) h few =
@@ -236,26 +237,26 @@ rows-named on t c ls n (p ∷ ps) h few =
 
 -- ---- the whole
 -- the bounds of a part
-bounds-order : (count : ℕ) (p : Part) → IsPart p → (bound count (p.number - 1) p.count ≤ bound count p.number p.count) × (bound count p.number p.count ≤ count)
+bounds-order : (count : ℕ) (p : CampaignPart) → IsPart p → (bound count (p.number - 1) p.count ≤ bound count p.number p.count) × (bound count p.number p.count ≤ count)
 bounds-order count p h =
     let next : p.number - 1 + 1 ≡ p.number = omega (arith, h.0) in
     let some : 1 ≤ p.count = omega (arith, h.0, h.1) in
     (subst (λ k. bound count (p.number - 1) p.count ≤ bound count k p.count) next (bound-more count (p.number - 1) p.count some), bound-within count p.number p.count some h.1)
 
-pub part-order : (t : Table) → IsTable t → (first_row t ≤ end_row t) × (end_row t ≤ length (rows t.rows.now))
+pub part-order : (t : RowSource) → IsTable t → (first_row t ≤ end_row t) × (end_row t ≤ length (rows t.rows.now))
 part-order t h = bounds-order (length (rows t.rows.now)) t.part h.0
 
 -- the plays of a part, of which these have faults
-pub record ArePlayed (on : Campaign) (plan : Plan) (t : Table) (core : CoreData) (ls : List (ℕ × ScriptLine)) (ps : List RowData) : Type 0 where
+pub record ArePlayed (on : Campaign) (plan : CampaignPlan) (t : RowSource) (core : CoreData) (ls : List (ℕ × ScriptLine)) (ps : List RowData) : Type 0 where
   pub plan_is : IsPlanned on plan t core ls
   pub rows_are : AreRowsOf (stage_of on core.cluster ls) t.singles.now t.rows.now (first_disturbed (first_row t)) ps
   pub many : length ps ≡ cases_of t
 
 -- what is written of these
-abbrev pub text_of : Campaign → Table → CoreData → List RowData → List ℕ
+abbrev pub text_of : Campaign → RowSource → CoreData → List RowData → List ℕ
 text_of on t core ps = first_of on t core.cluster (calm_row t core) ++ (flat_map (disturbed_row on t core.cluster) ps ++ text_after_rows on.format)
 
-record HasWhole (on : Campaign) (plan : Plan) (t : Table) (core : CoreData) (ls : List (ℕ × ScriptLine)) (ps : List RowData) : Type 0 where
+record HasWhole (on : Campaign) (plan : CampaignPlan) (t : RowSource) (core : CoreData) (ls : List (ℕ × ScriptLine)) (ps : List RowData) : Type 0 where
   pub it : Plays (stage_of on core.cluster ls) plan
   pub text : campaign_output on.script.now on.file.now on.bytes.now it ≡ text_of on t core ps
   pub named_are : numbered_rows it.played ≡ map numbered_row ps
@@ -280,7 +281,7 @@ whole-text format script file bytes c calm t first cases from to ps all lost ref
     ∙ sym (append_assoc start zeroth (others ++ text_after_rows format))
     ∙ ap₂ (λ a b. (start ++ zeroth) ++ (flat_map (row_as format script c a b) ps ++ text_after_rows format)) (sym lost-is) (sym refused-is)
 
-has-whole : (on : Campaign) (plan : Plan) (t : Table) (core : CoreData) (ls : List (ℕ × ScriptLine)) (ps : List RowData) → IsTable t → ArePlayed on plan t core ls ps
+has-whole : (on : Campaign) (plan : CampaignPlan) (t : RowSource) (core : CoreData) (ls : List (ℕ × ScriptLine)) (ps : List RowData) → IsTable t → ArePlayed on plan t core ls ps
     → HasWhole on plan t core ls ps
 has-whole on plan t core ls ps is h =
     let c = core.cluster in
@@ -303,13 +304,13 @@ has-whole on plan t core ls ps is h =
         played = all.0;
         rows_are =
             subst
-            (λ (p : Part). AreRowsFrom (stage_of on c ls) t.singles.now (bound (length (rows t.rows.now)) (p.number - 1) p.count) (part_of p (rows t.rows.now)) all.0) h.plan_is.part
+            (λ (p : CampaignPart). AreRowsFrom (stage_of on c ls) t.singles.now (bound (length (rows t.rows.now)) (p.number - 1) p.count) (part_of p (rows t.rows.now)) all.0) h.plan_is.part
             all.1.listed_are;
       };
       text =
           text
           ∙ ap₂
-          (λ (f : RowFormat) (p : Part). (text_before_rows f (p.number == 1) on.script.now on.file.now on.bytes.now (cases_of t) t.rows.now c calm
+          (λ (f : RowFormat) (p : CampaignPart). (text_before_rows f (p.number == 1) on.script.now on.file.now on.bytes.now (cases_of t) t.rows.now c calm
           ++ (if ((first_row t == 0) && nat_lt 0 (end_row t)) || is_page f then row_as f on.script.now c [] [] calm else []))
           ++ (flat_map (row_as f on.script.now c t.calm.now.lost t.calm.now.refused) ps ++ text_after_rows f))
           (sym h.plan_is.format) (sym h.plan_is.part);
@@ -320,7 +321,7 @@ has-whole on plan t core ls ps is h =
     }
 
 -- ---- the end
-fault-ends : (on : Campaign) (t : Table) (c : Parts) (ls : List (ℕ × ScriptLine)) (watched denied : Bool) (fault : Fault) (text told : List ℕ) (old new silent heard : Option (List ℕ))
+fault-ends : (on : Campaign) (t : RowSource) (c : Parts) (ls : List (ℕ × ScriptLine)) (watched denied : Bool) (fault : Fault) (text told : List ℕ) (old new silent heard : Option (List ℕ))
     → BreaksOff on t c ls fault → Begins old new text → Ends watched (Err fault) denied text told old new silent heard
 fault-ends on t c ls watched denied LogFull text told old new silent heard failed h = h
 fault-ends on t c ls watched denied OutOfMemory text told old new silent heard failed h = h
@@ -331,15 +332,17 @@ not-true : {X : Type 0} → false ≡ true → X
 not-true h = absurd (cc)
 
 -- the row whose log is full
-full-row : (on : Campaign) (plan : Plan) (t : Table) (c : Parts) (ls : List (ℕ × ScriptLine)) (fault : Fault) (it : Plays (stage_of on c ls) plan) → it.singles_are ≡ t.singles.now → it.table ≡ t.rows.now
+full-row : (on : Campaign) (plan : CampaignPlan) (t : RowSource) (c : Parts) (ls : List (ℕ × ScriptLine)) (fault : Fault) (it : Plays (stage_of on c ls) plan) → it.singles_are ≡ t.singles.now → it.table ≡ t.rows.now
     → BreaksOff on t c ls fault → is_full (Err fault) ≡ true → SomeRowOverfills it
-full-row on plan t c ls LogFull it singles table failed full = rw (singles, table) failed
-full-row on plan t c ls OutOfMemory it singles table failed full = not-true full
-full-row on plan t c ls WriteFailed it singles table failed full = not-true full
-full-row on plan t c ls fault it singles table failed full = absurd failed
+full-row on plan t c ls LogFull it are is failed full =
+    subst (λ (r : Rows). (n : ℕ) × (n < length (rows r)) × OverfillsUnder c on.table on.capacity (faults_at it.singles_are (places_of r n)) ls) (sym is)
+    (subst (λ (ss : List Single). (n : ℕ) × (n < length (rows t.rows.now)) × OverfillsUnder c on.table on.capacity (faults_at ss (places_of t.rows.now n)) ls) (sym are) failed)
+full-row on plan t c ls OutOfMemory it are is failed full = not-true full
+full-row on plan t c ls WriteFailed it are is failed full = not-true full
+full-row on plan t c ls fault it are is failed full = absurd failed
 
 -- each campaign has plays
-any-plays : (on : Stage) (plan : Plan) (calm : RowData) → IsPart plan.part → IsRowOf on [] 0 [] calm → some_unmet calm.judgements ≡ false → Plays on plan
+any-plays : (on : Stage) (plan : CampaignPlan) (calm : RowData) → IsPart plan.part → IsRowOf on [] 0 [] calm → some_unmet calm.judgements ≡ false → Plays on plan
 any-plays on plan calm part is met =
     let ss = singles on.cluster plan.kinds calm.log in
     let t : Rows = record { singles = length ss; pairs = plan.pairs; random = plan.random } in
@@ -361,11 +364,11 @@ any-plays on plan calm part is met =
     }
 
 -- a table has what the plan wants of the undisturbed play
-calm-same : (calm : Play) (t : Table) → t.calm.now ≡ calm.row → t.judgements.now ≡ calm.judgements → calm_row t calm.core ≡ row_of_play calm
+calm-same : (calm : Play) (t : RowSource) → t.calm.now ≡ calm.row → t.judgements.now ≡ calm.judgements → calm_row t calm.core ≡ row_of_play calm
 calm-same calm t row judgements =
     ap₂ (λ (r : Row) (js : List Judgement). record { number = 0; faults = []; single = None; row = r; log = calm.core.log; judgements = js }) row judgements
 
-pub planned : (on : Campaign) (plan : Plan) (calm : Play) (t : Table) (ls : List (ℕ × ScriptLine)) → IsBegun on plan calm ls → t.calm.now ≡ calm.row → t.judgements.now ≡ calm.judgements
+pub planned : (on : Campaign) (plan : CampaignPlan) (calm : Play) (t : RowSource) (ls : List (ℕ × ScriptLine)) → IsBegun on plan calm ls → t.calm.now ≡ calm.row → t.judgements.now ≡ calm.judgements
     → t.part ≡ plan.part → t.singles.now ≡ singles calm.core.cluster plan.kinds calm.core.log
     → t.rows.now ≡ record { singles = length t.singles.now; pairs = plan.pairs; random = plan.random } → IsPlanned on plan t calm.core ls
 planned on plan calm t ls h row judgements part are made = record {
@@ -379,14 +382,14 @@ planned on plan calm t ls h row judgements part are made = record {
 }
 
 -- a campaign of which nothing was written
-pub campaign-unwritten : (on : Campaign) (plan : Plan) (calm : Play) (ls : List (ℕ × ScriptLine)) (watched : Bool) (old silent heard : Option (List ℕ)) → IsPart plan.part → IsBegun on plan calm ls
+pub campaign-unwritten : (on : Campaign) (plan : CampaignPlan) (calm : Play) (ls : List (ℕ × ScriptLine)) (watched : Bool) (old silent heard : Option (List ℕ)) → IsPart plan.part → IsBegun on plan calm ls
     → WritesPlays (stage_of on calm.core.cluster ls) plan watched on.script.now on.file.now on.bytes.now (Err OutOfMemory) old old silent heard
 campaign-unwritten on plan calm ls watched old silent heard part h =
     let it = any-plays (stage_of on calm.core.cluster ls) plan (row_of_play calm) part h.undisturbed h.met in
     (it, (λ full. not-true full), begins-nothing old (campaign_output on.script.now on.file.now on.bytes.now it))
 
 -- a campaign of which a beginning was written
-pub campaign-broke : (on : Campaign) (plan : Plan) (t : Table) (core : CoreData) (ls : List (ℕ × ScriptLine)) (ps : List RowData) (watched : Bool) (fault : Fault) (old new silent heard : Option (List ℕ))
+pub campaign-broke : (on : Campaign) (plan : CampaignPlan) (t : RowSource) (core : CoreData) (ls : List (ℕ × ScriptLine)) (ps : List RowData) (watched : Bool) (fault : Fault) (old new silent heard : Option (List ℕ))
     → IsTable t → ArePlayed on plan t core ls ps → BreaksOff on t core.cluster ls fault → Begins old new (text_of on t core ps)
     → WritesPlays (stage_of on core.cluster ls) plan watched on.script.now on.file.now on.bytes.now (Err fault) old new silent heard
 campaign-broke on plan t core ls ps watched fault old new silent heard is h failed begun =
@@ -398,7 +401,7 @@ campaign-broke on plan t core ls ps watched fault old new silent heard is h fail
     )
 
 -- before its rows with faults were played
-pub campaign-unplayed : (on : Campaign) (plan : Plan) (t : Table) (core : CoreData) (ls : List (ℕ × ScriptLine)) (watched : Bool) (fault : Fault) (old new silent heard : Option (List ℕ))
+pub campaign-unplayed : (on : Campaign) (plan : CampaignPlan) (t : RowSource) (core : CoreData) (ls : List (ℕ × ScriptLine)) (watched : Bool) (fault : Fault) (old new silent heard : Option (List ℕ))
     → IsTable t → IsPlanned on plan t core ls → BreaksOff on t core.cluster ls fault → Begins old new (first_of on t core.cluster (calm_row t core))
     → WritesPlays (stage_of on core.cluster ls) plan watched on.script.now on.file.now on.bytes.now (Err fault) old new silent heard
 campaign-unplayed on plan t core ls watched fault old new silent heard is h failed begun =
@@ -407,7 +410,7 @@ campaign-unplayed on plan t core ls watched fault old new silent heard is h fail
     (begins-longer old new (first_of on t core.cluster (calm_row t core)) (flat_map (disturbed_row on t core.cluster) ps.0 ++ text_after_rows on.format) begun)
 
 -- a campaign that was written
-pub campaign-ended : (on : Campaign) (plan : Plan) (t : Table) (core : CoreData) (ls : List (ℕ × ScriptLine)) (ps : List RowData) (watched : Bool) (result : Result Unit Fault)
+pub campaign-ended : (on : Campaign) (plan : CampaignPlan) (t : RowSource) (core : CoreData) (ls : List (ℕ × ScriptLine)) (ps : List RowData) (watched : Bool) (result : Result Unit Fault)
     (old new silent heard : Option (List ℕ)) → IsTable t → ArePlayed on plan t core ls ps → is_full result ≡ false → Appends old new (text_of on t core ps)
     → (watched ≡ false → WritesTextOrPart silent heard (counts_text on t core.cluster (map numbered_row ps)))
     → (((denied : Bool) → denied ≡ is_denied plan.denies_broken plan.denies_never t.judgements.now (rows_of (map numbered_row ps)) → (text told : List ℕ) → Appends old new text
@@ -429,15 +432,15 @@ pub text-after : (silent mid heard : Option (List ℕ)) (text : List ℕ) → Ke
 text-after silent mid heard text kept (outcome, h) = (outcome, writes-after kept h)
 
 -- counters of which none counts
-abbrev pub no_counts : CountsData
+abbrev pub no_counts : RowCountsData
 no_counts = record { lines = []; rows = 0; tolerated = 0; broken = 0; limited = 0; missed = 0; worst = None }
 
 -- the rows with faults end within the table
-part-fits : (t : Table) (ps : List RowData) → IsTable t → length ps ≡ cases_of t → first_disturbed (first_row t) + length ps ≤ length (rows t.rows.now)
+part-fits : (t : RowSource) (ps : List RowData) → IsTable t → length ps ≡ cases_of t → first_disturbed (first_row t) + length ps ≤ length (rows t.rows.now)
 part-fits t ps is many = let order = part-order t is in omega (arith, order.0, order.1, many, count-rows t.rows.now)
 
 -- a row broke off
-pub rows-fail : (on : Campaign) (plan : Plan) (t : Table) (core : CoreData) (ls : List (ℕ × ScriptLine)) (watched : Bool) (fault : Fault) (counts more : CountsData) (old mid new silent heard : Option (List ℕ))
+pub rows-fail : (on : Campaign) (plan : CampaignPlan) (t : RowSource) (core : CoreData) (ls : List (ℕ × ScriptLine)) (watched : Bool) (fault : Fault) (counts more : RowCountsData) (old mid new silent heard : Option (List ℕ))
     → IsTable t → IsPlanned on plan t core ls → Appends old mid (first_of on t core.cluster (calm_row t core)) → WritesRows on t core.cluster ls (Err fault) counts more mid new
     → WritesPlays (stage_of on core.cluster ls) plan watched on.script.now on.file.now on.bytes.now (Err fault) old new silent heard
 rows-fail on plan t core ls watched fault counts more old mid new silent heard is h first (ps, rows-are, many, begun, failed) =
@@ -446,7 +449,7 @@ rows-fail on plan t core ls watched fault counts more old mid new silent heard i
     (begins-behind old mid new (first_of on t core.cluster (calm_row t core)) (texts ++ text_after_rows on.format) first (begins-longer mid new texts (text_after_rows on.format) begun))
 
 -- something behind the rows failed
-pub tail-fails : {E : Type 0} (on : Campaign) (plan : Plan) (t : Table) (core : CoreData) (handed : Parts) (ls : List (ℕ × ScriptLine)) (watched : Bool) (fault : Fault) (r : Result Unit E) (counts more : CountsData)
+pub tail-fails : {E : Type 0} (on : Campaign) (plan : CampaignPlan) (t : RowSource) (core : CoreData) (handed : Parts) (ls : List (ℕ × ScriptLine)) (watched : Bool) (fault : Fault) (r : Result Unit E) (counts more : RowCountsData)
     (old mid rest new silent heard : Option (List ℕ)) → IsTable t → IsPlanned on plan t core ls → Appends old mid (first_of on t core.cluster (calm_row t core))
     → WritesRows on t core.cluster ls (Ok handed) counts more mid rest → WritesText rest new r (text_after_rows on.format) → BreaksOff on t core.cluster ls fault
     → WritesPlays (stage_of on core.cluster ls) plan watched on.script.now on.file.now on.bytes.now (Err fault) old new silent heard
@@ -457,8 +460,8 @@ tail-fails on plan t core handed ls watched fault r counts more old mid rest new
     (begins-behind mid rest new texts (text_after_rows on.format) written (text-begins tail)))
 
 -- all was written
-pub table-done : (on : Campaign) (plan : Plan) (t : Table) (core : CoreData) (handed : Parts) (ls : List (ℕ × ScriptLine)) (watched denied : Bool) (result : Result Unit Fault)
-    (counts more : CountsData) (old mid rest new silent quiet heard : Option (List ℕ)) → IsTable t → IsPlanned on plan t core ls → is_full result ≡ false → Appends old mid (first_of on t core.cluster (calm_row t core))
+pub table-done : (on : Campaign) (plan : CampaignPlan) (t : RowSource) (core : CoreData) (handed : Parts) (ls : List (ℕ × ScriptLine)) (watched denied : Bool) (result : Result Unit Fault)
+    (counts more : RowCountsData) (old mid rest new silent quiet heard : Option (List ℕ)) → IsTable t → IsPlanned on plan t core ls → is_full result ≡ false → Appends old mid (first_of on t core.cluster (calm_row t core))
     → AreCountsOf t.judgements.now [] counts → WritesRows on t core.cluster ls (Ok handed) counts more mid rest → (watched ≡ false → Keeps silent quiet)
     → Appends rest new (text_after_rows on.format)
     → ((rs : List NumberedRow) → AreCountsOf t.judgements.now rs more → AreNamed t rs → WritesTextOrPart quiet heard (counts_text on t core.cluster rs))

@@ -15,7 +15,7 @@ use Rattle.lin_tool.specs.PageFields.{field, guarded_text, is_inert, no_less}
 use Rattle.lin_tool.specs.campaign.Jsonl.{head_object, row_object}
 use Rattle.lin_tool.specs.campaign.Page.{CampaignDataAreInert, data_head, object_byte, object_text, page_line, page_lines, page_slot, without_empty_last}
 use Rattle.lin_tool.specs.campaign.Shown.{RowData}
-use Rattle.lin_tool.specs.campaign.Slots.{finished_slots, frame_shown, name_in}
+use Rattle.lin_tool.specs.campaign.Slots.{finished_slots, frame_shown, frame_or_entry_name}
 use Rattle.lin_tool.proofs.Inert.{each, field-inert, guarded-inert, more, number-inert}
 
 object-by : (b : ℕ) (t : Bool) → (b == 60) ≡ t → is_inert (if t then codes "\\u003c" else b ∷ []) ≡ true
@@ -40,7 +40,7 @@ script-inert line =
 slot-inert : (c : Parts) (s : Slot) → is_inert (page_slot c s) ≡ true
 slot-inert c s =
     let table = (named_table c s.table).name in
-    let frame = name_in c s.table s.entry (frame_shown c s) in
+    let frame = frame_or_entry_name c s.table s.entry (frame_shown c s) in
     let seen = look_word (look_of (seen_of s)) in
     let from_seen = codes " " ++ (seen ++ 10 ∷ []) in
     let from_frame = codes " " ++ (guarded_text frame ++ from_seen) in

@@ -22,7 +22,7 @@ use Rattle.lin_tool.specs.campaign.Played.{IsOutOfMemory, IsPlayOf, IsUndisturbe
 use Rattle.lin_tool.specs.campaign.Steps.{IsBegun, SaysLines, row_of_play, stage_of}
 use Rattle.lin_tool.specs.campaign.Written.{Ends, IsRowOf, Stage, WritesCampaign, WritesPlays, WritesPlaysOfScript, counts, denies, name_or, campaign_output}
 use Rattle.lin_tool.specs.declared.campaign.Campaign.{Campaign}
-use Rattle.lin_tool.specs.declared.campaign.Plan.{Plan}
+use Rattle.lin_tool.specs.declared.campaign.CampaignPlan.{CampaignPlan}
 use Rattle.lin_tool.specs.declared.campaign.Play.{Play}
 use Rattle.lin_tool.specs.declared.fault.Fault.{Fault}
 use Rattle.lin_tool.specs.declared.fault.Fault.TheVariants.{BadBenchLine, Denied, LogFull, OutOfMemory, SlotLimit, Unmet, WriteFailed}
@@ -30,7 +30,7 @@ use Rattle.lin_tool.proofs.Plays.{writes-after}
 use Rattle.lin_tool.proofs.CampaignEnds.{text-after}
 
 -- a script whose lines weren't read
-pub campaign-unread : (plan : Plan) (k : Option CodedData) (file named : Option (Bor (List ℕ))) (strict : Bool) (c : Parts) (opening capacity : ℕ) (fault : Fault)
+pub campaign-unread : (plan : CampaignPlan) (k : Option CodedData) (file named : Option (Bor (List ℕ))) (strict : Bool) (c : Parts) (opening capacity : ℕ) (fault : Fault)
     (told old silent heard : Option (List ℕ)) (bytes text : List ℕ) → text ≡ bytes → IfSome told (λ b. bytes ≡ b) → length bytes ≤ 16777216
     → IsUnread named c k text fault silent heard → WritesCampaign plan k file named strict c opening capacity (Err fault) told old old silent heard
 campaign-unread plan k file named strict c opening capacity (BadBenchLine n outcome) told old silent heard bytes text same known short (why, is, said) =
@@ -48,7 +48,7 @@ pub record IsCampaign (on : Campaign) (k : Option CodedData) (path named : Optio
   pub room : on.capacity ≡ capacity
 
 -- lines that can't be played undisturbed
-pub campaign-unplayable : (plan : Plan) (k : Option CodedData) (file named : Option (Bor (List ℕ))) (on : Campaign) (strict : Bool) (c : Parts) (opening capacity : ℕ) (fault : Fault)
+pub campaign-unplayable : (plan : CampaignPlan) (k : Option CodedData) (file named : Option (Bor (List ℕ))) (on : Campaign) (strict : Bool) (c : Parts) (opening capacity : ℕ) (fault : Fault)
     (told old silent heard : Option (List ℕ)) (ls : List (ℕ × ScriptLine)) → IsCampaign on k file named strict opening capacity → Says c k told (Ok ls)
     → PlaysUndisturbed on c ls (Err fault) → Keeps silent heard → WritesCampaign plan k file named strict c opening capacity (Err fault) told old old silent heard
 campaign-unplayable plan k file named on strict c opening capacity (SlotLimit n) told old silent heard ls is says h kept =
@@ -69,7 +69,7 @@ never-both true h k = absurd (cc)
 never-both false h k = absurd (cc)
 
 -- the undisturbed play has a judgement that isn't met
-pub campaign-unmet : (plan : Plan) (k : Option CodedData) (file named : Option (Bor (List ℕ))) (on : Campaign) (strict : Bool) (c : Parts) (opening capacity : ℕ) (calm : Play)
+pub campaign-unmet : (plan : CampaignPlan) (k : Option CodedData) (file named : Option (Bor (List ℕ))) (on : Campaign) (strict : Bool) (c : Parts) (opening capacity : ℕ) (calm : Play)
     (result : Result Unit Fault) (told old silent mid heard : Option (List ℕ)) (ls : List (ℕ × ScriptLine)) → IsCampaign on k file named strict opening capacity → Says c k told (Ok ls)
     → IsUndisturbed on c ls calm → Keeps silent mid → some_unmet calm.judgements ≡ true
     → ReportsJudgements result (fails 0 0 calm.judgements) (told_text named strict 0 0 calm.core.cluster calm.core.log calm.judgements) mid heard
@@ -96,7 +96,7 @@ campaign-unmet plan k file named on strict c opening capacity calm (Err fault) t
 pub same-cluster : (on : Campaign) (c : Parts) (ls : List (ℕ × ScriptLine)) (calm : Play) → IsUndisturbed on c ls calm → calm.core.cluster ≡ c
 same-cluster on c ls calm h = ap (λ x. x.cluster) h.is.core ∙ h.comes.cluster
 
-pub begun : (on : Campaign) (plan : Plan) (c : Parts) (ls : List (ℕ × ScriptLine)) (calm : Play) → on.format ≡ plan.format → SaysLines on c ls → some_unmet calm.judgements ≡ false → IsUndisturbed on c ls calm
+pub begun : (on : Campaign) (plan : CampaignPlan) (c : Parts) (ls : List (ℕ × ScriptLine)) (calm : Play) → on.format ≡ plan.format → SaysLines on c ls → some_unmet calm.judgements ≡ false → IsUndisturbed on c ls calm
     → IsBegun on plan calm ls
 begun on plan c ls calm format says met h =
     let same = sym (same-cluster on c ls calm h) in
@@ -127,7 +127,7 @@ ends-after watched denied (Err LogFull) text told old new silent mid heard kept 
 ends-after watched denied (Err fault) text told old new silent mid heard kept h = absurd h
 
 -- rows of the lines of a script
-rows-of-script : (plan : Plan) (k : Option CodedData) (file named : Option (Bor (List ℕ))) (on : Campaign) (strict : Bool) (c : Parts) (opening capacity : ℕ) (result : Result Unit Fault)
+rows-of-script : (plan : CampaignPlan) (k : Option CodedData) (file named : Option (Bor (List ℕ))) (on : Campaign) (strict : Bool) (c : Parts) (opening capacity : ℕ) (result : Result Unit Fault)
     (told old new silent mid heard : Option (List ℕ)) (ls : List (ℕ × ScriptLine)) (it : Says c k told (Ok ls)) (calm : Parts) → calm ≡ c → IsCampaign on k file named strict opening capacity
     → on.bytes.now ≡ it.bytes → Keeps silent mid → WritesPlays (stage_of on calm ls) plan plan.is_watched on.script.now on.file.now on.bytes.now result old new mid heard
     → WritesPlaysOfScript plan k file named strict c opening capacity result told old new silent heard
@@ -158,7 +158,7 @@ rows-of-script plan k file named on strict c opening capacity result told old ne
     bytes h7 in
     (ls, it, (there.0, there.1, ends-after plan.is_watched (denies there.0) result (campaign_output (name_or named (codes "-")) (name_or file []) it.bytes there.0) (counts (name_or named (codes "-")) there.0) old new silent mid heard kept there.2))
 
-written-by : (plan : Plan) (k : Option CodedData) (file named : Option (Bor (List ℕ))) (strict : Bool) (c : Parts) (opening capacity : ℕ) (result : Result Unit Fault)
+written-by : (plan : CampaignPlan) (k : Option CodedData) (file named : Option (Bor (List ℕ))) (strict : Bool) (c : Parts) (opening capacity : ℕ) (result : Result Unit Fault)
     (told old new silent heard : Option (List ℕ)) → WritesPlaysOfScript plan k file named strict c opening capacity result told old new silent heard
     → WritesCampaign plan k file named strict c opening capacity result told old new silent heard
 written-by plan k file named strict c opening capacity (Ok done) told old new silent heard h = h
@@ -168,7 +168,7 @@ written-by plan k file named strict c opening capacity (Err OutOfMemory) told ol
 written-by plan k file named strict c opening capacity (Err LogFull) told old new silent heard h = inr h
 written-by plan k file named strict c opening capacity (Err fault) told old new silent heard (ls, it, (plays, full, ends)) = absurd ends
 
-pub campaign-written : (plan : Plan) (k : Option CodedData) (file named : Option (Bor (List ℕ))) (on : Campaign) (strict : Bool) (c : Parts) (opening capacity : ℕ) (result : Result Unit Fault)
+pub campaign-written : (plan : CampaignPlan) (k : Option CodedData) (file named : Option (Bor (List ℕ))) (on : Campaign) (strict : Bool) (c : Parts) (opening capacity : ℕ) (result : Result Unit Fault)
     (told old new silent mid heard : Option (List ℕ)) (ls : List (ℕ × ScriptLine)) (it : Says c k told (Ok ls)) (calm : Parts) → calm ≡ c → IsCampaign on k file named strict opening capacity
     → on.bytes.now ≡ it.bytes → Keeps silent mid → WritesPlays (stage_of on calm ls) plan plan.is_watched on.script.now on.file.now on.bytes.now result old new mid heard
     → WritesCampaign plan k file named strict c opening capacity result told old new silent heard

@@ -43,7 +43,7 @@ use Rattle.lin_values.specs.declared.codings.PlacedItem.{PlacedItem}
 use Rattle.lin_values.proofs.Powers.{first-digit, rest-below}
 use Rattle.lin_bench.specs.Played.{is_unmet}
 use Rattle.lin_bench.specs.declared.got.Judgement.{Judgement}
-use Rattle.lin_tool.specs.Page.{DataAreInert, alone_line, cluster_lines, data_head, log_head, unmet_line}
+use Rattle.lin_tool.specs.Page.{DataAreInert, alone_line, cluster_lines, data_head, log_head, unmet_data_line}
 use Rattle.lin_tool.specs.PageFields.{page_byte, field, guarded_text, guarded_byte, is_inert, is_unescaped, no_less}
 use Rattle.lin_tool.specs.PageMeanings.{coded_lines, encoding_lines, logical_line, meaning_lines, physical_line, physical_range_line, type_lines}
 use Rattle.lin_tool.specs.Placing.{missed_line}
@@ -270,18 +270,18 @@ log-inert : (log : List LogEntry) → is_inert (text log) ≡ true
 log-inert log = entries-inert [] log
 
 -- ---- all of it
-unmet-inert : (named : Option (Bor (List ℕ))) (c : Parts) (log : List LogEntry) (j : Judgement) → is_inert (unmet_line named c log j) ≡ true
+unmet-inert : (named : Option (Bor (List ℕ))) (c : Parts) (log : List LogEntry) (j : Judgement) → is_inert (unmet_data_line named c log j) ≡ true
 unmet-inert named c log j =
     let ws = codes "unmet" ∷ decimal j.entries ∷ field (missed_line named c log j) ∷ [] in
     where-so (is_unmet j.judged) (line ws) [] (line-inert ws (rw (number-inert j.entries, field-inert (missed_line named c log j)) refl)) refl
 
 pub data-inert : DataAreInert
 data-inert named c k file log judgements =
-    let unmet = flat_map (unmet_line named c log) judgements in
+    let unmet = flat_map (unmet_data_line named c log) judgements in
     let before = data_head c file ++ guarded_text (cluster_lines c) in
     let head = before ++ log_head c k in
     more (head ++ text log) unmet
     (more head (text log)
     (more before (log_head c k) (more (data_head c file) (guarded_text (cluster_lines c)) (head-inert c file) (guarded-inert (cluster_lines c))) (log-head-inert c k))
     (log-inert log))
-    (each (unmet_line named c log) (unmet-inert named c log) judgements)
+    (each (unmet_data_line named c log) (unmet-inert named c log) judgements)

@@ -29,21 +29,21 @@ use Rattle.lin_tool.specs.declared.formats.Format.TheVariants.{Vcd, Html, Junit}
 -- picture and a report also have the judgements of a play, a picture as they are told of a script whose file
 -- has this name, and the log with names, a table, objects, a dump and a picture what signals mean,
 -- where that is told
-abbrev pub log_as : Format → Option (Bor (List ℕ)) → Parts → Option CodedData → ℕ → ℕ
+abbrev pub log_in_format : Format → Option (Bor (List ℕ)) → Parts → Option CodedData → ℕ → ℕ
     → List LogEntry → List Judgement → List ℕ
-log_as Log named c k opening capacity log js = text log
-log_as Named named c k opening capacity log js = named_log c k log
-log_as Csv named c k opening capacity log js = csv c k log
-log_as (Jsonl script) named c k opening capacity log js = objects c k opening capacity script.now log js
-log_as Pcap named c k opening capacity log js = pcap c log
-log_as Vcd named c k opening capacity log js = vcd c k log
-log_as (Html file) named c k opening capacity log js = page named c k file.now log js
-log_as (Junit file) named c k opening capacity log js = junit file.now c log js
+log_in_format Log named c k opening capacity log js = text log
+log_in_format Named named c k opening capacity log js = named_log c k log
+log_in_format Csv named c k opening capacity log js = csv c k log
+log_in_format (Jsonl script) named c k opening capacity log js = objects c k opening capacity script.now log js
+log_in_format Pcap named c k opening capacity log js = pcap c log
+log_in_format Vcd named c k opening capacity log js = vcd c k log
+log_in_format (Html file) named c k opening capacity log js = page named c k file.now log js
+log_in_format (Junit file) named c k opening capacity log js = junit file.now c log js
 
 -- the log of a core as it is to be shown
 abbrev pub shown_log : Shown → CoreData → List ℕ
 shown_log s core =
-    log_as s.format s.script core.cluster (given_coding s.coded) s.table s.capacity core.log s.judgements.now
+    log_in_format s.format s.script core.cluster (given_coding s.coded) s.table s.capacity core.log s.judgements.now
 
 -- a beginning of a text was written
 abbrev pub Begins : Option (List ℕ) → Option (List ℕ) → List ℕ → Type 0

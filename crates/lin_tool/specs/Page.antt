@@ -53,8 +53,8 @@ log_head c k =
 
 -- a judgement after so many entries, where it isn't met, with what is said of it; where the script's
 -- file has a name, as `play --where` says it
-abbrev pub unmet_line : Option (Bor (List ℕ)) → Parts → List LogEntry → Judgement → List ℕ
-unmet_line named c log j =
+abbrev pub unmet_data_line : Option (Bor (List ℕ)) → Parts → List LogEntry → Judgement → List ℕ
+unmet_data_line named c log j =
     if is_unmet j.judged
     then line (codes "unmet" ∷ decimal j.entries ∷ field (missed_line named c log j) ∷ []) else []
 
@@ -101,7 +101,7 @@ abbrev pub page_data : Option (Bor (List ℕ)) → Parts → Option CodedData �
     → List Judgement → List ℕ
 page_data named c k file log judgements =
     data_head c file ++ guarded_text (cluster_lines c) ++ log_head c k ++ text log
-    ++ flat_map (unmet_line named c log) judgements
+    ++ flat_map (unmet_data_line named c log) judgements
 
 -- the page of a log of a cluster, with what its values mean, the name of its LDF, and the judgements
 -- of its play, whose script has this name

@@ -18,7 +18,7 @@ use Rattle.lin_bench.specs.declared.got.Judgement.{Judgement}
 use Rattle.lin_bench.specs.declared.line.ScriptLine.{ScriptLine}
 use Rattle.lin_bench.specs.declared.reason.Reason.{Reason}
 use Rattle.lin_tool.specs.FaultText.{fault_line, given_faults}
-use Rattle.lin_tool.specs.Formats.{Begins, log_as, shown_log}
+use Rattle.lin_tool.specs.Formats.{Begins, log_in_format, shown_log}
 use Rattle.lin_tool.specs.Opening.{room_for}
 use Rattle.lin_tool.specs.Placing.{bad_text, missed_text}
 use Rattle.lin_core.specs.Core.{CoreData}
@@ -71,7 +71,7 @@ coding_if_physical k is_physical = if is_physical then k else None
 abbrev pub run_as : Format → Option CodedData → Bool → Option (Bor (List ℕ)) → Parts → ℕ → ℕ → Run
     → List ℕ
 run_as format k is_physical named c opening capacity run =
-    log_as format named c (coding_if_physical k is_physical) opening capacity (reverse run.bench.past)
+    log_in_format format named c (coding_if_physical k is_physical) opening capacity (reverse run.bench.past)
     (judgements_with_meanings k run.judgements)
 
 -- a text was written, as far as the writer took it

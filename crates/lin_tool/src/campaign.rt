@@ -37,7 +37,7 @@ use crate::campaign::row::{Row, row_of};
 use crate::campaign::rows::Rows;
 use crate::campaign::shown::ShownRow;
 use crate::campaign::singles::{Single, faults_at, only, singles};
-use crate::campaign::summary::Counts;
+use crate::campaign::summary::RowCounts;
 use crate::fault::Fault;
 use crate::notes::Notes;
 use crate::opening::{Opened, Settings, begin, within_limits};
@@ -51,7 +51,7 @@ use lin_log::read_bytes;
 use lin_parts::Cluster;
 use lin_text::{Many, TextBuffer, TextWriter, WriteFailed};
 use lin_values::Coded;
-pub use rows::{Part, RandomSets, parts_are_the_whole};
+pub use rows::{CampaignPart, RandomSets, parts_are_the_whole};
 pub use singles::Kinds;
 use std::alloc::{AllocError, Global};
 use std::fs::{self, Files};
@@ -74,7 +74,7 @@ pub enum RowFormat {
 
 /// The options of a campaign.
 #[derive(Clone, Copy, Debug)]
-pub struct Plan {
+pub struct CampaignPlan {
     /// The kinds of the single faults.
     pub kinds: Kinds,
     /// Whether each two of the single faults are a row, too.
@@ -82,7 +82,7 @@ pub struct Plan {
     /// Random sets of the single faults that are rows, too.
     pub random: Option<RandomSets>,
     /// The rows that are played and written: those of the nearest part that there is.
-    pub part: Part,
+    pub part: CampaignPart,
     pub format: RowFormat,
     /// Whether a row that isn't tolerated is a fault.
     pub denies_broken: bool,
@@ -276,7 +276,7 @@ impl Campaign<'_, '_> {
     fn put_head<W: Write>(
         &self,
         out: &mut TextWriter<'_, W>,
-        table: &Table<'_>,
+        table: &RowSource<'_>,
         shown: &ShownRow<'_>,
     ) -> Result<(), AllocError>
         requires table { IsTable table.now }
@@ -310,7 +310,7 @@ impl Campaign<'_, '_> {
     fn write_head<W: Write>(
         &self,
         buffer: &mut TextBuffer,
-        table: &Table<'_>,
+        table: &RowSource<'_>,
         shown: &ShownRow<'_>,
         writer: &mut W,
     ) -> Result<(), ExportFault>
@@ -409,10 +409,10 @@ impl Campaign<'_, '_> {
     /// `OutOfMemory`, `LogFull` and `WriteFailed`; the rows before it were written.
     fn one_row<W: Write>(
         &self,
-        table: &Table<'_>,
+        table: &RowSource<'_>,
         number: u64,
         cluster: Cluster,
-        counts: &mut Counts,
+        counts: &mut RowCounts,
         buffer: &mut TextBuffer,
         writer: &mut W,
     ) -> Result<Cluster, Fault>
@@ -442,7 +442,7 @@ impl Campaign<'_, '_> {
     }
 
     /// Whether the undisturbed play is written: as row 0 of a part that has it, and on each page.
-    fn shows_calm(&self, table: &Table<'_>) -> bool
+    fn shows_calm(&self, table: &RowSource<'_>) -> bool
         requires table { IsTable table.now }
         ensures { result ≡ shows_calm self.now.format table.now }
     {
@@ -457,7 +457,7 @@ impl Campaign<'_, '_> {
     /// `OutOfMemory` and `WriteFailed`, where what was written is a beginning.
     fn write_first<W: Write>(
         &self,
-        table: &Table<'_>,
+        table: &RowSource<'_>,
         core: &Core,
         buffer: &mut TextBuffer,
         writer: &mut W,
@@ -487,9 +487,9 @@ impl Campaign<'_, '_> {
     /// As of `one_row`.
     fn write_rows<W: Write, E: Write>(
         &self,
-        table: &Table<'_>,
+        table: &RowSource<'_>,
         cluster: Cluster,
-        counts: &mut Counts,
+        counts: &mut RowCounts,
         buffer: &mut TextBuffer,
         writer: &mut W,
         errors: &mut E,
@@ -514,7 +514,11 @@ impl Campaign<'_, '_> {
 
     /// Returns the places of the single faults of the worst row, if there is one. An error means out of
     /// memory.
-    fn worst_places(&self, table: &Table<'_>, counts: &Counts) -> Result<Vec<usize>, AllocError>
+    fn worst_places(
+        &self,
+        table: &RowSource<'_>,
+        counts: &RowCounts,
+    ) -> Result<Vec<usize>, AllocError>
         requires table { IsTable table.now }
         ensures { IfOk result (λ v. v.items ≡ worst_places table.now counts.now.worst) }
     {
@@ -528,7 +532,11 @@ impl Campaign<'_, '_> {
     }
 
     /// Returns the faults of the worst row, if there is one. An error means out of memory.
-    fn worst_faults(&self, table: &Table<'_>, counts: &Counts) -> Result<Vec<SlotFault>, AllocError>
+    fn worst_faults(
+        &self,
+        table: &RowSource<'_>,
+        counts: &RowCounts,
+    ) -> Result<Vec<SlotFault>, AllocError>
         requires table { IsTable table.now }
         ensures { IfOk result (λ v. AreWorstFaults table.now counts.now v.items) }
     {
@@ -542,9 +550,9 @@ impl Campaign<'_, '_> {
     /// `OutOfMemory`, where nothing was written.
     fn write_counts<E: Write>(
         &self,
-        table: &Table<'_>,
+        table: &RowSource<'_>,
         cluster: &Cluster,
-        counts: &Counts,
+        counts: &RowCounts,
         buffer: &mut TextBuffer,
         errors: &mut E,
     ) -> Result<(), AllocError>
@@ -563,10 +571,10 @@ impl Campaign<'_, '_> {
 
 /// The rows of a campaign, by what they are made of.
 #[derive(Clone, Copy)]
-struct Table<'a> {
+struct RowSource<'a> {
     singles: &'a [Single],
     rows: &'a Rows,
-    part: Part,
+    part: CampaignPart,
     /// The row of the undisturbed play.
     calm: &'a Row,
     /// The judgements of the undisturbed play.
@@ -574,7 +582,7 @@ struct Table<'a> {
     is_watched: bool,
 }
 
-impl Table<'_> {
+impl RowSource<'_> {
     /// How many rows of the part have faults, or can have some: all but row 0.
     fn cases(&self) -> u64
         requires table { IsTable self.now }
@@ -619,7 +627,7 @@ fn write_progress<E: Write>(done: u64, rows: u64, errors: &mut E)
 }
 
 /// Whether a plan denies what the rows came to: some row isn't tolerated, or some line is never broken.
-fn denies(plan: &Plan, some_broken: bool, some_never: bool) -> bool
+fn denies(plan: &CampaignPlan, some_broken: bool, some_never: bool) -> bool
     ensures { result
         ≡ (plan.now.denies_broken && some_broken || plan.now.denies_never && some_never) }
 {
@@ -627,7 +635,7 @@ fn denies(plan: &Plan, some_broken: bool, some_never: bool) -> bool
 }
 
 /// Whether the counts of a campaign are a fault.
-fn is_denied(plan: &Plan, counts: &Counts, judgements: &[Judgement]) -> bool
+fn is_denied(plan: &CampaignPlan, counts: &RowCounts, judgements: &[Judgement]) -> bool
     ensures { IsDenial plan.now counts.now judgements.now result }
 {
     let some_broken = counts.some_not_tolerated();
@@ -641,8 +649,8 @@ fn is_denied(plan: &Plan, counts: &Counts, judgements: &[Judgement]) -> bool
 /// `OutOfMemory`, `LogFull` and `WriteFailed`, where the rows before one were written; `Denied`.
 fn write_table<W: Write, E: Write>(
     campaign: &Campaign<'_, '_>,
-    plan: &Plan,
-    table: &Table<'_>,
+    plan: &CampaignPlan,
+    table: &RowSource<'_>,
     core: Core,
     writer: &mut W,
     errors: &mut E,
@@ -654,7 +662,7 @@ fn write_table<W: Write, E: Write>(
         (E.contents errors.old) (E.contents errors.new) }
 {
     let mut buffer = TextBuffer::empty();
-    let mut counts = Counts::new(campaign.alloc, table.judgements)?;
+    let mut counts = RowCounts::new(campaign.alloc, table.judgements)?;
     campaign.write_first(table, &core, &mut buffer, writer)?;
     let cluster = core.into_cluster();
     let cluster = campaign.write_rows(table, cluster, &mut counts, &mut buffer, writer, errors)?;
@@ -673,7 +681,7 @@ fn write_table<W: Write, E: Write>(
 /// As of `write_table`.
 fn write_campaign<W: Write, E: Write>(
     campaign: &Campaign<'_, '_>,
-    plan: &Plan,
+    plan: &CampaignPlan,
     calm: Play,
     writer: &mut W,
     errors: &mut E,
@@ -695,7 +703,7 @@ fn write_campaign<W: Write, E: Write>(
         pairs: plan.pairs,
         random: plan.random,
     };
-    let table = Table {
+    let table = RowSource {
         singles: singles.as_slice(),
         rows: &rows,
         part: plan.part,
@@ -730,7 +738,7 @@ fn name_or<'x>(name: Option<&'x str>, other: &'x str) -> &'x str
 pub fn campaign_script<R: Read, W: Write, E: Write>(
     alloc: Global,
     opened: Opened<'_>,
-    plan: &Plan,
+    plan: &CampaignPlan,
     reader: &mut R,
     writer: &mut W,
     errors: &mut E,
@@ -790,12 +798,12 @@ pub fn campaign_script<R: Read, W: Write, E: Write>(
 pub fn run_campaign<R: AllocGlobal + Files + Input + Print, E: Write>(
     rt: &R,
     settings: &Settings<'_>,
-    plan: &Plan,
+    plan: &CampaignPlan,
     script: Option<&str>,
     errors: &mut E,
     notes: &mut Notes<'_>,
 ) -> Result<(), Fault> {
-    let plan = &Plan {
+    let plan = &CampaignPlan {
         part: plan.part.within_limits(),
         ..*plan
     };

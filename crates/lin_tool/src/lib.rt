@@ -49,7 +49,8 @@ mod tally;
 mod wanted;
 
 pub use campaign::{
-    Kinds, Part, Plan, RandomSets, RowFormat, campaign_script, parts_are_the_whole, run_campaign,
+    CampaignPart, CampaignPlan, Kinds, RandomSets, RowFormat, campaign_script, parts_are_the_whole,
+    run_campaign,
 };
 pub use checking::{check, check_plain};
 pub use coding::{Described, Encodings, Extras};

@@ -5,8 +5,8 @@ ghost use Rattle.lin_tool.specs.campaign.Rows.{IsPart};
 use crate::clusters::{cluster_of, expect_bytes};
 use crate::samples::BUILT_IN;
 use lin_tool::{
-    Fault, Format, Kinds, Notes, Opened, Part, Plan, Reading, RowFormat, Settings, Wanted,
-    campaign_script,
+    CampaignPart, CampaignPlan, Fault, Format, Kinds, Notes, Opened, Reading, RowFormat, Settings,
+    Wanted, campaign_script,
 };
 use std::alloc::Global;
 use std::process::Abort;
@@ -22,7 +22,10 @@ const COUNTS: &[u8] =
     b"-:3: 3 of 3: message cem door 3E (always broken)\ncampaign: 3 rows, 0 tolerated, 3 broken, 0 at the slot limit, 0 with faults that missed; worst 0:damage, 1 line\n";
 
 /// What the campaign of the request writes, and its counts.
-fn campaign(alloc: Global, plan: &Plan) -> Result<(Result<(), Fault>, Vec<u8>, Vec<u8>), Fail>
+fn campaign(
+    alloc: Global,
+    plan: &CampaignPlan,
+) -> Result<(Result<(), Fault>, Vec<u8>, Vec<u8>), Fail>
     requires { IsPart plan.now.part }
 {
     let cluster = cluster_of(alloc, BUILT_IN)?;
@@ -62,7 +65,7 @@ fn campaign(alloc: Global, plan: &Plan) -> Result<(Result<(), Fault>, Vec<u8>, V
 
 #[test]
 fn rows_of_a_campaign(rt: HostRuntime) -> Result<(), Fail> {
-    let plan = Plan {
+    let plan = CampaignPlan {
         kinds: Kinds {
             damage: true,
             absent: true,
@@ -70,7 +73,7 @@ fn rows_of_a_campaign(rt: HostRuntime) -> Result<(), Fail> {
         },
         pairs: false,
         random: None,
-        part: Part {
+        part: CampaignPart {
             number: 1,
             count: 1,
         },
@@ -83,7 +86,7 @@ fn rows_of_a_campaign(rt: HostRuntime) -> Result<(), Fail> {
     assert!(rt; done.is_ok());
     expect_bytes(&rt, rows.as_slice(), ROWS, "a request", "rows");
     expect_bytes(&rt, counts.as_slice(), COUNTS, "a request", "counts");
-    let denied = Plan {
+    let denied = CampaignPlan {
         denies_broken: true,
         ..plan
     };

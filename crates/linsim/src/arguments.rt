@@ -2,8 +2,8 @@
 
 use clap::{Arg, ArgAction, ArgMatches, Command, value_parser};
 use lin_tool::{
-    BadKinds, Classes, Encodings, Extras, Format, Kinds, Levels, Lists, Part, Plan, RandomSets,
-    Reading, RowFormat, Settings, Wanted, read_levels,
+    BadKinds, CampaignPart, CampaignPlan, Classes, Encodings, Extras, Format, Kinds, Levels, Lists,
+    RandomSets, Reading, RowFormat, Settings, Wanted, read_levels,
 };
 use std::alloc::{AllocError, Global};
 
@@ -517,7 +517,7 @@ pub(crate) enum Request<'a> {
     /// [--configuration] [--strict]`. `script` is `None` for standard input.
     Campaign {
         settings: Settings<'a>,
-        plan: Plan,
+        plan: CampaignPlan,
         script: Option<&'a str>,
     },
     /// `linsim check FILE [--field] [--frames] [--map] [--slots] [--physical [--signals]]
@@ -719,9 +719,9 @@ fn random_of(found: &ArgMatches<'_>) -> Option<RandomSets> {
 }
 
 /// Returns the part of the rows: `[--part]`; `None` if it isn't one of at most 1,000,000.
-fn part_of(text: &str) -> Option<Part> {
+fn part_of(text: &str) -> Option<CampaignPart> {
     let (number, count) = text.split_once('/')?;
-    let part = Part {
+    let part = CampaignPart {
         number: number.parse::<u32>().ok()?,
         count: count.parse::<u32>().ok()?,
     };
@@ -746,9 +746,9 @@ fn row_format_of(word: Option<&str>) -> RowFormat {
 ///
 /// # Errors
 /// `Part`.
-fn plan_of<'a>(found: &ArgMatches<'a>) -> Result<Plan, Invalid<'a>> {
+fn plan_of<'a>(found: &ArgMatches<'a>) -> Result<CampaignPlan, Invalid<'a>> {
     let part = found.get_str("part").unwrap_or("1/1");
-    Ok(Plan {
+    Ok(CampaignPlan {
         kinds: kinds_of(found),
         pairs: found.get_flag("pairs"),
         random: random_of(found),

@@ -6,7 +6,7 @@ mod arguments;
 
 use crate::arguments::{Asked, Invalid, Request, read_words};
 use clap::error::ErrorKind;
-use lin_tool::{BadKinds, Fault, KindsFault, Notes, Plan, write_fault};
+use lin_tool::{BadKinds, CampaignPlan, Fault, KindsFault, Notes, write_fault};
 use std::env::Env;
 use std::fs::Files;
 use std::io::{self, IsTerminal, Write};
@@ -51,7 +51,7 @@ fn perform<
             plan,
             script,
         } => {
-            let plan = Plan {
+            let plan = CampaignPlan {
                 is_watched: terminals.are_rows_watched(),
                 ..plan
             };

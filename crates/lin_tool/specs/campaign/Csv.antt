@@ -9,8 +9,8 @@ use Rattle.lin_tool.specs.campaign.FaultNames.{faults_text}
 use Rattle.lin_tool.specs.campaign.Shown.{RowData, with_separators}
 use Rattle.lin_tool.specs.campaign.Text.{frame_of_single, loss_text, refusal_text}
 use Rattle.lin_tool.specs.declared.campaign.row.Row.{Row}
-use Rattle.lin_tool.specs.declared.campaign.row.Verdict.{Verdict}
-use Rattle.lin_tool.specs.declared.campaign.row.Verdict.TheVariants.{Tolerated, Broken, Limit}
+use Rattle.lin_tool.specs.declared.campaign.row.RowVerdict.{RowVerdict}
+use Rattle.lin_tool.specs.declared.campaign.row.RowVerdict.TheVariants.{Tolerated, Broken, Limit}
 use Rattle.lin_tool.specs.declared.campaign.singles.Single.{Single}
 
 -- items of one cell
@@ -35,7 +35,7 @@ outcome_cells c word r =
     ∷ decimal r.waiting
     ∷ []
 
-abbrev pub verdict_cells : Parts → Row → Verdict → List (List ℕ)
+abbrev pub verdict_cells : Parts → Row → RowVerdict → List (List ℕ)
 verdict_cells c r Tolerated = outcome_cells c (codes "tolerated") r
 verdict_cells c r Broken = outcome_cells c (codes "broken") r
 verdict_cells c r (Limit n) = codes "limit" ∷ decimal n ∷ [] ∷ [] ∷ [] ∷ [] ∷ [] ∷ []

@@ -24,8 +24,8 @@ use Rattle.lin_tool.specs.campaign.Text.{frame_of_single}
 use Rattle.lin_tool.specs.declared.campaign.row.LostMessage.{LostMessage}
 use Rattle.lin_tool.specs.declared.campaign.row.RefusedStep.{RefusedStep}
 use Rattle.lin_tool.specs.declared.campaign.row.Row.{Row}
-use Rattle.lin_tool.specs.declared.campaign.row.Verdict.{Verdict}
-use Rattle.lin_tool.specs.declared.campaign.row.Verdict.TheVariants.{Tolerated, Broken, Limit}
+use Rattle.lin_tool.specs.declared.campaign.row.RowVerdict.{RowVerdict}
+use Rattle.lin_tool.specs.declared.campaign.row.RowVerdict.TheVariants.{Tolerated, Broken, Limit}
 use Rattle.lin_tool.specs.declared.campaign.singles.Single.{Single}
 
 -- ---- members
@@ -133,7 +133,7 @@ outcome_members c verdict p =
     ∷ member (codes "unmet") (json_array (failure_objects c p.judgements))
     ∷ ended_members c p
 
-abbrev pub verdict_members : Parts → RowData → Verdict → List (List ℕ)
+abbrev pub verdict_members : Parts → RowData → RowVerdict → List (List ℕ)
 verdict_members c p Tolerated = outcome_members c (codes "tolerated") p
 verdict_members c p Broken = outcome_members c (codes "broken") p
 verdict_members c p (Limit n) =

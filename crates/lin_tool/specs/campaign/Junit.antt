@@ -9,8 +9,8 @@ use Rattle.lin_tool.specs.Junit.{xml_text}
 use Rattle.lin_tool.specs.Placing.{placed_missed}
 use Rattle.lin_tool.specs.campaign.Shown.{RowData, with_separators}
 use Rattle.lin_tool.specs.campaign.Text.{row_name}
-use Rattle.lin_tool.specs.declared.campaign.row.Verdict.{Verdict}
-use Rattle.lin_tool.specs.declared.campaign.row.Verdict.TheVariants.{Tolerated, Broken, Limit}
+use Rattle.lin_tool.specs.declared.campaign.row.RowVerdict.{RowVerdict}
+use Rattle.lin_tool.specs.declared.campaign.row.RowVerdict.TheVariants.{Tolerated, Broken, Limit}
 
 -- what stands before so many cases
 abbrev pub report_head : List ℕ → ℕ → List ℕ
@@ -39,7 +39,7 @@ broken_failure script c p =
     failure (decimal (length p.row.lines) ++ codes " unmet")
     (failure_lines script c p.log p.judgements)
 
-abbrev pub case_end : List ℕ → Parts → RowData → Verdict → List ℕ
+abbrev pub case_end : List ℕ → Parts → RowData → RowVerdict → List ℕ
 case_end script c p Tolerated = codes "/>\n"
 case_end script c p Broken = broken_failure script c p
 case_end script c p (Limit n) =

@@ -13,7 +13,7 @@ use Rattle.lin_parts.specs.declared.parts.Parts.{Parts}
 use Rattle.lin_tool.specs.PageFields.{field, guarded_text, is_inert}
 use Rattle.lin_tool.specs.campaign.Jsonl.{head_object, row_object}
 use Rattle.lin_tool.specs.campaign.Shown.{RowData}
-use Rattle.lin_tool.specs.campaign.Slots.{finished_slots, frame_shown, name_in}
+use Rattle.lin_tool.specs.campaign.Slots.{finished_slots, frame_shown, frame_or_entry_name}
 
 -- the lines of a script, without an empty last one
 abbrev pub without_empty_last : List (List ℕ) → List (List ℕ)
@@ -36,7 +36,7 @@ page_slot c s =
     ++ (codes " "
     ++ (decimal s.entry
     ++ (codes " "
-    ++ (guarded_text (name_in c s.table s.entry (frame_shown c s))
+    ++ (guarded_text (frame_or_entry_name c s.table s.entry (frame_shown c s))
     ++ (codes " " ++ (look_word (look_of (seen_of s)) ++ 10 ∷ [])))))))
 
 -- the line of the slot that an entry after a history finishes, if it does

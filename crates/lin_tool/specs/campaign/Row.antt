@@ -19,8 +19,8 @@ use Rattle.lin_tool.specs.Tally.{waiting_in}
 use Rattle.lin_tool.specs.declared.campaign.row.LostMessage.{LostMessage}
 use Rattle.lin_tool.specs.declared.campaign.row.RefusedStep.{RefusedStep}
 use Rattle.lin_tool.specs.declared.campaign.row.Row.{Row}
-use Rattle.lin_tool.specs.declared.campaign.row.Verdict.{Verdict}
-use Rattle.lin_tool.specs.declared.campaign.row.Verdict.TheVariants.{Tolerated, Broken, Limit}
+use Rattle.lin_tool.specs.declared.campaign.row.RowVerdict.{RowVerdict}
+use Rattle.lin_tool.specs.declared.campaign.row.RowVerdict.TheVariants.{Tolerated, Broken, Limit}
 
 -- ---- the lines with a judgement that isn't met
 -- whether the line before is this one
@@ -43,8 +43,8 @@ abbrev pub loss_in : Event → Option LostMessage
 loss_in (Lost host number cause) = Some (record { host = host; number = number; cause = cause })
 loss_in event = None
 
-abbrev pub losses : List LogEntry → List LostMessage
-losses log = flat_map (λ e. filter_map loss_in (events e)) log
+abbrev pub lost_messages : List LogEntry → List LostMessage
+lost_messages log = flat_map (λ e. filter_map loss_in (events e)) log
 
 abbrev pub is_same_loss : LostMessage → LostMessage → Bool
 is_same_loss a b =
@@ -83,7 +83,7 @@ abbrev pub refused_steps : List LogEntry → List LineEnd → List RefusedStep
 refused_steps log ends = refused_from log 0 ends
 
 -- ---- the row
-abbrev pub verdict_of : Option ℕ → List ℕ → Verdict
+abbrev pub verdict_of : Option ℕ → List ℕ → RowVerdict
 verdict_of (Some n) lines = Limit n
 verdict_of None [] = Tolerated
 verdict_of None (n ∷ ns) = Broken
@@ -93,7 +93,7 @@ row_of p = record {
   verdict = verdict_of p.limit (unmet_lines p.judgements);
   missed = p.missed;
   lines = unmet_lines p.judgements;
-  lost = losses p.core.log;
+  lost = lost_messages p.core.log;
   refused = refused_steps p.core.log p.ends;
   slots = events_so is_seen p.core.log;
   time_us = time p.core.cluster (reverse p.core.log);

@@ -4,7 +4,7 @@ use Rattle.std.specs.Prelude.{◌≡◌, ◌≤◌, ℕ, ◌+◌, ◌-◌, ◌*�
 use Rattle.std.specs.Prelude.{List, [], ◌∷◌, ◌++◌, drop, filter, flat_map, length, map, take}
 use Rattle.std.specs.Prelude.{slice_index_or, Option, Some, None}
 use Rattle.lin_frame.specs.Words.{numbers}
-use Rattle.lin_tool.specs.declared.campaign.rows.Part.{Part}
+use Rattle.lin_tool.specs.declared.campaign.rows.CampaignPart.{CampaignPart}
 use Rattle.lin_tool.specs.declared.campaign.rows.RandomSets.{RandomSets}
 use Rattle.lin_tool.specs.declared.campaign.rows.Rows.{Rows}
 
@@ -63,7 +63,7 @@ abbrev pub places_of : Rows → ℕ → List ℕ
 places_of t row = slice_index_or (rows t) row []
 
 -- a part is one of those that there are
-abbrev pub IsPart : Part → Type 0
+abbrev pub IsPart : CampaignPart → Type 0
 IsPart p = (1 ≤ p.number) × (p.number ≤ p.count)
 
 -- where part k of n ends, and part k + 1 begins
@@ -71,7 +71,7 @@ abbrev pub bound : ℕ → ℕ → ℕ → ℕ
 bound count k n = count * k / n
 
 -- a part of a list of rows
-abbrev pub part_of : Part → List (List ℕ) → List (List ℕ)
+abbrev pub part_of : CampaignPart → List (List ℕ) → List (List ℕ)
 part_of p xs =
     let from = bound (length xs) (p.number - 1) p.count
     in take (bound (length xs) p.number p.count - from) (drop from xs)

@@ -32,8 +32,8 @@ abbrev pub frame_shown : Parts → Slot → Option ℕ
 frame_shown c s = slot_frame c (line_of c s.table s.entry).entry s
 
 -- the name of a slot's frame, and failing that of what its entry is for
-abbrev pub name_in : Parts → ℕ → ℕ → Option ℕ → List ℕ
-name_in c table entry frame =
+abbrev pub frame_or_entry_name : Parts → ℕ → ℕ → Option ℕ → List ℕ
+frame_or_entry_name c table entry frame =
     option_map_or (frame_name c) frame (entry_name c (line_of c table entry).entry)
 
 -- ---- a reader of a log

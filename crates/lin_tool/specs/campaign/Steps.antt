@@ -19,16 +19,16 @@ use Rattle.lin_tool.specs.Playing.{WritesTextOrPart}
 use Rattle.lin_tool.specs.campaign.Rows.{IsPart, bound, places_of, rows}
 use Rattle.lin_tool.specs.campaign.Shown.{RowData, row_data}
 use Rattle.lin_tool.specs.campaign.Singles.{faults_at, singles}
-use Rattle.lin_tool.specs.campaign.Summary.{AreCountsOf, CountsData, NumberedRow, is_denied, lines_text, numbers_text}
+use Rattle.lin_tool.specs.campaign.Summary.{AreCountsOf, RowCountsData, NumberedRow, is_denied, lines_text, numbers_text}
 use Rattle.lin_tool.specs.campaign.Summary.{rows_of, worst_faults}
 use Rattle.lin_tool.specs.campaign.Text.{known_losses, known_refusals}
 use Rattle.lin_tool.specs.campaign.Written.{IsRowOf, Stage, WritesPlays, text_before_rows, numbered_row, object_of, row_as}
 use Rattle.lin_tool.specs.declared.campaign.Campaign.{Campaign}
-use Rattle.lin_tool.specs.declared.campaign.Plan.{Plan}
+use Rattle.lin_tool.specs.declared.campaign.CampaignPlan.{CampaignPlan}
 use Rattle.lin_tool.specs.declared.campaign.Play.{Play}
 use Rattle.lin_tool.specs.declared.campaign.RowFormat.{RowFormat}
 use Rattle.lin_tool.specs.declared.campaign.RowFormat.TheVariants.{Text, Csv, Jsonl, Junit, Html}
-use Rattle.lin_tool.specs.declared.campaign.Table.{Table}
+use Rattle.lin_tool.specs.declared.campaign.RowSource.{RowSource}
 use Rattle.lin_tool.specs.declared.campaign.row.Row.{Row}
 use Rattle.lin_tool.specs.declared.campaign.rows.Rows.{Rows}
 use Rattle.lin_tool.specs.declared.campaign.shown.ShownRow.{ShownRow}
@@ -60,14 +60,14 @@ stage_of on c ls = record {
 }
 
 -- ---- the rows of a part
-abbrev pub IsTable : Table → Type 0
+abbrev pub IsTable : RowSource → Type 0
 IsTable t = IsPart t.part × (t.rows.now.singles ≤ 33000000)
 
-abbrev pub first_row : Table → ℕ
+abbrev pub first_row : RowSource → ℕ
 first_row t = bound (length (rows t.rows.now)) (t.part.number - 1) t.part.count
 
 -- the one after the last row
-abbrev pub end_row : Table → ℕ
+abbrev pub end_row : RowSource → ℕ
 end_row t = bound (length (rows t.rows.now)) t.part.number t.part.count
 
 -- row 0 has no faults
@@ -75,7 +75,7 @@ abbrev pub first_disturbed : ℕ → ℕ
 first_disturbed from = max from 1
 
 -- how many rows of the part aren't row 0
-abbrev pub cases_of : Table → ℕ
+abbrev pub cases_of : RowSource → ℕ
 cases_of t = end_row t - first_disturbed (first_row t)
 
 -- the plays of rows from number n on
@@ -84,17 +84,17 @@ AreRowsOf on ss t n [] = Unit {0}
 AreRowsOf on ss t n (p ∷ ps) = IsRowOf on ss n (places_of t n) p × AreRowsOf on ss t (suc n) ps
 
 -- these are rows of a table, with their faults
-abbrev pub IsNamed : Table → NumberedRow → Type 0
+abbrev pub IsNamed : RowSource → NumberedRow → Type 0
 IsNamed t r =
     (r.number < length (rows t.rows.now))
     × (r.faults ≡ faults_at t.singles.now (places_of t.rows.now r.number))
 
-abbrev pub AreNamed : Table → List NumberedRow → Type 0
+abbrev pub AreNamed : RowSource → List NumberedRow → Type 0
 AreNamed t [] = Unit {0}
 AreNamed t (r ∷ rs) = IsNamed t r × AreNamed t rs
 
 -- the places of the single faults of the worst row
-abbrev pub worst_places : Table → Option Worst → List ℕ
+abbrev pub worst_places : RowSource → Option Worst → List ℕ
 worst_places t worst = option_map_or (λ (w : Worst). places_of t.rows.now w.row) worst []
 
 -- ---- what is written of them
@@ -103,11 +103,11 @@ is_page Html = true
 is_page format = false
 
 -- whether the undisturbed play is written: as row 0 of the part, or in a page
-abbrev pub shows_calm : RowFormat → Table → Bool
+abbrev pub shows_calm : RowFormat → RowSource → Bool
 shows_calm format t = (first_row t == 0) && nat_lt 0 (end_row t) || is_page format
 
 -- the undisturbed play, as row 0
-abbrev pub calm_row : Table → CoreData → RowData
+abbrev pub calm_row : RowSource → CoreData → RowData
 calm_row t core = record {
   number = 0;
   faults = [];
@@ -117,19 +117,19 @@ calm_row t core = record {
   judgements = t.judgements.now;
 }
 
-abbrev pub head_of : Campaign → Table → Parts → RowData → List ℕ
+abbrev pub head_of : Campaign → RowSource → Parts → RowData → List ℕ
 head_of on t c calm =
     text_before_rows on.format (t.part.number == 1) on.script.now on.file.now on.bytes.now (cases_of t)
     t.rows.now c calm
 
 -- what stands before the rows with faults
-abbrev pub first_of : Campaign → Table → Parts → RowData → List ℕ
+abbrev pub first_of : Campaign → RowSource → Parts → RowData → List ℕ
 first_of on t c calm =
     head_of on t c calm
     ++ (if shows_calm on.format t then row_as on.format on.script.now c [] [] calm else [])
 
 -- a row with faults
-abbrev pub disturbed_row : Campaign → Table → Parts → RowData → List ℕ
+abbrev pub disturbed_row : Campaign → RowSource → Parts → RowData → List ℕ
 disturbed_row on t c p = row_as on.format on.script.now c t.calm.now.lost t.calm.now.refused p
 
 -- a row; what the undisturbed play, if it is given, lost and refused isn't repeated
@@ -146,26 +146,26 @@ object_with on t shown = object_of on.script.now t shown.core.now.cluster (row_d
 abbrev pub object_if : Bool → Campaign → Rows → ShownRow → List ℕ
 object_if first on t shown = if first then object_with on t shown else []
 
-abbrev pub counts_text : Campaign → Table → Parts → List NumberedRow → List ℕ
+abbrev pub counts_text : Campaign → RowSource → Parts → List NumberedRow → List ℕ
 counts_text on t c rows =
     lines_text on.script.now c t.judgements.now (rows_of rows) ++ numbers_text c rows
 
 -- ---- the counts of rows
 -- these are the faults of the worst row, if the counters count rows of the table
-abbrev pub AreWorstFaults : Table → CountsData → List SlotFault → Type 0
+abbrev pub AreWorstFaults : RowSource → RowCountsData → List SlotFault → Type 0
 AreWorstFaults t counts fs =
     (js : List Judgement) → (rows : List NumberedRow) → AreCountsOf js rows counts → AreNamed t rows
     → worst_faults rows ≡ fs
 
 -- the counts of the rows of a table were written, as far as the writer took them
-abbrev pub WritesCounts : Campaign → Table → Parts → CountsData → Option (List ℕ)
+abbrev pub WritesCounts : Campaign → RowSource → Parts → RowCountsData → Option (List ℕ)
     → Option (List ℕ) → Type 0
 WritesCounts on t c counts silent heard =
     (rows : List NumberedRow) → AreCountsOf t.judgements.now rows counts → AreNamed t rows
     → WritesTextOrPart silent heard (counts_text on t c rows)
 
 -- whether the plan denies what these counters count
-abbrev pub IsDenial : Plan → CountsData → List Judgement → Bool → Type 0
+abbrev pub IsDenial : CampaignPlan → RowCountsData → List Judgement → Bool → Type 0
 IsDenial plan counts judgements answer =
     (js : List Judgement) → (rows : List NumberedRow) → AreCountsOf js rows counts
     → answer ≡ is_denied plan.denies_broken plan.denies_never judgements (rows_of rows)
@@ -173,7 +173,7 @@ IsDenial plan counts judgements answer =
 -- ---- what is answered
 -- why only a beginning was written: the log of some row would have more entries than a log takes, memory
 -- ran out, or the writer failed
-abbrev pub BreaksOff : Campaign → Table → Parts → List (ℕ × ScriptLine) → Fault → Type 0
+abbrev pub BreaksOff : Campaign → RowSource → Parts → List (ℕ × ScriptLine) → Fault → Type 0
 BreaksOff on t c ls LogFull =
     (n : ℕ) × (n < length (rows t.rows.now))
     × OverfillsUnder c on.table on.capacity (faults_at t.singles.now (places_of t.rows.now n)) ls
@@ -182,14 +182,14 @@ BreaksOff on t c ls WriteFailed = Unit {0}
 BreaksOff on t c ls fault = ⊥
 
 -- counters that count these rows more
-abbrev pub CountsMore : List RowData → CountsData → CountsData → Type 0
+abbrev pub CountsMore : List RowData → RowCountsData → RowCountsData → Type 0
 CountsMore ps old new =
-    (js : List Judgement) → (text_before_rows : List NumberedRow) → AreCountsOf js text_before_rows old
-    → AreCountsOf js (text_before_rows ++ map numbered_row ps) new
+    (js : List Judgement) → (counted : List NumberedRow) → AreCountsOf js counted old
+    → AreCountsOf js (counted ++ map numbered_row ps) new
 
 -- row n was played, written and counted, or a beginning of it was written
-abbrev pub WritesRow : Campaign → Table → Parts → List (ℕ × ScriptLine) → ℕ → Result Parts Fault
-    → CountsData → CountsData → Option (List ℕ) → Option (List ℕ) → Type 0
+abbrev pub WritesRow : Campaign → RowSource → Parts → List (ℕ × ScriptLine) → ℕ → Result Parts Fault
+    → RowCountsData → RowCountsData → Option (List ℕ) → Option (List ℕ) → Type 0
 WritesRow on t c ls n (Ok handed) counts more old new =
     (p : RowData) × IsRowOf (stage_of on c ls) t.singles.now n (places_of t.rows.now n) p
     × Appends old new (disturbed_row on t c p) × CountsMore (p ∷ []) counts more
@@ -198,8 +198,8 @@ WritesRow on t c ls n (Err fault) counts more old new =
     × Begins old new (disturbed_row on t c p) × BreaksOff on t c ls fault
 
 -- likewise all rows of the part but row 0
-abbrev pub WritesRows : Campaign → Table → Parts → List (ℕ × ScriptLine) → Result Parts Fault
-    → CountsData → CountsData → Option (List ℕ) → Option (List ℕ) → Type 0
+abbrev pub WritesRows : Campaign → RowSource → Parts → List (ℕ × ScriptLine) → Result Parts Fault
+    → RowCountsData → RowCountsData → Option (List ℕ) → Option (List ℕ) → Type 0
 WritesRows on t c ls (Ok handed) counts more old new =
     (ps : List RowData) × AreRowsOf (stage_of on c ls) t.singles.now t.rows.now (first_disturbed (first_row t)) ps
     × (length ps ≡ cases_of t) × Appends old new (flat_map (disturbed_row on t c) ps)
@@ -210,12 +210,12 @@ WritesRows on t c ls (Err fault) counts more old new =
     × BreaksOff on t c ls fault
 
 -- the same, whatever lines the script says
-abbrev pub PlaysAndWritesRow : Campaign → Table → Parts → ℕ → Result Parts Fault → CountsData → CountsData
+abbrev pub PlaysAndWritesRow : Campaign → RowSource → Parts → ℕ → Result Parts Fault → RowCountsData → RowCountsData
     → Option (List ℕ) → Option (List ℕ) → Type 0
 PlaysAndWritesRow on t c n result counts more old new =
     (ls : List (ℕ × ScriptLine)) → SaysLines on c ls → WritesRow on t c ls n result counts more old new
 
-abbrev pub PlaysAndWritesRows : Campaign → Table → Parts → Result Parts Fault → CountsData → CountsData
+abbrev pub PlaysAndWritesRows : Campaign → RowSource → Parts → Result Parts Fault → RowCountsData → RowCountsData
     → Option (List ℕ) → Option (List ℕ) → Type 0
 PlaysAndWritesRows on t c result counts more old new =
     (ls : List (ℕ × ScriptLine)) → SaysLines on c ls → WritesRows on t c ls result counts more old new
@@ -232,14 +232,14 @@ row_of_play p = record {
 }
 
 -- the script's lines were played undisturbed, and each judgement is met
-pub record IsBegun (on : Campaign) (plan : Plan) (calm : Play) (ls : List (ℕ × ScriptLine)) : Type 0 where
+pub record IsBegun (on : Campaign) (plan : CampaignPlan) (calm : Play) (ls : List (ℕ × ScriptLine)) : Type 0 where
   pub says : SaysLines on calm.core.cluster ls
   pub undisturbed : IsRowOf (stage_of on calm.core.cluster ls) [] 0 [] (row_of_play calm)
   pub met : some_unmet calm.judgements ≡ false
   pub format : on.format ≡ plan.format
 
 -- likewise, and the table has what the plan wants of that play
-pub record IsPlanned (on : Campaign) (plan : Plan) (t : Table) (core : CoreData) (ls : List (ℕ × ScriptLine)) : Type 0 where
+pub record IsPlanned (on : Campaign) (plan : CampaignPlan) (t : RowSource) (core : CoreData) (ls : List (ℕ × ScriptLine)) : Type 0 where
   pub says : SaysLines on core.cluster ls
   pub undisturbed : IsRowOf (stage_of on core.cluster ls) [] 0 [] (calm_row t core)
   pub met : some_unmet t.judgements.now ≡ false
@@ -251,7 +251,7 @@ pub record IsPlanned (on : Campaign) (plan : Plan) (t : Table) (core : CoreData)
       ≡ record { singles = length t.singles.now; pairs = plan.pairs; random = plan.random }
 
 -- the plays of the campaign's lines are written, where the undisturbed play and the table are these
-abbrev pub WritesTable : Campaign → Plan → Table → CoreData → Result Unit Fault → Option (List ℕ)
+abbrev pub WritesTable : Campaign → CampaignPlan → RowSource → CoreData → Result Unit Fault → Option (List ℕ)
     → Option (List ℕ) → Option (List ℕ) → Option (List ℕ) → Type 0
 WritesTable on plan t core result old new silent heard =
     (ls : List (ℕ × ScriptLine)) → IsPlanned on plan t core ls
@@ -259,7 +259,7 @@ WritesTable on plan t core result old new silent heard =
     result old new silent heard
 
 -- likewise, where the undisturbed play is this
-abbrev pub WritesAfter : Campaign → Plan → Play → Result Unit Fault → Option (List ℕ)
+abbrev pub WritesAfter : Campaign → CampaignPlan → Play → Result Unit Fault → Option (List ℕ)
     → Option (List ℕ) → Option (List ℕ) → Option (List ℕ) → Type 0
 WritesAfter on plan calm result old new silent heard =
     (ls : List (ℕ × ScriptLine)) → IsBegun on plan calm ls

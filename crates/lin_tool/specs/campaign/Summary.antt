@@ -17,19 +17,19 @@ use Rattle.lin_tool.specs.campaign.FaultNames.{faults_text}
 use Rattle.lin_tool.specs.declared.campaign.summary.LineCount.{LineCount}
 use Rattle.lin_tool.specs.declared.campaign.summary.Worst.{Worst}
 use Rattle.lin_tool.specs.declared.campaign.row.Row.{Row}
-use Rattle.lin_tool.specs.declared.campaign.row.Verdict.{Verdict}
-use Rattle.lin_tool.specs.declared.campaign.row.Verdict.TheVariants.{Tolerated, Broken, Limit}
+use Rattle.lin_tool.specs.declared.campaign.row.RowVerdict.{RowVerdict}
+use Rattle.lin_tool.specs.declared.campaign.row.RowVerdict.TheVariants.{Tolerated, Broken, Limit}
 
 -- ---- verdicts
-abbrev pub is_tolerated : Verdict → Bool
+abbrev pub is_tolerated : RowVerdict → Bool
 is_tolerated Tolerated = true
 is_tolerated verdict = false
 
-abbrev pub is_broken : Verdict → Bool
+abbrev pub is_broken : RowVerdict → Bool
 is_broken Broken = true
 is_broken verdict = false
 
-abbrev pub is_limited : Verdict → Bool
+abbrev pub is_limited : RowVerdict → Bool
 is_limited (Limit n) = true
 is_limited verdict = false
 
@@ -44,8 +44,8 @@ breaks n r = is_in (broken_lines r) n
 abbrev pub has_judgement : List Judgement → ℕ → Bool
 has_judgement js n = list_any (λ (j : Judgement). j.line == n) js
 
-abbrev pub lines_of : List Judgement → List ℕ
-lines_of js = map (λ (j : Judgement). j.line) js
+abbrev pub judged_lines : List Judgement → List ℕ
+judged_lines js = map (λ (j : Judgement). j.line) js
 
 -- a number that is above these
 abbrev pub bound_of : List ℕ → ℕ
@@ -56,10 +56,10 @@ bound_of ns = fold (λ m n. max m (n + 1)) 0 ns
 abbrev pub is_counted : List Judgement → List Row → ℕ → Bool
 is_counted js rows n = has_judgement js n || list_any (breaks n) rows
 
-abbrev pub lines : List Judgement → List Row → List ℕ
-lines js rows =
+abbrev pub counted_lines : List Judgement → List Row → List ℕ
+counted_lines js rows =
     filter (is_counted js rows)
-    (numbers (bound_of (lines_of js ++ flat_map broken_lines rows)))
+    (numbers (bound_of (judged_lines js ++ flat_map broken_lines rows)))
 
 -- what line n expects in the undisturbed play
 abbrev pub expectation : Parts → List Judgement → ℕ → List ℕ
@@ -67,12 +67,12 @@ expectation c js n =
     option_map_or (λ (j : Judgement). codes ":" ++ spaced_word (what_text c j.judged))
     (find (λ (j : Judgement). j.line == n) js) []
 
-abbrev pub mark : ℕ → ℕ → List ℕ
-mark zero all = codes " (never broken)"
-mark (suc n) all = if suc n == all then codes " (always broken)" else []
+abbrev pub broken_mark : ℕ → ℕ → List ℕ
+broken_mark zero all = codes " (never broken)"
+broken_mark (suc n) all = if suc n == all then codes " (always broken)" else []
 
-abbrev pub line_text : List ℕ → Parts → List Judgement → List Row → ℕ → List ℕ
-line_text script c js rows n =
+abbrev pub line_count_text : List ℕ → Parts → List Judgement → List Row → ℕ → List ℕ
+line_count_text script c js rows n =
     let count = count_by (breaks n) rows
     in script
     ++ (codes ":"
@@ -81,15 +81,15 @@ line_text script c js rows n =
     ++ (decimal count
     ++ (codes " of "
     ++ (decimal (length rows)
-    ++ (expectation c js n ++ (mark count (length rows) ++ 10 ∷ []))))))))
+    ++ (expectation c js n ++ (broken_mark count (length rows) ++ 10 ∷ []))))))))
 
 -- nothing for a line that isn't counted
 abbrev pub line_if_counted : List ℕ → Parts → List Judgement → List Row → ℕ → List ℕ
 line_if_counted script c js rows n =
-    if is_counted js rows n then line_text script c js rows n else []
+    if is_counted js rows n then line_count_text script c js rows n else []
 
 abbrev pub lines_text : List ℕ → Parts → List Judgement → List Row → List ℕ
-lines_text script c js rows = flat_map (line_text script c js rows) (lines js rows)
+lines_text script c js rows = flat_map (line_count_text script c js rows) (counted_lines js rows)
 
 -- ---- the last line
 -- a row with its number and its faults
@@ -117,14 +117,14 @@ worst_after w (r ∷ rs) = worst_after (worse w r) rs
 abbrev pub worst_faults : List NumberedRow → List SlotFault
 worst_faults rows = option_map_or (λ (w : NumberedRow). w.faults) (worst_after None rows) []
 
-abbrev pub line_word : ℕ → List ℕ
-line_word count = if count == 1 then codes " line" else codes " lines"
+abbrev pub line_or_lines : ℕ → List ℕ
+line_or_lines count = if count == 1 then codes " line" else codes " lines"
 
 abbrev pub worst_lines : Parts → List SlotFault → ℕ → List ℕ
 worst_lines c faults count =
     codes "; worst "
     ++ (faults_text c faults
-    ++ (codes ", " ++ (decimal count ++ line_word count)))
+    ++ (codes ", " ++ (decimal count ++ line_or_lines count)))
 
 abbrev pub worst_text : Parts → Option NumberedRow → List ℕ
 worst_text c None = []
@@ -147,7 +147,7 @@ numbers_text c rows =
     ++ (worst_text c (worst_after None rows) ++ 10 ∷ [])))))))))))
 
 -- ---- counters
-pub record CountsData : Type 0 where
+pub record RowCountsData : Type 0 where
   pub lines : List LineCount
   pub rows : ℕ
   pub tolerated : ℕ
@@ -175,7 +175,7 @@ abbrev pub worst_of : NumberedRow → Worst
 worst_of w = record { row = w.number; lines = lines_broken w.row }
 
 -- the counts of these rows
-pub record AreCountsOf (js : List Judgement) (rows : List NumberedRow) (c : CountsData) : Type 0 where
+pub record AreCountsOf (js : List Judgement) (rows : List NumberedRow) (c : RowCountsData) : Type 0 where
   pub lines : (n : ℕ) → IsCountOf js (rows_of rows) n (line_at c.lines n)
   pub rows_are : c.rows ≡ length (rows_of rows)
   pub tolerated : c.tolerated ≡ count_by (λ (r : Row). is_tolerated r.verdict) (rows_of rows)
@@ -185,7 +185,7 @@ pub record AreCountsOf (js : List Judgement) (rows : List NumberedRow) (c : Coun
   pub worst : c.worst ≡ option_map worst_of (worst_after None rows)
 
 -- one more row is counted, whatever its faults are
-abbrev pub CountsRow : ℕ → Row → CountsData → CountsData → Type 0
+abbrev pub CountsRow : ℕ → Row → RowCountsData → RowCountsData → Type 0
 CountsRow number row old new =
     (js : List Judgement) → (rows : List NumberedRow) → (faults : List SlotFault)
     → AreCountsOf js rows old
@@ -218,7 +218,7 @@ worse_of worst row count =
 abbrev pub IsLineCount : ℕ → LineCount → Type 0
 IsLineCount rows l = (l.broken ≤ l.last) × (l.last ≤ rows)
 
-pub record AreCounts (c : CountsData) : Type 0 where
+pub record AreCounts (c : RowCountsData) : Type 0 where
   pub tolerated : c.tolerated ≤ c.rows
   pub broken : c.broken ≤ c.rows
   pub limited : c.limited ≤ c.rows

@@ -10,17 +10,17 @@ use Rattle.lin_parts.specs.declared.parts.Parts.{Parts}
 use Rattle.lin_tool.specs.campaign.FaultNames.{faults_text}
 use Rattle.lin_tool.specs.campaign.Row.{is_same_loss, is_same_refusal}
 use Rattle.lin_tool.specs.campaign.Shown.{RowData, with_separators}
-use Rattle.lin_tool.specs.campaign.Slots.{name_in}
+use Rattle.lin_tool.specs.campaign.Slots.{frame_or_entry_name}
 use Rattle.lin_tool.specs.declared.campaign.row.LostMessage.{LostMessage}
 use Rattle.lin_tool.specs.declared.campaign.row.RefusedStep.{RefusedStep}
 use Rattle.lin_tool.specs.declared.campaign.row.Row.{Row}
-use Rattle.lin_tool.specs.declared.campaign.row.Verdict.{Verdict}
-use Rattle.lin_tool.specs.declared.campaign.row.Verdict.TheVariants.{Tolerated, Broken, Limit}
+use Rattle.lin_tool.specs.declared.campaign.row.RowVerdict.{RowVerdict}
+use Rattle.lin_tool.specs.declared.campaign.row.RowVerdict.TheVariants.{Tolerated, Broken, Limit}
 use Rattle.lin_tool.specs.declared.campaign.singles.Single.{Single}
 
 -- ---- what a row is called
 abbrev pub frame_of_single : Parts → Single → List ℕ
-frame_of_single c s = name_in c s.table s.entry s.frame
+frame_of_single c s = frame_or_entry_name c s.table s.entry s.frame
 
 -- the place of a single fault: its table, its entry and its frame
 abbrev pub single_text : Parts → Option Single → List ℕ
@@ -78,7 +78,7 @@ abbrev pub rest_text : Parts → List LostMessage → List RefusedStep → Row �
 rest_text c lost refused r =
     missed_text r.missed ++ (losses_text c lost r.lost ++ refusals_text refused r.refused)
 
-abbrev pub outcome_text : Parts → List LostMessage → List RefusedStep → Row → Verdict → List ℕ
+abbrev pub outcome_text : Parts → List LostMessage → List RefusedStep → Row → RowVerdict → List ℕ
 outcome_text c lost refused r Tolerated = codes "tolerated" ++ rest_text c lost refused r
 outcome_text c lost refused r Broken = failed_lines r.lines ++ rest_text c lost refused r
 outcome_text c lost refused r (Limit n) = codes "slot limit in line " ++ decimal n

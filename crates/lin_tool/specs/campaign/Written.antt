@@ -35,7 +35,7 @@ use Rattle.lin_tool.specs.declared.campaign.pieces.TheConstants.{HEAD as PAGE, T
 use Rattle.lin_tool.specs.declared.fault.Fault.{Fault}
 use Rattle.lin_tool.specs.declared.fault.Fault.TheVariants.{BadBenchLine, Denied, LogFull, OutOfMemory}
 use Rattle.lin_tool.specs.declared.fault.Fault.TheVariants.{ReadFailed, ScriptTooLong, SlotLimit, Unmet, WriteFailed}
-use Rattle.lin_tool.specs.declared.campaign.Plan.{Plan}
+use Rattle.lin_tool.specs.declared.campaign.CampaignPlan.{CampaignPlan}
 use Rattle.lin_tool.specs.declared.campaign.RowFormat.{RowFormat}
 use Rattle.lin_tool.specs.declared.campaign.RowFormat.TheVariants.{Text, Csv, Jsonl, Junit, Html}
 use Rattle.lin_tool.specs.declared.campaign.row.LostMessage.{LostMessage}
@@ -116,7 +116,7 @@ text_after_rows format = []
 -- ---- the whole
 -- the plays of a campaign: the undisturbed one, of which each judgement is met, and those of the rows of
 -- a part
-pub record Plays (on : Stage) (plan : Plan) : Type 0 where
+pub record Plays (on : Stage) (plan : CampaignPlan) : Type 0 where
   pub calm : RowData
   pub undisturbed : IsRowOf on [] 0 [] calm
   pub met : some_unmet calm.judgements ≡ false
@@ -140,7 +140,7 @@ plays_in_output format calm ps = ps
 abbrev pub rows_with_faults : List RowData → List RowData
 rows_with_faults ps = filter (λ (p : RowData). not (p.number == 0)) ps
 
-abbrev pub campaign_output : {on : Stage} {plan : Plan} → List ℕ → List ℕ → List ℕ → Plays on plan → List ℕ
+abbrev pub campaign_output : {on : Stage} {plan : CampaignPlan} → List ℕ → List ℕ → List ℕ → Plays on plan → List ℕ
 campaign_output {on} {plan} script file bytes it =
     text_before_rows plan.format (plan.part.number == 1) script file bytes (length (rows_with_faults it.played))
     it.table on.cluster it.calm
@@ -157,12 +157,12 @@ numbered_row p = record {
 abbrev pub numbered_rows : List RowData → List NumberedRow
 numbered_rows ps = map numbered_row (rows_with_faults ps)
 
-abbrev pub counts : {on : Stage} {plan : Plan} → List ℕ → Plays on plan → List ℕ
+abbrev pub counts : {on : Stage} {plan : CampaignPlan} → List ℕ → Plays on plan → List ℕ
 counts {on} script it =
     lines_text script on.cluster it.calm.judgements (rows_of (numbered_rows it.played))
     ++ numbers_text on.cluster (numbered_rows it.played)
 
-abbrev pub denies : {on : Stage} {plan : Plan} → Plays on plan → Bool
+abbrev pub denies : {on : Stage} {plan : CampaignPlan} → Plays on plan → Bool
 denies {on} {plan} it =
     is_denied plan.denies_broken plan.denies_never it.calm.judgements
     (rows_of (numbered_rows it.played))
@@ -181,7 +181,7 @@ Ends watched (Err LogFull) denied text told old new silent heard = Begins old ne
 Ends watched (Err fault) denied text told old new silent heard = ⊥
 
 -- the log is full in some row: it would have more entries than a log takes
-abbrev pub SomeRowOverfills : {on : Stage} {plan : Plan} → Plays on plan → Type 0
+abbrev pub SomeRowOverfills : {on : Stage} {plan : CampaignPlan} → Plays on plan → Type 0
 SomeRowOverfills {on} it =
     (n : ℕ) × (n < length (rows it.table))
     × OverfillsUnder on.cluster on.opening on.capacity
@@ -192,7 +192,7 @@ is_full (Err LogFull) = true
 is_full result = false
 
 -- the lines of a script that is read, and what is written of their plays
-abbrev pub WritesPlays : Stage → Plan → Bool → List ℕ → List ℕ → List ℕ → Result Unit Fault
+abbrev pub WritesPlays : Stage → CampaignPlan → Bool → List ℕ → List ℕ → List ℕ → Result Unit Fault
     → Option (List ℕ) → Option (List ℕ) → Option (List ℕ) → Option (List ℕ) → Type 0
 WritesPlays on plan watched script file bytes result old new silent heard =
     (it : Plays on plan) × (is_full result ≡ true → SomeRowOverfills it)
@@ -205,7 +205,7 @@ name_or None other = other
 name_or (Some name) other = name.now
 
 -- a script was read, and this is written of its plays
-abbrev pub WritesPlaysOfScript : Plan → Option CodedData → Option (Bor (List ℕ))
+abbrev pub WritesPlaysOfScript : CampaignPlan → Option CodedData → Option (Bor (List ℕ))
     → Option (Bor (List ℕ)) → Bool → Parts → ℕ → ℕ → Result Unit Fault → Option (List ℕ)
     → Option (List ℕ) → Option (List ℕ) → Option (List ℕ) → Option (List ℕ) → Type 0
 WritesPlaysOfScript plan k file named strict c opening capacity result told old new silent heard =
@@ -223,7 +223,7 @@ WritesPlaysOfScript plan k file named strict c opening capacity result told old 
 -- What a campaign answers, what the writer took (from old to new), and what the writer of errors took
 -- (from silent to heard). If the undisturbed play has a judgement that isn't met, or the script can't be
 -- played, the writer gets nothing.
-abbrev pub WritesCampaign : Plan → Option CodedData → Option (Bor (List ℕ))
+abbrev pub WritesCampaign : CampaignPlan → Option CodedData → Option (Bor (List ℕ))
     → Option (Bor (List ℕ)) → Bool → Parts → ℕ → ℕ → Result Unit Fault → Option (List ℕ)
     → Option (List ℕ) → Option (List ℕ) → Option (List ℕ) → Option (List ℕ) → Type 0
 WritesCampaign plan k file named strict c opening capacity
@@ -271,7 +271,7 @@ WritesCampaign plan k file named strict c opening capacity
 WritesCampaign plan k file named strict c opening capacity (Err _) told old new silent heard = ⊥
 
 -- the same with what was opened
-abbrev pub WritesOpened : Plan → Opened → Option (Bor (List ℕ)) → Result Unit Fault → Option (List ℕ)
+abbrev pub WritesOpened : CampaignPlan → Opened → Option (Bor (List ℕ)) → Result Unit Fault → Option (List ℕ)
     → Option (List ℕ) → Option (List ℕ) → Option (List ℕ) → Option (List ℕ) → Type 0
 WritesOpened plan o named result told old new silent heard =
     WritesCampaign plan o.coded o.settings.file named o.settings.is_strict o.cluster o.table

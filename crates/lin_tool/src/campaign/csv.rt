@@ -10,7 +10,7 @@ ghost use Rattle.lin_tool.specs.campaign.Text.{loss_text, refusal_text};
 ghost use Rattle.lin_tool.specs.declared.campaign.csv.TheConstants.{HEAD};
 
 use crate::campaign::fault_names::put_faults;
-use crate::campaign::row::{LostMessage, RefusedStep, Row, Verdict};
+use crate::campaign::row::{LostMessage, RefusedStep, Row, RowVerdict};
 use crate::campaign::shown::ShownRow;
 use crate::campaign::singles::Single;
 use crate::campaign::slots::{slot_name, table_name};
@@ -113,9 +113,9 @@ fn put_verdict<W: Write>(out: &mut TextWriter<'_, W>, cluster: &Cluster, row: &R
         (flat_map after_comma (verdict_cells cluster.now row.now row.now.verdict)) }
 {
     match row.verdict {
-        Verdict::Tolerated => put_outcome(out, cluster, "tolerated", row),
-        Verdict::Broken => put_outcome(out, cluster, "broken", row),
-        Verdict::Limit(line) => {
+        RowVerdict::Tolerated => put_outcome(out, cluster, "tolerated", row),
+        RowVerdict::Broken => put_outcome(out, cluster, "broken", row),
+        RowVerdict::Limit(line) => {
             out.put_text(",limit");
             out.put_numbered(b',', line);
             out.put_text(",,,,,");

@@ -22,7 +22,7 @@ ghost use Rattle.lin_tool.specs.campaign.Slots.{Follows, kept_slot};
 
 use crate::campaign::fault_names::{put_fault_array, put_node_name};
 use crate::campaign::page::put_object_text;
-use crate::campaign::row::{LostMessage, RefusedStep, Verdict};
+use crate::campaign::row::{LostMessage, RefusedStep, RowVerdict};
 use crate::campaign::shown::ShownRow;
 use crate::campaign::singles::Single;
 use crate::campaign::slots::{KeptSlot, SlotReader, slot_name, table_name};
@@ -356,9 +356,9 @@ fn put_verdict<W: Write>(
         (verdict_part shown.now.core.now.cluster (row_data shown.now)) }
 {
     match shown.row.verdict {
-        Verdict::Tolerated => put_outcome(out, alloc, "tolerated", shown),
-        Verdict::Broken => put_outcome(out, alloc, "broken", shown),
-        Verdict::Limit(line) => {
+        RowVerdict::Tolerated => put_outcome(out, alloc, "tolerated", shown),
+        RowVerdict::Broken => put_outcome(out, alloc, "broken", shown),
+        RowVerdict::Limit(line) => {
             out.put_text(",\"verdict\":\"limit\"");
             put_member(out, Member::Number("limit", line));
             Ok(())

@@ -10,7 +10,7 @@ ghost use Rattle.lin_tool.specs.campaign.Junit.{report_head, row_case};
 ghost use Rattle.lin_tool.specs.campaign.Shown.{row_data};
 ghost use Rattle.lin_tool.specs.campaign.Text.{row_name};
 
-use crate::campaign::row::Verdict;
+use crate::campaign::row::RowVerdict;
 use crate::campaign::shown::ShownRow;
 use crate::campaign::text::put_name;
 use crate::junit::{missed_text, put_escaped};
@@ -122,12 +122,12 @@ fn put_end<W: Write>(
         shown.now.row.now.verdict) }
 {
     match shown.row.verdict {
-        Verdict::Tolerated => {
+        RowVerdict::Tolerated => {
             out.put_text("/>\n");
             Ok(())
         }
-        Verdict::Broken => put_broken(out, alloc, script, shown),
-        Verdict::Limit(line) => {
+        RowVerdict::Broken => put_broken(out, alloc, script, shown),
+        RowVerdict::Limit(line) => {
             put_limit(out, script, line);
             Ok(())
         }

@@ -4,7 +4,7 @@ ghost use Rattle.std.specs.Prelude.{◌≡◌, ◌≤◌, ◌++◌, [], IfOk, On
 ghost use Rattle.std.specs.List.{filter_map, list_any};
 ghost use Rattle.std.specs.Option.{option_to_list};
 ghost use Rattle.lin_core.specs.History.{reply_events};
-ghost use Rattle.lin_tool.specs.campaign.Row.{is_again, is_among, is_same_loss, is_same_refusal, loss_in, losses};
+ghost use Rattle.lin_tool.specs.campaign.Row.{is_again, is_among, is_same_loss, is_same_refusal, loss_in, lost_messages};
 ghost use Rattle.lin_tool.specs.campaign.Row.{new_refusal, refusal_on, refused_after, refused_steps};
 ghost use Rattle.lin_tool.specs.campaign.Row.{row_of, unmet_lines, verdict_of};
 
@@ -17,7 +17,7 @@ use std::alloc::{AllocError, Global};
 
 /// The verdict of a row.
 #[derive(Clone, Copy)]
-pub(crate) enum Verdict {
+pub(crate) enum RowVerdict {
     /// Each expectation is met.
     Tolerated,
     /// An expectation failed.
@@ -44,7 +44,7 @@ pub(crate) struct RefusedStep {
 /// What a play came to. After the limit, only `verdict` and `missed` count.
 #[derive(Drop)]
 pub(crate) struct Row {
-    pub(crate) verdict: Verdict,
+    pub(crate) verdict: RowVerdict,
     /// How many faults changed no step.
     pub(crate) missed: usize,
     /// The lines with a failed expectation, each once, by rising number.
@@ -159,7 +159,7 @@ fn add_lost(lost: &mut Vec<LostMessage>, reply: &Reply) -> Result<(), AllocError
 
 /// Returns the messages that a log lists as lost, in order.
 fn all_lost(alloc: Global, log: &Log) -> Result<Vec<LostMessage>, AllocError>
-    ensures { IfOk result (λ v. v.items ≡ losses log.now.entries) }
+    ensures { IfOk result (λ v. v.items ≡ lost_messages log.now.entries) }
 {
     let mut lost = Vec::new(alloc);
     for index in 0..log.len() {
@@ -232,13 +232,13 @@ fn all_refused(alloc: Global, log: &Log, ends: &[LineEnd]) -> Result<Vec<Refused
     Ok(refused)
 }
 
-fn verdict_of(limit: Option<u64>, lines: &[u64]) -> Verdict
+fn verdict_of(limit: Option<u64>, lines: &[u64]) -> RowVerdict
     ensures { result ≡ verdict_of limit lines.now }
 {
     match (limit, lines) {
-        (Some(line), _) => Verdict::Limit(line),
-        (None, []) => Verdict::Tolerated,
-        (None, _) => Verdict::Broken,
+        (Some(line), _) => RowVerdict::Limit(line),
+        (None, []) => RowVerdict::Tolerated,
+        (None, _) => RowVerdict::Broken,
     }
 }
 

@@ -19,19 +19,19 @@ pub struct RandomSets {
 
 /// The part of the rows that is written: the `number`-th of `count`, from 1.
 #[derive(Clone, Copy, Debug)]
-pub struct Part {
+pub struct CampaignPart {
     pub number: u32,
     pub count: u32,
 }
 
-impl Part {
+impl CampaignPart {
     /// The nearest part that there is.
-    pub(crate) fn within_limits(self) -> Part
+    pub(crate) fn within_limits(self) -> CampaignPart
         ensures part { IsPart result }
         ensures same { IsPart self → result ≡ self }
     {
         let count = self.count.max(1);
-        Part {
+        CampaignPart {
             number: self.number.clamp(1, count),
             count,
         }
@@ -126,7 +126,7 @@ impl Rows {
     }
 
     /// Returns the first row of a part, or the one after its last row.
-    pub(crate) fn bound(&self, parts_before: u32, part: Part) -> u64
+    pub(crate) fn bound(&self, parts_before: u32, part: CampaignPart) -> u64
         requires some { 1 ≤ part.count }
         requires before { parts_before ≤ part.count }
         requires few { self.now.singles ≤ 33000000 }
@@ -140,7 +140,7 @@ impl Rows {
     }
 
     /// Returns the number of the first row of a part, and the number after its last one.
-    pub(crate) fn bounds(&self, part: Part) -> (u64, u64)
+    pub(crate) fn bounds(&self, part: CampaignPart) -> (u64, u64)
         requires part { IsPart part }
         requires few { self.now.singles ≤ 33000000 }
         ensures first { result.0 ≡ bound (length (rows self.now)) (part.number - 1) part.count }

@@ -10,7 +10,7 @@ ghost use Rattle.lin_core.specs.Tables.{look_of};
 ghost use Rattle.lin_core.specs.declared.event.Event.TheVariants.{Put};
 ghost use Rattle.lin_core.specs.declared.log.LogEntry.{LogEntry};
 ghost use Rattle.lin_bench.specs.Faults.{is_intact};
-ghost use Rattle.lin_tool.specs.campaign.Slots.{Follows, frame_shown, kept_slot, name_in};
+ghost use Rattle.lin_tool.specs.campaign.Slots.{Follows, frame_shown, kept_slot, frame_or_entry_name};
 
 use lin_core::{Event, LogEntry, Look, NODES, Reply, Step, frame_under};
 use lin_parts::{Cluster, Entry};
@@ -221,7 +221,7 @@ pub(crate) fn table_name(cluster: &Cluster, table: u16) -> &[u8]
 
 /// Returns the name of a slot's frame, or of what its entry is for.
 pub(crate) fn slot_name(cluster: &Cluster, table: u16, entry: u16, frame: Option<u16>) -> &[u8]
-    ensures { result.now ≡ name_in cluster.now table entry frame }
+    ensures { result.now ≡ frame_or_entry_name cluster.now table entry frame }
 {
     match frame {
         Some(frame) => cluster.frame_name(frame),

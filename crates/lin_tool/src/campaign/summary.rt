@@ -8,14 +8,14 @@ ghost use Rattle.lin_text.specs.Written.{Grows};
 ghost use Rattle.lin_core.specs.History.{is_in};
 ghost use Rattle.lin_bench.specs.declared.got.Judgement.{Judgement};
 ghost use Rattle.lin_tool.specs.campaign.Summary.{AreCountsOf, CountsRow, IsCountOf, IsLineCount, NumberedRow, counted_by};
-ghost use Rattle.lin_tool.specs.campaign.Summary.{broken_lines, expectation, first_at, is_broken, line_if_counted, line_word};
-ghost use Rattle.lin_tool.specs.campaign.Summary.{is_limited, is_tolerated, mark, one_if, place_from, worse_of, worst_lines};
-ghost use Rattle.lin_tool.specs.campaign.Summary.{line_at, line_text, lines_text, numbers_text, rows_of};
+ghost use Rattle.lin_tool.specs.campaign.Summary.{broken_lines, expectation, first_at, is_broken, line_if_counted, line_or_lines};
+ghost use Rattle.lin_tool.specs.campaign.Summary.{is_limited, is_tolerated, broken_mark, one_if, place_from, worse_of, worst_lines};
+ghost use Rattle.lin_tool.specs.campaign.Summary.{line_at, line_count_text, lines_text, numbers_text, rows_of};
 ghost use Rattle.lin_tool.specs.campaign.Summary.{some_never_broken, some_not_tolerated, worst_faults};
 ghost use Rattle.lin_tool.specs.declared.campaign.row.Row.{Row};
 
 use crate::campaign::fault_names::put_faults;
-use crate::campaign::row::{Row, Verdict};
+use crate::campaign::row::{Row, RowVerdict};
 use lin_bench::{Judgement, SlotFault, put_what};
 use lin_parts::Cluster;
 use lin_text::TextWriter;
@@ -43,7 +43,7 @@ pub(crate) struct Worst {
 
 /// What is counted. The undisturbed play doesn't count. Contracts see the counters.
 #[derive(Drop)]
-pub(crate) struct Counts {
+pub(crate) struct RowCounts {
     /// The counts of lines, by the number of the line.
     lines: Vec<LineCount>,
     rows: u64,
@@ -54,10 +54,10 @@ pub(crate) struct Counts {
     worst: Option<Worst>,
 }
 
-impl Model for Counts {
-    ghost use Rattle.lin_tool.specs.campaign.Summary.{AreCounts, CountsData};
+impl Model for RowCounts {
+    ghost use Rattle.lin_tool.specs.campaign.Summary.{AreCounts, RowCountsData};
 
-    ghost Value = { CountsData };
+    ghost Value = { RowCountsData };
 
     ghost view = { λ t. record {
       lines = t.lines.items;
@@ -130,7 +130,7 @@ fn counted(one: LineCount, row: u64) -> LineCount
     }
 }
 
-/// Counts that a row breaks a line, the `row`-th that is counted: the same row counts once. An error
+/// RowCounts that a row breaks a line, the `row`-th that is counted: the same row counts once. An error
 /// means out of memory.
 fn count_line(lines: &mut Vec<LineCount>, line: u64, row: u64) -> Result<(), AllocError>
     requires { All (IsLineCount row) lines.old.items }
@@ -145,7 +145,7 @@ fn count_line(lines: &mut Vec<LineCount>, line: u64, row: u64) -> Result<(), All
     Ok(())
 }
 
-/// Counts that a row breaks these lines, the `row`-th that is counted. An error means out of memory.
+/// RowCounts that a row breaks these lines, the `row`-th that is counted. An error means out of memory.
 fn count_lines(lines: &mut Vec<LineCount>, broken: &[u64], row: u64) -> Result<(), AllocError>
     requires { All (IsLineCount row) lines.old.items }
     ensures same { OnOk result ((n : ℕ) → line_at lines.new.items n
@@ -186,22 +186,22 @@ fn either(one: bool, other: bool) -> bool
     one || other
 }
 
-fn is_tolerated(verdict: Verdict) -> bool
+fn is_tolerated(verdict: RowVerdict) -> bool
     ensures { result ≡ is_tolerated verdict }
 {
-    matches!(verdict, Verdict::Tolerated)
+    matches!(verdict, RowVerdict::Tolerated)
 }
 
-fn is_broken(verdict: Verdict) -> bool
+fn is_broken(verdict: RowVerdict) -> bool
     ensures { result ≡ is_broken verdict }
 {
-    matches!(verdict, Verdict::Broken)
+    matches!(verdict, RowVerdict::Broken)
 }
 
-fn is_limited(verdict: Verdict) -> bool
+fn is_limited(verdict: RowVerdict) -> bool
     ensures { result ≡ is_limited verdict }
 {
-    matches!(verdict, Verdict::Limit(_))
+    matches!(verdict, RowVerdict::Limit(_))
 }
 
 /// The lines that a row breaks.
@@ -249,7 +249,7 @@ fn put_expectation<W: Write>(
 
 /// The remark on a line that no row breaks, or that each row breaks.
 fn mark(broken: u64, rows: u64) -> &'static str
-    ensures { result.now ≡ mark broken rows }
+    ensures { result.now ≡ broken_mark broken rows }
 {
     if broken == 0 {
         " (never broken)"
@@ -261,7 +261,7 @@ fn mark(broken: u64, rows: u64) -> &'static str
 }
 
 fn line_word(count: usize) -> &'static str
-    ensures { result.now ≡ line_word count }
+    ensures { result.now ≡ line_or_lines count }
 {
     if count == 1 { " line" } else { " lines" }
 }
@@ -285,10 +285,10 @@ fn put_worst<W: Write>(
     }
 }
 
-impl Counts {
+impl RowCounts {
     /// No row was counted. The lines are those of the judgements of the undisturbed play. An error means
     /// out of memory.
-    pub(crate) fn new(alloc: Global, judgements: &[Judgement]) -> Result<Counts, AllocError>
+    pub(crate) fn new(alloc: Global, judgements: &[Judgement]) -> Result<RowCounts, AllocError>
         ensures { IfOk result (λ counts. AreCountsOf judgements.now [] counts) }
     {
         let mut lines = Vec::new(alloc);
@@ -296,7 +296,7 @@ impl Counts {
             let one = &judgements[place];
             add_judgement(&mut lines, one.line, place)?;
         }
-        Ok(Counts {
+        Ok(RowCounts {
             lines,
             rows: 0,
             tolerated: 0,
@@ -349,7 +349,7 @@ impl Counts {
         self.some_uncounted(judgements)
     }
 
-    /// Counts the verdict of a row, and the lines that it breaks. An error means out of memory.
+    /// RowCounts the verdict of a row, and the lines that it breaks. An error means out of memory.
     pub(crate) fn count(&mut self, number: u64, row: &Row) -> Result<(), AllocError>
         requires few { self.old.rows + 1 < 2 ^ 64 }
         ensures rows { OnOk result (self.new.rows ≡ self.old.rows + 1) }
@@ -379,7 +379,7 @@ impl Counts {
         ensures { (rows : List Row) → IsCountOf judgements.now rows line one
             → self.now.rows ≡ length rows
             → Grows W.contents out.old out.new
-            (line_text script.now cluster.now judgements.now rows line) }
+            (line_count_text script.now cluster.now judgements.now rows line) }
     {
         out.put_text(script);
         out.put_numbered(b':', line);

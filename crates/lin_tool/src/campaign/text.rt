@@ -9,7 +9,7 @@ ghost use Rattle.lin_tool.specs.campaign.Text.{refusal_text, refusals_text, rest
 ghost use Rattle.lin_tool.specs.campaign.Text.{failed_lines, outcome_text};
 
 use crate::campaign::fault_names::{put_faults, put_node_name};
-use crate::campaign::row::{LostMessage, RefusedStep, Row, Verdict, has_lost, has_refused};
+use crate::campaign::row::{LostMessage, RefusedStep, Row, RowVerdict, has_lost, has_refused};
 use crate::campaign::shown::ShownRow;
 use crate::campaign::singles::Single;
 use crate::campaign::slots::{slot_name, table_name};
@@ -174,15 +174,15 @@ fn put_verdict<W: Write>(
         row.now row.now.verdict) }
 {
     match row.verdict {
-        Verdict::Tolerated => {
+        RowVerdict::Tolerated => {
             out.put_text("tolerated");
             put_rest(out, cluster, row, calm);
         }
-        Verdict::Broken => {
+        RowVerdict::Broken => {
             put_unmet(out, row.lines.as_slice());
             put_rest(out, cluster, row, calm);
         }
-        Verdict::Limit(line) => {
+        RowVerdict::Limit(line) => {
             out.put_text("slot limit in line ");
             out.put_number(line);
         }

@@ -3,7 +3,7 @@
 ghost use Rattle.std.specs.Prelude.{◌≡◌, flat_map, IfOk, List};
 ghost use Rattle.lin_export.specs.Putting.{PutsAll};
 ghost use Rattle.lin_text.specs.Written.{Grows, WritesText};
-ghost use Rattle.lin_tool.specs.Page.{unmet_line};
+ghost use Rattle.lin_tool.specs.Page.{unmet_data_line};
 ghost use Rattle.lin_tool.specs.Placing.{missed_line, AtMoment};
 
 use crate::page::field::put_field;
@@ -73,7 +73,7 @@ fn put_unmet_line<W: Write>(
 ) -> Result<(), AllocError>
     ensures { AtMoment cluster.now judgement.now moment (λ log.
         PutsAll W.contents out.old out.new result
-        (unmet_line script.entry cluster.now log judgement.now)) }
+        (unmet_data_line script.entry cluster.now log judgement.now)) }
 {
     if !is_unmet(&judgement.judged) {
         return Ok(());
@@ -96,7 +96,7 @@ fn put_unmet_lines<W: Write>(
     judgements: &[Judgement],
 ) -> Result<(), AllocError>
     ensures { PutsAll W.contents out.old out.new result
-        (flat_map (unmet_line script.entry cluster.now log.now.entries) judgements.now) }
+        (flat_map (unmet_data_line script.entry cluster.now log.now.entries) judgements.now) }
 {
     let mut read = 0;
     let mut moment = Moment::new();
@@ -122,7 +122,7 @@ pub(crate) fn write_unmet_lines<W: Write>(
     writer: &mut W,
 ) -> Result<(), ExportFault>
     ensures { WritesText (W.contents writer.old) (W.contents writer.new) result
-        (flat_map (unmet_line script.entry cluster.now log.now.entries) judgements.now) }
+        (flat_map (unmet_data_line script.entry cluster.now log.now.entries) judgements.now) }
 {
     let mut buffer = TextBuffer::empty();
     let mut out = TextWriter::new(writer, &mut buffer);

@@ -9,20 +9,20 @@ use Rattle.lin_text.proofs.Growing.{grows-more, grows-nothing}
 use Rattle.lin_export.proofs.Puttings.{puts-all, puts-some}
 use Rattle.lin_bench.specs.Played.{is_unmet}
 use Rattle.lin_bench.specs.declared.got.Judgement.{Judgement}
-use Rattle.lin_tool.specs.Page.{unmet_line}
+use Rattle.lin_tool.specs.Page.{unmet_data_line}
 use Rattle.lin_tool.specs.PageFields.{field}
 use Rattle.lin_tool.specs.Placing.{missed_line}
 use Rattle.lin_tool.proofs.page.unmet.put_unmet_line.Goals as goal
 
 unmet-line : (named : Option (Bor (List ℕ))) (c : Parts) (log : List LogEntry) (j : Judgement) (t : List ℕ)
     → is_unmet j.judged ≡ true → t ≡ missed_line named c log j
-    → line (codes "unmet" ∷ decimal j.entries ∷ field t ∷ []) ≡ unmet_line named c log j
+    → line (codes "unmet" ∷ decimal j.entries ∷ field t ∷ []) ≡ unmet_data_line named c log j
 unmet-line named c log j t h e =
     ap (λ s. line (codes "unmet" ∷ decimal j.entries ∷ field s ∷ [])) e
     ∙ ap (λ (b : Bool). if b then line (codes "unmet" ∷ decimal j.entries ∷ field (missed_line named c log j) ∷ []) else []) (sym h)
 
 met-line : (named : Option (Bor (List ℕ))) (c : Parts) (log : List LogEntry) (j : Judgement) → is_unmet j.judged ≡ false
-    → [] ≡ unmet_line named c log j
+    → [] ≡ unmet_data_line named c log j
 met-line named c log j h =
     ap (λ (b : Bool). if b then line (codes "unmet" ∷ decimal j.entries ∷ field (missed_line named c log j) ∷ []) else []) (sym h)
 
@@ -32,7 +32,7 @@ returns-then-not-is_unmet g c = λ log told.
 
 pub returns-in_err-text : goal.returns-in_err-text
 returns-in_err-text g c = λ log told.
-    puts-some (unmet_line c.args.script c.args.cluster.now log c.args.judgement.now) c.from_residual.ensures.0 refl (grows-nothing c.args.out.now)
+    puts-some (unmet_data_line c.args.script c.args.cluster.now log c.args.judgement.now) c.from_residual.ensures.0 refl (grows-nothing c.args.out.now)
 
 pub returns : goal.returns
 returns g c = λ log told.

@@ -2,7 +2,7 @@ use Rattle.std.proofs.Common.{◌∙◌, ◌++◌, ◌+◌, [], ap, arith, drop,
 use Rattle.std.proofs.lemmas.List.{take_all}
 use Rattle.lin_text.proofs.Growing.{grows-more, grows-next, grows-nothing, same-growth}
 use Rattle.lin_export.proofs.Puttings.{puts-all, puts-some}
-use Rattle.lin_tool.specs.Page.{unmet_line}
+use Rattle.lin_tool.specs.Page.{unmet_data_line}
 use Rattle.lin_tool.specs.Placing.{moment_of}
 use Rattle.lin_tool.proofs.Reports.{broke-off}
 use Rattle.lin_tool.proofs.page.unmet.put_unmet_lines.Goals as goal
@@ -18,7 +18,7 @@ loop-one-init g c = record {
 
 pub returns-in_err-put_unmet_line : goal.returns-in_err-put_unmet_line
 returns-in_err-put_unmet_line g c =
-    let f = unmet_line c.args.script c.args.cluster.now c.args.log.now.entries in
+    let f = unmet_data_line c.args.script c.args.cluster.now c.args.log.now.entries in
     let js = c.args.judgements.now in
     let i = c.loop-one.one-index in
     let told = c.at-moment.ensures.told ∙ ap (moment_of c.args.cluster.now) c.within-entries.ensures.same in
@@ -34,7 +34,7 @@ loop-one-preserved g c =
     let put = rw c.in_ok-put_unmet_line.was at (c.put_unmet_line.ensures log told) in
     record {
       put =
-          grows-next (unmet_line c.args.script c.args.cluster.now log) c.args.judgements.now c.loop-one.one-index c.one-item.result c.one-item.is (omega arith) c.loop-one.invariant.put
+          grows-next (unmet_data_line c.args.script c.args.cluster.now log) c.args.judgements.now c.loop-one.one-index c.one-item.result c.one-item.is (omega arith) c.loop-one.invariant.put
           (same-growth put.all put.grows);
       told = c.at-moment.ensures.told;
       time = c.at-moment.ensures.time;
@@ -44,5 +44,5 @@ loop-one-preserved g c =
 
 pub returns : goal.returns
 returns g c =
-    let f = unmet_line c.args.script c.args.cluster.now c.args.log.now.entries in
+    let f = unmet_data_line c.args.script c.args.cluster.now c.args.log.now.entries in
     puts-all (ap (λ l. flat_map f l) (take_all c.loop-one.one-index c.args.judgements.now (omega arith))) c.loop-one.invariant.put

@@ -1,7 +1,7 @@
 use Rattle.std.proofs.Common.{◌∙◌, ◌||◌, ap₂, ltb, sym}
 use Rattle.lin_tool.specs.campaign.Summary.{rows_of}
 use Rattle.lin_tool.proofs.CampaignCounts.{some-not-tolerated}
-use Rattle.lin_tool.proofs.campaign.summary.Counts.some_not_tolerated.Goals as goal
+use Rattle.lin_tool.proofs.campaign.summary.RowCounts.some_not_tolerated.Goals as goal
 
 pub returns : goal.returns
 returns c = λ js rows h.

@@ -2,7 +2,7 @@ use Rattle.std.proofs.Common.{◌≡◌, ℕ, take}
 use Rattle.std.specs.Prelude.{All}
 use Rattle.lin_tool.specs.campaign.Summary.{IsLineCount, line_at}
 use Rattle.lin_tool.proofs.CampaignCounts.{first_counts}
-use Rattle.lin_tool.proofs.campaign.summary.Counts.new.Given as goal
+use Rattle.lin_tool.proofs.campaign.summary.RowCounts.new.Given as goal
 
 abbrev pub invariant-loop-place : goal.invariant-loop-place
 invariant-loop-place l = record {

@@ -1,14 +1,14 @@
 use Rattle.std.proofs.Common.{◌≡◌, ◌∙◌, ◌+◌, ℕ, ap, if◌then◌else◌, length, refl}
 use Rattle.lin_core.specs.History.{is_in}
-use Rattle.lin_tool.specs.campaign.Summary.{CountsData, broken_lines, counted_by, line_at, one_if, worse_of}
+use Rattle.lin_tool.specs.campaign.Summary.{RowCountsData, broken_lines, counted_by, line_at, one_if, worse_of}
 use Rattle.lin_tool.proofs.CampaignCounts.{counts-more}
-use Rattle.lin_tool.proofs.campaign.summary.Counts.count.Goals as goal
+use Rattle.lin_tool.proofs.campaign.summary.RowCounts.count.Goals as goal
 
 pub returns-clause-counts : goal.returns-clause-counts
 returns-clause-counts c = λ js rows faults h.
     let t = c.self.inside in
     let row = c.args.row.now in
-    let old : CountsData = record {
+    let old : RowCountsData = record {
       lines = t.lines.items;
       rows = t.rows;
       tolerated = t.tolerated;
@@ -17,7 +17,7 @@ returns-clause-counts c = λ js rows faults h.
       missed = t.missed;
       worst = t.worst;
     } in
-    let new : CountsData = record {
+    let new : RowCountsData = record {
       lines = c.count_lines.new.lines.items;
       rows = t.rows + 1;
       tolerated = t.tolerated + c.one_if-2.result;

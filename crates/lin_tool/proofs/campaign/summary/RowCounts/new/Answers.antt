@@ -2,7 +2,7 @@ use Rattle.std.proofs.Common.{◌≡◌, ◌==◌, if◌then◌else◌, ap, arit
 use Rattle.lin_bench.specs.declared.got.Judgement.{Judgement}
 use Rattle.lin_tool.specs.campaign.Summary.{first_at, line_at}
 use Rattle.lin_tool.proofs.CampaignCounts.{first-next-at}
-use Rattle.lin_tool.proofs.campaign.summary.Counts.new.Goals as goal
+use Rattle.lin_tool.proofs.campaign.summary.RowCounts.new.Goals as goal
 
 pub loop-place-preserved : goal.loop-place-preserved
 loop-place-preserved c = record {

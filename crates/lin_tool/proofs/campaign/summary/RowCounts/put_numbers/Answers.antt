@@ -2,7 +2,7 @@ use Rattle.std.proofs.Common.{subst, sym}
 use Rattle.lin_text.proofs.Growing.{grows-more, same-growth}
 use Rattle.lin_tool.specs.campaign.Summary.{AreCountsOf}
 use Rattle.lin_tool.proofs.CampaignSums.{numbers-text}
-use Rattle.lin_tool.proofs.campaign.summary.Counts.put_numbers.Goals as goal
+use Rattle.lin_tool.proofs.campaign.summary.RowCounts.put_numbers.Goals as goal
 
 pub returns : goal.returns
 returns g c = λ js rows is faults.

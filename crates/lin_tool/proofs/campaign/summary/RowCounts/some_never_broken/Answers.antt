@@ -3,7 +3,7 @@ use Rattle.std.specs.List.{list_all}
 use Rattle.lin_bench.specs.declared.got.Judgement.{Judgement}
 use Rattle.lin_tool.specs.campaign.Summary.{breaks, line_at, rows_of}
 use Rattle.lin_tool.proofs.CampaignCounts.{any-same, none-counted}
-use Rattle.lin_tool.proofs.campaign.summary.Counts.some_never_broken.Goals as goal
+use Rattle.lin_tool.proofs.campaign.summary.RowCounts.some_never_broken.Goals as goal
 
 pub returns : goal.returns
 returns c = λ js rows h.
