@@ -255,8 +255,13 @@ addEventListener('keydown', e => {
   const i = sel ? step > 0 ? list.findIndex(r => r.row > sel.row) : list.findLastIndex(r => r.row < sel.row) : 0;
   if (i >= 0) show(list[i]);
 });
+// (the table of a long campaign is filled in parts, so that the page is there before)
 const t = $('rows'); t.innerHTML = '<tr><th>fault<th>slot<th>verdict<th>failed lines<th>lost<th>refused';
-for (const r of D.rows) { const tr = t.insertRow(); for (const x of [r.faults.join('+') || 'undisturbed', r.table ? r.table + ' ' + r.entry + ' ' + r.frame : '', r.verdict, linesOf(r).join(' '), (r.lost || []).map(x => `${x.host} ${x.number} ${x.cause}`).join(', '), (r.refused || []).map(x => `${x.line} ${x.name}`).join(', ')]) tr.insertCell().textContent = x; }
+function fill(from) {
+  for (const r of D.rows.slice(from, from + 1000)) { const tr = t.insertRow(); for (const x of [r.faults.join('+') || 'undisturbed', r.table ? r.table + ' ' + r.entry + ' ' + r.frame : '', r.verdict, linesOf(r).join(' '), (r.lost || []).map(x => `${x.host} ${x.number} ${x.cause}`).join(', '), (r.refused || []).map(x => `${x.line} ${x.name}`).join(', ')]) tr.insertCell().textContent = x; }
+  if (from + 1000 < D.rows.length) setTimeout(fill, 0, from + 1000);
+}
+fill(0);
 addEventListener('resize', draw); matchMedia('(prefers-color-scheme:dark)').addEventListener('change', () => show(sel, true));
 show(rows.find(r => '#' + r.name === decodeURIComponent(location.hash)) || null, true);
 </script></body></html>
