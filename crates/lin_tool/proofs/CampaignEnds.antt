@@ -26,9 +26,9 @@ use Rattle.lin_tool.specs.campaign.Steps.{AreNamed, AreRowsOf, BreaksOff, Counts
 use Rattle.lin_tool.specs.campaign.Summary.{AreCountsOf, RowCountsData, NumberedRow, is_denied, lines_broken, lines_text, numbers_text, rows_of, worse, worst_after, worst_of}
 use Rattle.lin_tool.specs.campaign.Written.{AreRowsFrom, Ends, IsRowOf, Plays, SomeRowOverfills, Stage, WritesPlays, is_full, text_before_rows, text_after_rows, rows_with_faults, counts, denies, plays_in_output, numbered_row, numbered_rows, row_as, row_in_output, rows_in_output, campaign_output}
 use Rattle.lin_tool.specs.declared.campaign.Campaign.{Campaign}
-use Rattle.lin_tool.specs.declared.campaign.CampaignPlan.{CampaignPlan}
+use Rattle.lin_tool.specs.declared.campaign.plan.CampaignPlan.{CampaignPlan}
 use Rattle.lin_tool.specs.declared.campaign.Play.{Play}
-use Rattle.lin_tool.specs.declared.campaign.RowFormat.{RowFormat}
+use Rattle.lin_tool.specs.declared.campaign.plan.RowFormat.{RowFormat}
 use Rattle.lin_tool.specs.declared.campaign.RowSource.{RowSource}
 use Rattle.lin_tool.specs.declared.campaign.row.LostMessage.{LostMessage}
 use Rattle.lin_tool.specs.declared.campaign.row.RefusedStep.{RefusedStep}

@@ -22,7 +22,7 @@ use Rattle.lin_tool.specs.campaign.Played.{IsOutOfMemory, IsPlayOf, IsUndisturbe
 use Rattle.lin_tool.specs.campaign.Steps.{IsBegun, SaysLines, row_of_play, stage_of}
 use Rattle.lin_tool.specs.campaign.Written.{Ends, IsRowOf, Stage, WritesCampaign, WritesPlays, WritesPlaysOfScript, counts, denies, name_or, campaign_output}
 use Rattle.lin_tool.specs.declared.campaign.Campaign.{Campaign}
-use Rattle.lin_tool.specs.declared.campaign.CampaignPlan.{CampaignPlan}
+use Rattle.lin_tool.specs.declared.campaign.plan.CampaignPlan.{CampaignPlan}
 use Rattle.lin_tool.specs.declared.campaign.Play.{Play}
 use Rattle.lin_tool.specs.declared.fault.Fault.{Fault}
 use Rattle.lin_tool.specs.declared.fault.Fault.TheVariants.{BadBenchLine, Denied, LogFull, OutOfMemory, SlotLimit, Unmet, WriteFailed}

@@ -20,8 +20,8 @@ use Rattle.lin_tool.specs.campaign.Shown.{RowData}
 use Rattle.lin_tool.specs.campaign.Singles.{faults_at, only_single}
 use Rattle.lin_tool.specs.campaign.Steps.{AreRowsOf, is_page}
 use Rattle.lin_tool.specs.campaign.Written.{AreRowsFrom, IsRowOf, Stage, rows_with_faults, plays_in_output, row_as, row_in_output}
-use Rattle.lin_tool.specs.declared.campaign.RowFormat.{RowFormat}
-use Rattle.lin_tool.specs.declared.campaign.RowFormat.TheVariants.{Text, Csv, Jsonl, Junit, Html}
+use Rattle.lin_tool.specs.declared.campaign.plan.RowFormat.{RowFormat}
+use Rattle.lin_tool.specs.declared.campaign.plan.RowFormat.TheVariants.{Text, Csv, Jsonl, Junit, Html}
 use Rattle.lin_tool.specs.declared.campaign.rows.Rows.{Rows}
 use Rattle.lin_tool.specs.declared.campaign.singles.Single.{Single}
 

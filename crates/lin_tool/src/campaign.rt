@@ -13,9 +13,9 @@ ghost use Rattle.lin_tool.specs.campaign.Page.{in_page};
 ghost use Rattle.lin_tool.specs.campaign.Played.{IsOutOfMemory, IsPlayOf, IsUnfinished, PlaysRow, PlaysUndisturbed};
 ghost use Rattle.lin_tool.specs.campaign.Rows.{IsPart, rows};
 ghost use Rattle.lin_tool.specs.campaign.Shown.{row_data};
-ghost use Rattle.lin_tool.specs.campaign.Steps.{AreWorstFaults, IsDenial, IsReady, IsTable, SaysLines, WritesCounts};
+ghost use Rattle.lin_tool.specs.campaign.Steps.{AreWorstFaults, IsReady, IsTable, SaysLines, WritesCounts};
 ghost use Rattle.lin_tool.specs.campaign.Steps.{PlaysAndWritesRow, PlaysAndWritesRows, WritesAfter, WritesTable};
-ghost use Rattle.lin_tool.specs.campaign.Steps.{calm_row, cases_of, first_disturbed, first_of, head_of, is_page};
+ghost use Rattle.lin_tool.specs.campaign.Steps.{calm_row, cases_of, first_disturbed, first_of, head_of};
 ghost use Rattle.lin_tool.specs.campaign.Steps.{object_if, object_with, row_without, shows_calm, worst_places};
 ghost use Rattle.lin_tool.specs.campaign.Written.{WritesOpened, text_after_rows, name_or};
 
@@ -25,6 +25,7 @@ mod jsonl;
 mod junit;
 mod page;
 mod pieces;
+mod plan;
 mod row;
 mod rows;
 mod shown;
@@ -33,6 +34,7 @@ mod slots;
 mod summary;
 mod text;
 
+use crate::campaign::plan::{is_denied, is_page};
 use crate::campaign::row::{Row, row_of};
 use crate::campaign::rows::Rows;
 use crate::campaign::shown::ShownRow;
@@ -51,46 +53,12 @@ use lin_log::read_bytes;
 use lin_parts::Cluster;
 use lin_text::{Many, TextBuffer, TextWriter, WriteFailed};
 use lin_values::Coded;
+pub use plan::{CampaignPlan, RowFormat};
 pub use rows::{CampaignPart, RandomSets, parts_are_the_whole};
 pub use singles::Kinds;
 use std::alloc::{AllocError, Global};
 use std::fs::{self, Files};
 use std::io::{self, Read, Write};
-
-/// A format in which rows are written.
-#[derive(Clone, Copy, Debug, PartialEq)]
-pub enum RowFormat {
-    /// A line of text for each row.
-    Text,
-    /// A table (RFC 4180).
-    Csv,
-    /// An object for the campaign, and one for each row (JSON, RFC 8259), one a line.
-    Jsonl,
-    /// A report with a case for each row, for what reads those of tests (JUnit's, in XML 1.0).
-    Junit,
-    /// A page for browsers (HTML), one file.
-    Html,
-}
-
-/// The options of a campaign.
-#[derive(Clone, Copy, Debug)]
-pub struct CampaignPlan {
-    /// The kinds of the single faults.
-    pub kinds: Kinds,
-    /// Whether each two of the single faults are a row, too.
-    pub pairs: bool,
-    /// Random sets of the single faults that are rows, too.
-    pub random: Option<RandomSets>,
-    /// The rows that are played and written: those of the nearest part that there is.
-    pub part: CampaignPart,
-    pub format: RowFormat,
-    /// Whether a row that isn't tolerated is a fault.
-    pub denies_broken: bool,
-    /// Whether a line with an expectation that no row breaks is a fault.
-    pub denies_never: bool,
-    /// Whether it is written how many rows are done, at each tenth of them.
-    pub is_watched: bool,
-}
 
 /// What all plays of a campaign have in common, and how their rows are written.
 #[derive(Clone, Copy)]
@@ -138,12 +106,6 @@ fn has_calm(from: u64, to: u64) -> bool
     ensures { result ≡ ((from == 0) && nat_lt 0 to) }
 {
     from == 0 && to > 0
-}
-
-fn is_page(format: RowFormat) -> bool
-    ensures { result ≡ is_page format }
-{
-    matches!(format, RowFormat::Html)
 }
 
 impl Campaign<'_, '_> {
@@ -624,23 +586,6 @@ fn write_progress<E: Write>(done: u64, rows: u64, errors: &mut E)
         out.put_text(" rows\n");
         let _ = out.finish();
     }
-}
-
-/// Whether a plan denies what the rows came to: some row isn't tolerated, or some line is never broken.
-fn denies(plan: &CampaignPlan, some_broken: bool, some_never: bool) -> bool
-    ensures { result
-        ≡ (plan.now.denies_broken && some_broken || plan.now.denies_never && some_never) }
-{
-    plan.denies_broken && some_broken || plan.denies_never && some_never
-}
-
-/// Whether the counts of a campaign are a fault.
-fn is_denied(plan: &CampaignPlan, counts: &RowCounts, judgements: &[Judgement]) -> bool
-    ensures { IsDenial plan.now counts.now judgements.now result }
-{
-    let some_broken = counts.some_not_tolerated();
-    let some_never = counts.some_never_broken(judgements);
-    denies(plan, some_broken, some_never)
 }
 
 /// Writes the rows of a table, and then the counts to `errors`. The core played the script undisturbed.

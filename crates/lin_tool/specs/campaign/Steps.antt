@@ -24,10 +24,10 @@ use Rattle.lin_tool.specs.campaign.Summary.{rows_of, worst_faults}
 use Rattle.lin_tool.specs.campaign.Text.{known_losses, known_refusals}
 use Rattle.lin_tool.specs.campaign.Written.{IsRowOf, Stage, WritesPlays, text_before_rows, numbered_row, object_of, row_as}
 use Rattle.lin_tool.specs.declared.campaign.Campaign.{Campaign}
-use Rattle.lin_tool.specs.declared.campaign.CampaignPlan.{CampaignPlan}
+use Rattle.lin_tool.specs.declared.campaign.plan.CampaignPlan.{CampaignPlan}
 use Rattle.lin_tool.specs.declared.campaign.Play.{Play}
-use Rattle.lin_tool.specs.declared.campaign.RowFormat.{RowFormat}
-use Rattle.lin_tool.specs.declared.campaign.RowFormat.TheVariants.{Text, Csv, Jsonl, Junit, Html}
+use Rattle.lin_tool.specs.declared.campaign.plan.RowFormat.{RowFormat}
+use Rattle.lin_tool.specs.declared.campaign.plan.RowFormat.TheVariants.{Text, Csv, Jsonl, Junit, Html}
 use Rattle.lin_tool.specs.declared.campaign.RowSource.{RowSource}
 use Rattle.lin_tool.specs.declared.campaign.row.Row.{Row}
 use Rattle.lin_tool.specs.declared.campaign.rows.Rows.{Rows}

@@ -35,9 +35,9 @@ use Rattle.lin_tool.specs.declared.campaign.pieces.TheConstants.{HEAD as PAGE, T
 use Rattle.lin_tool.specs.declared.fault.Fault.{Fault}
 use Rattle.lin_tool.specs.declared.fault.Fault.TheVariants.{BadBenchLine, Denied, LogFull, OutOfMemory}
 use Rattle.lin_tool.specs.declared.fault.Fault.TheVariants.{ReadFailed, ScriptTooLong, SlotLimit, Unmet, WriteFailed}
-use Rattle.lin_tool.specs.declared.campaign.CampaignPlan.{CampaignPlan}
-use Rattle.lin_tool.specs.declared.campaign.RowFormat.{RowFormat}
-use Rattle.lin_tool.specs.declared.campaign.RowFormat.TheVariants.{Text, Csv, Jsonl, Junit, Html}
+use Rattle.lin_tool.specs.declared.campaign.plan.CampaignPlan.{CampaignPlan}
+use Rattle.lin_tool.specs.declared.campaign.plan.RowFormat.{RowFormat}
+use Rattle.lin_tool.specs.declared.campaign.plan.RowFormat.TheVariants.{Text, Csv, Jsonl, Junit, Html}
 use Rattle.lin_tool.specs.declared.campaign.row.LostMessage.{LostMessage}
 use Rattle.lin_tool.specs.declared.campaign.row.RefusedStep.{RefusedStep}
 use Rattle.lin_tool.specs.declared.campaign.row.Row.{Row}

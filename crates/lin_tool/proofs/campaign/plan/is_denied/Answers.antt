@@ -1,5 +1,5 @@
 use Rattle.std.proofs.Common.{◌∙◌, ap₂, ◌&&◌, ◌||◌}
-use Rattle.lin_tool.proofs.campaign.is_denied.Goals as goal
+use Rattle.lin_tool.proofs.campaign.plan.is_denied.Goals as goal
 
 pub returns : goal.returns
 returns c = λ js named h.
