@@ -162,18 +162,26 @@ fn extras_of(found: &ArgMatches<'_>) -> Extras {
     }
 }
 
-/// Returns the settings of `replay`, `run` and `live`.
-fn settings_of<'a>(found: &ArgMatches<'a>) -> Settings<'a> {
-    let file = found.get_str("file");
+/// Returns what the command lines of all subcommands that run a cluster set, with this format of the log.
+fn common_settings_of<'a>(found: &ArgMatches<'a>, format: Format<'a>) -> Settings<'a> {
     Settings {
-        file,
+        file: found.get_str("file"),
         reading: reading_of(found),
         table: found.get_str("table"),
         capacity: found.get_one::<u16>("capacity").unwrap_or(16),
-        format: format_of(found.get_str("to"), file),
-        is_physical: found.get_flag("physical"),
+        format,
+        is_physical: false,
         is_configured: found.get_flag("configuration"),
         is_strict: false,
+    }
+}
+
+/// Returns the settings of `replay`, `run` and `live`.
+fn settings_of<'a>(found: &ArgMatches<'a>) -> Settings<'a> {
+    let format = format_of(found.get_str("to"), found.get_str("file"));
+    Settings {
+        is_physical: found.get_flag("physical"),
+        ..common_settings_of(found, format)
     }
 }
 
@@ -192,16 +200,9 @@ fn play_settings_of<'a>(found: &ArgMatches<'a>) -> Settings<'a> {
 
 /// Returns the settings of `campaign`, whose rows have formats of their own.
 fn campaign_settings_of<'a>(found: &ArgMatches<'a>) -> Settings<'a> {
-    let file = found.get_str("file");
     Settings {
-        file,
-        reading: reading_of(found),
-        table: found.get_str("table"),
-        capacity: found.get_one::<u16>("capacity").unwrap_or(16),
-        format: Format::Log,
-        is_physical: false,
-        is_configured: found.get_flag("configuration"),
         is_strict: found.get_flag("strict"),
+        ..common_settings_of(found, Format::Log)
     }
 }
 
