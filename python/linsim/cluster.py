@@ -7,14 +7,15 @@ import re
 import threading
 from functools import partial
 from threading import get_ident
-from typing import (TYPE_CHECKING, Callable, Dict, List, Optional, Sequence, Tuple, Type, TypeVar,
-                    Union)
+from typing import (TYPE_CHECKING, Callable, Dict, List, NamedTuple, Optional, Sequence, Tuple,
+                    Type, TypeVar, Union)
 
 from .errors import LinsimError, Refused, StartError, UnknownName, Unmet
 from .log import (REQUEST_NAME, RESPONSE_NAME, Data, History, Received, Run, Slot, as_bytes,
                   count_of, hex_of)
 from .node import Handler, Node, answers_of
-from .process import SECONDS, Answer, Live, Program, check, located, options_of
+from .process import (MARK, SECONDS, START, Answer, Live, Marks, Program, check, located,
+                      options_of)
 from .values import Meaning, Texts
 
 __tracebackhide__ = True                # pytest shows the lines of tests alone
@@ -24,9 +25,18 @@ if TYPE_CHECKING:
 
 PORT = r"(?:(?:bus|[hn]\d+|[hn]:\S+)\s+)?"
 MAKES_SLOTS = re.compile(rf"\s*{PORT}(?:slots?|open|answer|leave|hurt|finish)(?:\s|$)")
+GOES_BACK = re.compile(r"\s*back(?:\s|$)")
 Before = TypeVar("Before", bound=Callable[[], object])
 Result = TypeVar("Result")
 After = TypeVar("After", bound=Callable[[Slot], object])
+
+
+class AtMark(NamedTuple):
+    """What a cluster keeps of a run at a mark."""
+    history: History
+    slot_damage: Dict[int, bytes]
+    frame_damage: List[Tuple[str, int, bytes]]
+    noted: List[Tuple[int, Node, str, bytes]]
 
 
 class Cluster:
@@ -82,6 +92,7 @@ class Cluster:
         self.turn = threading.RLock()           # a line and its answer belong to one thread
         self.slots_turn = SlotsTurn(self)       # and so do the slots of one call
         self._hook_thread: Optional[int] = None         # the one that runs a hook
+        self._marks = Marks(self._kept())
 
     def _declare(self, fields: Sequence[str]) -> None:
         """Keeps what a line of `check` declares."""
@@ -170,13 +181,14 @@ class Cluster:
 
     @property
     def script(self) -> str:
-        """The run so far as a bench script: all its lines but questions and bad lines. What rules
-        and handlers sent, and what hooks wrote, is in it, so that it makes the same run."""
+        """The run so far as a bench script: all its lines but questions, bad lines and marks, and
+        without those that `back` has undone. What rules and handlers sent, and what hooks wrote, is
+        in it, so that it makes the same run."""
         return "".join(line + "\n" for line in self.live.lines)
 
     def copy(self) -> Cluster:
         """Another process in the same state: the lines of `script` are made again. Hooks, handlers
-        and the answers that they still owe are not copied, nor is damage to slots to come."""
+        and the answers that they still owe are not copied, nor are marks, and damage to slots to come."""
         other = self._fresh()
         other.ldf = self.ldf
         other._made(self.live.lines)
@@ -187,7 +199,7 @@ class Cluster:
     def line(self, text: str) -> Answer:
         """Makes a line of a bench script, as it stands: slots that it makes have no hooks, handlers
         and damage. Raises `BadLine`, `Refused`, `SlotLimit` and `Unmet`."""
-        if not MAKES_SLOTS.match(text):
+        if not MAKES_SLOTS.match(text) and not GOES_BACK.match(text):
             return self.step(text)
         self._refuse_in_bench()
         with self.slots_turn:
@@ -204,10 +216,46 @@ class Cluster:
                 answers = self.live.ask_all(lines)
             except LinsimError as error:
                 raise error.at(self.place()) from None
-            for answer in answers:
+            for line, answer in zip(lines, answers):
                 if answer.log:
                     self.history.take(answer.log)
+                elif answer.kind == "ok":
+                    self._follow_mark(line)
             return answers
+
+    # -- marks
+
+    def mark(self, name: str) -> None:
+        """Sets a mark, to which `back` goes; one of this name moves here. Raises `BadLine` if the
+        name isn't a letter or `_`, and then letters, digits and `_`, or if it is `start`."""
+        self.line(f"mark {name}")
+
+    def back(self, name: str = START) -> None:
+        """Restores the state at a mark, or at the beginning, and removes the marks that were set
+        after it. Hooks and handlers stay; damage to slots to come, and answers that handlers owe,
+        are those at the mark. It takes as long as the steps before the mark took. Raises `BadLine`
+        if no mark has the name, and `LinsimError` in a hook and in a `Bench`."""
+        self.line(f"back {name}")
+
+    def _kept(self) -> AtMark:
+        """What a mark keeps."""
+        return AtMark(self.history.copy(), dict(self._slot_damage), list(self._frame_damage),
+                      list(self._noted))
+
+    def _follow_mark(self, line: str) -> None:
+        """Keeps the state at a mark that was set, or goes back to it."""
+        mark = MARK.fullmatch(line)
+        if mark is None:
+            return
+        if mark[1] == "mark":
+            self._marks.put(mark[2], self._kept())
+            return
+        kept = self._marks.back(mark[2])
+        self.history = kept.history.copy()
+        self._slot_damage = dict(kept.slot_damage)
+        self._frame_damage, self._noted = list(kept.frame_damage), list(kept.noted)
+
+    # -- steps, rules and expectations
 
     def expect(self, form: str) -> None:
         """Raises `Unmet`, which is an AssertionError, where the expectation of a bench script isn't
@@ -362,12 +410,13 @@ class Cluster:
     def _refuse_in_bench(self) -> None:
         """Raises `LinsimError` if other clusters are on the same clock."""
         if self.bench:
-            raise LinsimError(f"one cluster of a bench makes no slots ({self.place()})")
+            raise LinsimError("one cluster of a bench makes no slots and doesn't go back "
+                              f"({self.place()})")
 
     def refuse_in_hook(self) -> None:
         """Raises `LinsimError` in a hook, a handler or an `until`."""
         if self._hook_thread is not None and self._hook_thread == get_ident():
-            raise LinsimError(f"a hook makes no slots ({self.place()})")
+            raise LinsimError(f"a hook makes no slots and doesn't go back ({self.place()})")
 
     @property
     def _is_looked_at(self) -> bool:

@@ -1,9 +1,10 @@
 """What the log with names says of a run: its slots, its messages, and the time."""
 from __future__ import annotations
 
+import copy
 import operator
 from collections import deque
-from dataclasses import dataclass, field
+from dataclasses import dataclass, field, replace
 from typing import Any, Callable, Deque, Dict, Iterable, List, NamedTuple, Optional, Tuple, Union
 
 __tracebackhide__ = True                # pytest shows the lines of tests alone
@@ -160,6 +161,17 @@ class History:
         self._arrived: List[Tuple[str, str, bytes]] = []        # in the slot that is finished
         self._functional = False                        # whether the last message went to all
         self._step = ""                                 # the last line that is a step
+
+    def copy(self) -> History:
+        """Another one that has followed the same lines, with a new `Run`."""
+        other = copy.copy(self)
+        other.received, other.losses = list(self.received), dict(self.losses)
+        other.run, other._arrived = Run(), list(self._arrived)
+        other._waiting = {node: deque(waiting) for node, waiting in self._waiting.items()}
+        if hasattr(self, "_slot"):                      # it may be open
+            other._slot = replace(self._slot, due=list(self._slot.due),
+                                  answers=dict(self._slot.answers))
+        return other
 
     @property
     def opened(self) -> Slot:

@@ -9,7 +9,7 @@ import subprocess
 import threading
 import time
 import weakref
-from typing import Callable, Iterable, List, Optional, Sequence, Union
+from typing import Callable, Dict, Generic, Iterable, List, Optional, Sequence, TypeVar, Union
 
 from .errors import (BadLine, Ended, LinsimError, Refused, SlotLimit, StartError, TimeLimit, Unmet,
                      start_error)
@@ -27,6 +27,28 @@ MOST_SECONDS = 1e6  # what the system's calls take
 # A fork would take answers that aren't its own.
 FORKED = "the program belongs to the process that started it"
 LAST_LINE = re.compile(r"(ok|is|refused|expected|bad line|slot limit)(?::? (.*))?")
+MARK = re.compile(r"\s*(mark|back)\s+([A-Za-z_][A-Za-z0-9_]*)\s*(?:#.*)?")
+START = "start"     # the mark at the beginning
+State = TypeVar("State")
+
+
+class Marks(Generic[State]):
+    """What was so at each mark, in the order of the marks. The first one is the beginning."""
+
+    def __init__(self, start: State) -> None:
+        self._states: Dict[str, State] = {START: start}
+
+    def put(self, name: str, state: State) -> None:
+        """Sets a mark. One of this name moves here."""
+        self._states.pop(name, None)
+        self._states[name] = state
+
+    def back(self, name: str) -> State:
+        """Returns what was so at a mark, and removes those that were set after it."""
+        names = list(self._states)
+        for later in names[names.index(name) + 1:]:
+            del self._states[later]
+        return self._states[name]
 
 
 class Answer:
@@ -148,8 +170,9 @@ class Live:
     `form` is `"log"` or `"named"`. With `configuration`, node configuration commands are sent
     (`--configuration`). An answer that isn't whole after `seconds` by the clock raises
     `TimeLimit`. After that, and after each other exception in the middle of answers, the process
-    is ended. `lines` has the lines that make the run: all but questions and bad ones. A line and
-    its answer belong to one thread; other threads wait.
+    is ended. `lines` has the lines that make the run: all but questions, bad ones and marks, and
+    without those that `back` has undone. A line and its answer belong to one thread; other threads
+    wait.
     """
 
     def __init__(self, ldf: Union[str, os.PathLike[str]], table: Optional[str] = None,
@@ -162,6 +185,7 @@ class Live:
         words += options_of(table, capacity, configuration)
         self.seconds = limit_of(seconds)
         self.lines: List[str] = []
+        self._marks = Marks(0)              # how many lines there were at each mark
         self._turn = threading.RLock()
         self._start(words)
         self._parent = os.getpid()
@@ -269,8 +293,18 @@ class Live:
         del read[:ended]
         self._searched = 0
         if answer.kind not in ("is", "bad line"):
-            self.lines.append(line)
+            self._keep(line)
         return answer
+
+    def _keep(self, line: str) -> None:
+        """Keeps a line that makes the run; of a mark its place, and of `back` the lines before it."""
+        mark = MARK.fullmatch(line)
+        if mark is None:
+            self.lines.append(line)
+        elif mark[1] == "mark":
+            self._marks.put(mark[2], len(self.lines))
+        else:
+            del self.lines[self._marks.back(mark[2]):]
 
     def _exchange(self, line: str, unwritten: memoryview, limit: float) -> memoryview:
         """Writes of what is unwritten what the pipe takes, and reads what there is. So neither

@@ -495,5 +495,95 @@ class Records(unittest.TestCase):
                 other["BCM"].send("Vent", "3E00")
 
 
+class AtMarks(unittest.TestCase):
+    def test_a_run_from_a_mark_twice(self):
+        with cluster("Diag") as bus:
+            bus["Heater"].when("22F190", "62F190 41")
+            bus["BCM"].send("Heater", "22F190")
+            bus.run(slots=1)
+            bus.mark("asked")
+            script = bus.script
+            seen = []
+            for _ in range(2):
+                run = bus.idle()
+                seen.append((run, bus.time, bus.script, list(bus.received)))
+                bus["BCM"].send("Vent", "3E00")
+                bus.back("asked")
+                self.assertEqual((bus.time, bus.script, bus["BCM"].waiting), (10000, script, 0))
+                self.assertEqual(len(bus.received), 1)
+            self.assertEqual(seen[0], seen[1])
+            self.assertNotIn("mark", bus.script)
+            self.assertEqual(run_of("play", bus.script, "--to", "named").count("> slot"), 1)
+
+    def test_the_beginning(self):
+        with cluster() as bus:
+            bus["BCM"]["HeatLevel"] = 3
+            bus["BCM"].send("Heater", "3E00")
+            bus.run(slots=3)
+            bus.back()
+            self.assertEqual((bus.time, bus.script, bus.received, bus.asleep), (0, "", [], False))
+            self.assertEqual(bus["BCM"]["HeatLevel"].raw, 0)
+            self.assertEqual(bus["BCM"].send("Heater", "3E00").number, 1)
+            self.assertEqual(bus.slot().number, 0)
+
+    def test_marks_that_move_and_go(self):
+        with cluster() as bus:
+            bus.mark("a")
+            bus.run(slots=1)
+            bus.line("mark b  # a comment")
+            bus.mark("a")
+            bus.run(slots=1)
+            bus.back("b")
+            self.assertEqual(bus.history.finished, 1)
+            for name, reason in (("a", "unknown mark a"), ("start x", "usage: back NAME"),
+                                 ("1", "expected a name, not 1")):
+                with self.assertRaisesRegex(linsim.BadLine, reason):
+                    bus.back(name)
+            with self.assertRaisesRegex(linsim.BadLine, "start is the mark of the beginning"):
+                bus.mark("start")
+            self.assertEqual(bus.history.finished, 1)
+
+    def test_an_open_slot(self):
+        with cluster("Diag") as bus:
+            bus["BCM"].send("Heater", "3E00")
+            bus.line("open")
+            bus.mark("open")
+            for _ in range(2):
+                bus.line("answer BCM")
+                bus.line("finish")
+                self.assertEqual(bus.received[-1].data, b"\x3e\x00")
+                bus.back("open")
+                self.assertEqual((bus.history.opened.due, bus.history.opened.answers),
+                                 (["BCM"], {}))
+
+    def test_damage_and_answers_that_are_owed(self):
+        with cluster("Diag") as bus:
+            bus["Heater"].on_message(lambda data: (b"\x7e\x00", 15))
+            bus.damage(slot=3)
+            bus["BCM"].send("Heater", "3E00")
+            bus.run(slots=1)
+            bus.mark("owed")
+            runs = []
+            for _ in range(2):
+                runs.append(bus.run(slots=5))
+                bus.damage(slot=0)
+                bus.back("owed")
+            self.assertEqual(runs[0], runs[1])
+            self.assertEqual([it.hurt for it in runs[0].slots], [None, None, b"", None, None])
+            self.assertEqual([it.data for it in runs[0].lost], [b"\x7e\x00"])
+
+    def test_where_nothing_goes_back(self):
+        with cluster() as bus:
+            @bus.after()
+            def goes_back(_):
+                bus.back()
+            with self.assertRaisesRegex(linsim.LinsimError, "^a hook makes no slots and doesn't go"):
+                bus.slot()
+            self.assertEqual(bus.history.finished, 1)
+        with linsim.Bench(cluster(), cluster()) as bench:
+            with self.assertRaisesRegex(linsim.LinsimError, "^one cluster of a bench makes no slots"):
+                bench.clusters[0].back()
+
+
 if __name__ == "__main__":
     unittest.main()
