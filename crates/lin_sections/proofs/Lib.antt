@@ -13,7 +13,6 @@ pub mod PassedSteps
 pub mod ReadingSteps
 pub mod Repeating
 pub mod Rooms
-pub mod Runs
 pub mod Spacing
 pub mod StatementSteps
 pub mod StopSteps

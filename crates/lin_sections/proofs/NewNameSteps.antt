@@ -99,10 +99,6 @@ pub only-put : (b : Bool) (only : Option (Bor (List ℕ))) (o : Option (Option (
 only-put true only o name is = is
 only-put false only o name is = refl
 
-pub or-none : (o : Option (List ℕ)) → o ≡ option_or o None
-or-none None = refl
-or-none (Some n) = refl
-
 or-after : (a b c : Option (List ℕ)) → option_or (option_or a b) c ≡ option_or a (option_or b c)
 or-after None b c = refl
 or-after (Some x) b c = refl

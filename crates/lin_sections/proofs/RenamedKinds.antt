@@ -1,9 +1,10 @@
 -- The new names of the things of a kind.
-use Rattle.std.proofs.Common.{◌≡◌, ◌∙◌, ℕ, Bool, true, false, cond, List, ◌∷◌, Option, Some, None, refl, ap}
+use Rattle.std.proofs.Common.{◌≡◌, ◌≤◌, ◌∙◌, ℕ, Bool, true, false, cond, List, ◌∷◌, length, take, Option, Some, None, refl, ap}
 use Rattle.std.specs.Prelude.{if◌then◌else◌}
 use Rattle.std.specs.Option.{option_or}
 use Rattle.std.specs.Str.{bytes_eq}
 use Rattle.std.proofs.Math.Path.{fun_ext}
+use Rattle.std.proofs.lemmas.List.{take_all}
 use Rattle.lin_sections.specs.NewNames.{alone, is_among, new_names, renamed_in, stays, KeyedName, NameMap}
 use Rattle.lin_sections.specs.Renames.{and_names, renamed_names}
 
@@ -12,22 +13,19 @@ pub or-after : (a b c : Option (List ℕ)) → option_or (option_or a b) c ≡ o
 or-after None b c = refl
 or-after (Some x) b c = refl
 
-same-names : (names others : List (List ℕ)) (has_old has_new : List ℕ → Bool) (old_keys keys olds news : List KeyedName)
-    → ((q : List ℕ) → has_old q ≡ is_among names q) → ((q : List ℕ) → has_new q ≡ is_among others q)
-    → olds ≡ alone has_new old_keys → news ≡ alone has_old keys
-    → (q : List ℕ) → new_names names olds news q ≡ renamed_names names others old_keys keys q
-same-names names others has_old has_new old_keys keys olds news has_o has_n are_o are_n q =
-    ap (λ (o : List KeyedName). new_names names o news q) (are_o ∙ ap (λ (h : List ℕ → Bool). alone h old_keys) (fun_ext has_n))
-    ∙ ap (λ (n : List KeyedName). new_names names (alone (is_among others) old_keys) n q) (are_n ∙ ap (λ (h : List ℕ → Bool). alone h keys) (fun_ext has_o))
+-- the keys of all things of a kind
+pub all-alone : {X : Type 0} (keys_of : List X → List KeyedName) (has_other : List ℕ → Bool) (others : List (List ℕ)) (keys : List KeyedName) (i : ℕ) (xs : List X)
+    → length xs ≤ i → ((q : List ℕ) → has_other q ≡ is_among others q) → keys ≡ alone has_other (keys_of (take i xs)) → keys ≡ alone (is_among others) (keys_of xs)
+all-alone keys_of has_other others keys i xs le has are =
+    are ∙ ap (λ ys. alone has_other (keys_of ys)) (take_all i xs le) ∙ ap (λ (h : List ℕ → Bool). alone h (keys_of xs)) (fun_ext has)
 
 -- the names of a kind, after those that are known
-pub kind-named : (names others : List (List ℕ)) (has_old has_new : List ℕ → Bool) (old_keys keys olds news : List KeyedName) (known after : NameMap)
-    → ((q : List ℕ) → has_old q ≡ is_among names q) → ((q : List ℕ) → has_new q ≡ is_among others q)
-    → olds ≡ alone has_new old_keys → news ≡ alone has_old keys
+pub kind-named : (names others : List (List ℕ)) (old_keys keys olds news : List KeyedName) (known after : NameMap)
+    → olds ≡ alone (is_among others) old_keys → news ≡ alone (is_among names) keys
     → ((q : List ℕ) → after q ≡ option_or (known q) (new_names names olds news q))
     → after ≡ and_names known (renamed_names names others old_keys keys)
-kind-named names others has_old has_new old_keys keys olds news known after has_o has_n are_o are_n is =
-    fun_ext (λ q. is q ∙ ap (option_or (known q)) (same-names names others has_old has_new old_keys keys olds news has_o has_n are_o are_n q))
+kind-named names others old_keys keys olds news known after are_o are_n is =
+    fun_ext (λ q. is q ∙ (λ j. option_or (known q) (new_names names (are_o j) (are_n j) q)))
 
 -- the commander, and then the responders
 commander-stays : (b : Bool) (master q : List ℕ) (names : List (List ℕ)) (o : Option (List ℕ)) → bytes_eq master q ≡ b

@@ -5,8 +5,7 @@ use Rattle.std.specs.Str.{bytes_eq}
 use Rattle.std.proofs.lemmas.List.{drop_all, get_or_default, take_all, take_more}
 use Rattle.std.proofs.lemmas.List.Sums.{count_by-le-length, sum_by-append}
 use Rattle.std.proofs.lemmas.Slice.Eq.{bytes_eq-Decides}
-use Rattle.lin_sections.specs.Numbering.{count_of, numbered_facts, repeats, repeats_behind}
-use Rattle.lin_sections.specs.declared.diff.fact.Fact.{Fact}
+use Rattle.lin_sections.specs.Numbering.{all_numbered, count_of, repeats, repeats_behind}
 
 counted-one : (text q : List ℕ) → count_of (text ∷ []) q ≡ cond (bytes_eq text q) 1 0
 counted-one text q = grind arith
@@ -68,10 +67,11 @@ few-before texts i n lt is =
     let same : get_or (repeats texts) i n ≡ get_or (repeats texts) i 0 = get_or_default (repeats texts) i n 0 (omega arith) in
     omega arith
 
-pub none-numbered : (fs : List Fact) → length fs < 2 → numbered_facts fs ≡ fs
-none-numbered [] l = refl
-none-numbered (f ∷ []) l = refl
-none-numbered (f ∷ g ∷ fs) l = absurd (omega arith)
+pub none-numbered : {X : Type 0} (text_of : X → List ℕ) (with_text : List ℕ → X → X) (xs : List X) → length xs < 2
+    → all_numbered text_of with_text xs ≡ xs
+none-numbered text_of with_text [] l = refl
+none-numbered text_of with_text (x ∷ []) l = refl
+none-numbered text_of with_text (x ∷ y ∷ xs) l = absurd (omega arith)
 
 -- ---- one of two lists that go together
 

@@ -119,10 +119,6 @@ abbrev pub AddsKeys : KnownNames → List Keyed → List Keyed → List KeyedNam
 AddsKeys others before after things =
     map keyed_name after ≡ map keyed_name before ++ alone (has_in others.map) things
 
--- the keys of the things that aren't among other names
-abbrev pub AreKeys : KnownNames → List Keyed → List KeyedName → Type 0
-AreKeys others keys things = map keyed_name keys ≡ alone (has_in others.map) things
-
 -- the names of things with a key, as a list of things has them
 abbrev pub HasOnly : KeyNames → List KeyedName → List ℕ → Type 0
 HasOnly names things key = only_in names.map key ≡ only_with things key

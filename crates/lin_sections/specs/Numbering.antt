@@ -26,18 +26,21 @@ repeats texts = repeats_behind [] texts
 abbrev pub again_text : List ℕ → ℕ → List ℕ
 again_text text count = text ++ codes " #" ++ decimal (count + 1)
 
-abbrev pub numbered_fact : ℕ → Fact → Fact
-numbered_fact count f = if count == 0 then f else record f { key = again_text f.key count }
+-- the same with a number, if so many earlier ones have the text
+abbrev pub number_if_repeated : {X : Type 0} → (X → List ℕ) → (List ℕ → X → X) → ℕ → X → X
+number_if_repeated text_of with_text count x =
+    if count == 0 then x else with_text (again_text (text_of x) count) x
+
+abbrev pub all_numbered : {X : Type 0} → (X → List ℕ) → (List ℕ → X → X) → List X → List X
+all_numbered text_of with_text xs =
+    map (λ p. number_if_repeated text_of with_text p.0 p.1) (zip (repeats (map text_of xs)) xs)
 
 -- each key of a fact once
 abbrev pub numbered_facts : List Fact → List Fact
-numbered_facts fs = map (λ p. numbered_fact p.0 p.1) (zip (repeats (map (λ f. f.key) fs)) fs)
-
-abbrev pub numbered_entry : ℕ → EntryFact → EntryFact
-numbered_entry count e = if count == 0 then e else record e { again = Some (again_text e.word count) }
+numbered_facts fs = all_numbered (λ f. f.key) (λ text f. record f { key = text }) fs
 
 abbrev pub numbered_entries : List EntryFact → List EntryFact
-numbered_entries es = map (λ p. numbered_entry p.0 p.1) (zip (repeats (map (λ e. e.word) es)) es)
+numbered_entries es = all_numbered (λ e. e.word) (λ text e. record e { again = Some text }) es
 
 -- the word by which an entry is found
 abbrev pub entry_id : EntryFact → List ℕ

@@ -18,14 +18,16 @@ use Rattle.lin_parts.specs.declared.description.Signal.{Signal}
 use Rattle.lin_parts.specs.declared.description.Sporadic.{Sporadic}
 use Rattle.lin_parts.specs.declared.description.Table.{Table}
 use Rattle.lin_sections.specs.FactTexts.{with_spaces}
-use Rattle.lin_sections.specs.NewNames.{alone, is_among, name_in, new_names, no_renames, KeyedName, NameMap}
+use Rattle.lin_sections.specs.NewNames.{alone, is_among, keyed_name, name_in, new_names, no_renames, KeyedName, NameMap}
 use Rattle.lin_sections.specs.NewNames.{renames_data, RenamesData}
 use Rattle.lin_sections.specs.SortedTexts.{sorted_texts}
 use Rattle.lin_sections.specs.Things.{encoding_items, entries_in, first_types, lines_in, member_names, nad_of, size_text}
 use Rattle.lin_sections.specs.Things.{compared_data, ComparedData}
 use Rattle.lin_values.specs.declared.codings.CodingType.{CodingType}
+use Rattle.lin_sections.specs.declared.diff.compared.LdfFacts.{LdfFacts}
 use Rattle.lin_sections.specs.declared.diff.fact.EntryFact.{EntryFact}
 use Rattle.lin_sections.specs.declared.diff.fact.Fact.{Fact}
+use Rattle.lin_sections.specs.declared.diff.new_names.Keyed.{Keyed}
 use Rattle.lin_sections.specs.declared.diff.renames.Ldfs.{Ldfs}
 use Rattle.lin_sections.specs.declared.diff.renames.Renames.{Renames}
 use Rattle.lin_sections.specs.declared.diff.tables.TableLines.{TableLines}
@@ -205,3 +207,7 @@ all_renames old new =
 abbrev pub RenamesBy : (ComparedData → ComparedData → RenamesData → RenamesData) → Ldfs → Renames → Renames → Type 0
 RenamesBy with_names ldfs before after =
     renames_data after ≡ with_names (compared_data ldfs.old.now.ldf) (compared_data ldfs.new.now.ldf) (renames_data before)
+
+-- the keys of the things of which the other LDF doesn't have the names
+abbrev pub AreKeys : (ComparedData → List (List ℕ)) → LdfFacts → List Keyed → List KeyedName → Type 0
+AreKeys names_in other keys things = map keyed_name keys ≡ alone (is_among (names_in (compared_data other.ldf))) things

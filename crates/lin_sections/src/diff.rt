@@ -78,9 +78,9 @@ pub fn compared_things<'a>(
 {
     let old = LdfFacts::new(alloc, old)?;
     let new = LdfFacts::new(alloc, new)?;
-    let renames = Renames::find(alloc, &old, &new)?;
-    let olds = things_of(alloc, &old, &renames)?;
     let none = Renames::none(alloc)?;
+    let renames = Renames::find(alloc, &old, &new, &none)?;
+    let olds = things_of(alloc, &old, &renames)?;
     let news = things_of(alloc, &new, &none)?;
     Ok((olds, news))
 }

@@ -4,15 +4,16 @@ ghost use Rattle.std.specs.Prelude.{◌≡◌, ◌++◌, ◌∷◌, ◌≤◌, [
 ghost use Rattle.lin_cluster.specs.Names.{NumbersFirst};
 ghost use Rattle.lin_sections.specs.FactTexts.{with_word};
 ghost use Rattle.lin_sections.specs.NewNames.{alone, has_in, keyed_name, renames_data};
-ghost use Rattle.lin_sections.specs.Renames.{encoding_key, encoding_keys, with_item};
+ghost use Rattle.lin_sections.specs.Renames.{all_encoding_names, encoding_key, encoding_keys, with_item};
 ghost use Rattle.lin_values.specs.Shown.{decimal_shown};
 ghost use Rattle.lin_sections.specs.Things.{compared_data, encoding_items, encoding_thing, first_type, first_types};
 ghost use Rattle.lin_sections.specs.Things.{item_fact, item_key, item_value, physical_value, quoted_words, IsReadOf};
-ghost use Rattle.lin_sections.specs.NewNames.{AddsKeys, AreKeys};
+ghost use Rattle.lin_sections.specs.NewNames.{AddsKeys};
+ghost use Rattle.lin_sections.specs.Renames.{AreKeys};
 
 use crate::diff::compared::LdfFacts;
 use crate::diff::fact::{Class, Fact, Thing, ThingKind};
-use crate::diff::fact_text::{FactText, put_number, put_word};
+use crate::diff::fact_text::{FactText, put_number, put_quoted, put_word};
 use crate::diff::new_names::{Keyed, KnownNames};
 use crate::diff::nodes::place_of;
 use crate::diff::numbering::numbered;
@@ -39,18 +40,14 @@ impl Scratch {
     }
 }
 
-/// Appends a text in quotes, unless it is empty.
-#[tactic(auto, using(crate::proofs::FactSteps::word_goes_on))]
-fn put_quoted(text: &mut Vec<u8>, shown: &[u8]) -> Result<(), AllocError>
-    ensures { OnOk result (text.new.items ≡ fold with_word text.old.items (quoted_words shown.now)) }
+/// Appends a unit in quotes, unless it is empty.
+fn put_unit(text: &mut Vec<u8>, unit: &[u8]) -> Result<(), AllocError>
+    ensures { OnOk result (text.new.items ≡ fold with_word text.old.items (quoted_words unit.now)) }
 {
-    if shown.is_empty() {
+    if unit.is_empty() {
         return Ok(());
     }
-    put_word(text, b"\"")?;
-    text.extend_from_slice(shown)?;
-    text.push(b'"')?;
-    Ok(())
+    put_quoted(text, unit)
 }
 
 /// Appends the shortest form of a decimal number.
@@ -109,7 +106,7 @@ fn physical_text<'a>(
     put_coefficient(text, buffer, scale)?;
     put_word(text, &[])?;
     put_coefficient(text, buffer, offset)?;
-    put_quoted(text, unit)?;
+    put_unit(text, unit)?;
     FactText::copied(alloc, text.as_slice())
 }
 
@@ -179,15 +176,8 @@ fn thing<'a>(
     ensures { IfOk result (λ t. t ≡ encoding_thing (renames_data renames.now) coding.now) }
 {
     let found = facts_of(alloc, scratch, coding)?;
-    let name = coding.name.text.as_slice();
-    let names = (name, renames.encodings.of(name));
-    Ok(Thing::new(
-        alloc,
-        ThingKind::Encoding,
-        names,
-        place_of(&coding.name),
-        found,
-    ))
+    let name = &coding.name;
+    Ok(Thing::named(alloc, ThingKind::Encoding, name, &renames.encodings, found))
 }
 
 /// Adds an encoding if none of the first `number` encodings has its name. `numbers` has the number of each
@@ -291,19 +281,21 @@ fn add_key<'a>(
     Ok(())
 }
 
-/// Returns the keys of the encodings whose names aren't among `others`.
+/// Returns the keys of the encodings whose names the other LDF doesn't have.
 pub(crate) fn keys<'a>(
     alloc: Global,
     facts: &LdfFacts<'a>,
-    others: &KnownNames<'_>,
+    other: &LdfFacts<'_>,
 ) -> Result<Vec<Keyed<'a>>, AllocError>
     requires { IsReadOf facts.now }
-    ensures { IfOk result (λ v. AreKeys others.now v.items (encoding_keys (compared_data facts.now.ldf))) }
+    ensures { IfOk result (λ v. AreKeys all_encoding_names other.now v.items
+        (encoding_keys (compared_data facts.now.ldf))) }
 {
+    let others = KnownNames::of(alloc, other.ldf.codings.types.as_slice())?;
     let mut scratch = Scratch::new(alloc);
     let mut keys = Vec::new(alloc);
     for coding in facts.types.as_slice() {
-        add_key(alloc, &mut keys, &mut scratch, *coding, others)?;
+        add_key(alloc, &mut keys, &mut scratch, *coding, &others)?;
     }
     Ok(keys)
 }

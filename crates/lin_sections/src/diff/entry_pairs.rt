@@ -2,8 +2,8 @@
 
 ghost use Rattle.std.specs.Prelude.{◌≡◌, ◌++◌, ◌∷◌, ◌==◌, ◌&&◌, ◌||◌, [], ℕ, Bool, false, IfOk, List, OnOk, flat_map, map, option_map, slice_index_or};
 ghost use Rattle.std.specs.List.{range_with_len};
-ghost use Rattle.std.specs.Option.{option_copied, option_map_or};
-ghost use Rattle.lin_sections.specs.Differences.{delay_difference, difference_data, differences_data, entry_difference, entry_with_id, moved_entries, new_entry};
+ghost use Rattle.std.specs.Option.{option_map_or};
+ghost use Rattle.lin_sections.specs.Differences.{delay_difference, difference_data, differences_data, entry_difference, moved_entries, new_entry};
 ghost use Rattle.lin_sections.specs.Differences.{place_of_entry, old_entry, old_places, pair_differences, was_moved};
 ghost use Rattle.lin_sections.specs.declared.diff.fact.EntryFact.{EntryFact};
 ghost use Rattle.lin_sections.specs.Numbering.{entry_id, ArePlaces};
@@ -13,7 +13,7 @@ ghost use Rattle.lin_sections.specs.Differences.{entry_differences, is_moved_by,
 use crate::diff::chain::moved;
 use crate::diff::difference::Difference;
 use crate::diff::fact::{Class, EntryFact, Thing};
-use crate::diff::index::Index;
+use crate::diff::index::{Identified, Index};
 use lin_parts::Location;
 use std::alloc::{AllocError, Global};
 
@@ -78,17 +78,6 @@ fn delay_difference<'t>(
         old: Some(old.delay.as_slice()),
         new: Some(new.delay.as_slice()),
     }
-}
-
-/// Returns the identifiers of entries.
-fn ids_of<'t>(alloc: Global, entries: &'t [EntryFact<'_>]) -> Result<Vec<&'t [u8]>, AllocError>
-    ensures { IfOk result (λ v. map (λ i. i.now) v.items ≡ map entry_id entries.now) }
-{
-    let mut ids = Vec::with_capacity(alloc, entries.len())?;
-    for entry in entries {
-        ids.push(entry.id())?;
-    }
-    Ok(ids)
 }
 
 /// Adds a place if there is one.
@@ -171,37 +160,6 @@ fn add_pair<'t>(
     Ok(())
 }
 
-/// Returns the entry with an identifier.
-fn entry_with<'t, 'a>(
-    entries: &'t [EntryFact<'a>],
-    index: &Index<'_>,
-    id: &[u8],
-) -> Option<&'t EntryFact<'a>>
-    requires { ArePlaces (map entry_id entries.now) index.now.map }
-    ensures { option_copied result ≡ entry_with_id id.now entries.now }
-{
-    match index.place_of(id) {
-        Some(place) => entries.get(place),
-        None => None,
-    }
-}
-
-/// The places of the entries of two tables by their identifiers.
-struct EntryPlaces<'o, 'n> {
-    olds: Index<'o>,
-    news: Index<'n>,
-}
-
-// Written by hand, so that its owners drop it in one step.
-impl<'o, 'n> Drop for EntryPlaces<'o, 'n> {
-    fn drop(self) {
-        let EntryPlaces {
-            olds: _olds,
-            news: _news,
-        } = self;
-    }
-}
-
 /// Returns the flag of a place, or `false` if the place has no flag.
 fn flag_at(flags: &[bool], place: usize) -> bool
     ensures { result ≡ slice_index_or flags.now place false }
@@ -224,23 +182,23 @@ fn is_moved(moved: &[bool], olds: &Index<'_>, entry: &EntryFact<'_>) -> bool
     }
 }
 
-/// Adds the differences of an entry of the old table.
+/// Adds the differences of an entry of the old table. `places` are the places of the entries in both tables.
 fn add_old_entry<'t>(
     found: &mut Vec<Difference<'t>>,
     things: (&'t Thing<'_>, &'t Thing<'_>),
-    places: &EntryPlaces<'_, '_>,
+    places: (&Index<'_>, &Index<'_>),
     moved: &[bool],
     entry: &'t EntryFact<'_>,
 ) -> Result<(), AllocError>
-    requires olds { ArePlaces (map entry_id things.0.now.entries) places.now.olds.map }
-    requires news { ArePlaces (map entry_id things.1.now.entries) places.now.news.map }
+    requires olds { ArePlaces (map entry_id things.0.now.entries) places.0.now.map }
+    requires news { ArePlaces (map entry_id things.1.now.entries) places.1.now.map }
     requires moved { moved.now ≡ moved_entries things.0.now.entries
         (old_places things.0.now.entries things.1.now.entries) }
     ensures { OnOk result (AddsDifferences found.old.items found.new.items (old_entry things.entry.0.now things.entry.1.now entry.now)) }
 {
-    match entry_with(things.1.entries.as_slice(), &places.news, entry.id()) {
+    match places.1.find(things.1.entries.as_slice(), entry.id()) {
         Some(other) => {
-            let is_moved = is_moved(moved, &places.olds, entry);
+            let is_moved = is_moved(moved, places.0, entry);
             add_pair(found, things, entry, other, is_moved)
         }
         None => {
@@ -256,14 +214,14 @@ fn add_old_entries<'t>(
     found: &mut Vec<Difference<'t>>,
     old: &'t Thing<'_>,
     new: &'t Thing<'_>,
-    places: &EntryPlaces<'_, '_>,
+    places: (&Index<'_>, &Index<'_>),
 ) -> Result<(), AllocError>
-    requires olds { ArePlaces (map entry_id old.now.entries) places.now.olds.map }
-    requires news { ArePlaces (map entry_id new.now.entries) places.now.news.map }
+    requires olds { ArePlaces (map entry_id old.now.entries) places.0.now.map }
+    requires news { ArePlaces (map entry_id new.now.entries) places.1.now.map }
     ensures { OnOk result (AddsDifferences found.old.items found.new.items (flat_map (old_entry old.now new.now) old.now.entries)) }
 {
     let count = old.entries.as_slice().len();
-    let pairs = old_places(alloc, &places.olds, new.entries.as_slice())?;
+    let pairs = old_places(alloc, places.0, new.entries.as_slice())?;
     let moved = moved_entries(alloc, count, pairs.as_slice())?;
     for entry in old.entries.as_slice() {
         add_old_entry(found, (old, new), places, moved.as_slice(), entry)?;
@@ -281,7 +239,10 @@ fn add_new_entry<'t>(
     requires { ArePlaces (map entry_id things.0.now.entries) index.now.map }
     ensures { OnOk result (AddsDifferences found.old.items found.new.items (new_entry things.entry.0.now things.entry.1.now entry.now)) }
 {
-    if entry_with(things.0.entries.as_slice(), index, entry.id()).is_some() {
+    if index
+        .find(things.0.entries.as_slice(), entry.id())
+        .is_some()
+    {
         return Ok(());
     }
     found.push(entry_difference(things, entry, None, Some(entry)))?;
@@ -316,12 +277,8 @@ pub(crate) fn add_entries<'t>(
     if old.entries.as_slice().is_empty() && new.entries.as_slice().is_empty() {
         return Ok(());
     }
-    let old_ids = ids_of(alloc, old.entries.as_slice())?;
-    let new_ids = ids_of(alloc, new.entries.as_slice())?;
-    let places = EntryPlaces {
-        olds: Index::of(alloc, old_ids.as_slice())?,
-        news: Index::of(alloc, new_ids.as_slice())?,
-    };
-    add_old_entries(alloc, found, old, new, &places)?;
-    add_new_entries(found, old, new, &places.olds)
+    let olds = Index::of(alloc, old.entries.as_slice())?;
+    let news = Index::of(alloc, new.entries.as_slice())?;
+    add_old_entries(alloc, found, old, new, (&olds, &news))?;
+    add_new_entries(found, old, new, &olds)
 }

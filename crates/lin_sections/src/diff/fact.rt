@@ -1,15 +1,20 @@
 //! The contents of an LDF as things with facts: its header, nodes, signals, frames, schedule tables and
 //! encodings.
 
-ghost use Rattle.std.specs.Prelude.{◌≡◌};
+ghost use Rattle.std.specs.Prelude.{◌≡◌, ◌++◌, ◌∷◌, [], OnOk};
 ghost use Rattle.lin_sections.specs.Facts.{class_if_gone, class_if_new, class_word, fact, is_compatible};
-ghost use Rattle.lin_sections.specs.Facts.{kind_word, label, overlap, thing};
-ghost use Rattle.lin_sections.specs.Numbering.{entry_id};
+ghost use Rattle.lin_sections.specs.Facts.{kind_word, label, overlap, place_of_name, thing};
+ghost use Rattle.lin_sections.specs.NewNames.{known_by, name_in};
 
 use crate::diff::fact_text::FactText;
+use crate::diff::index::Identified;
+use crate::diff::new_names::NewNames;
+use crate::diff::nodes::place_of;
+use crate::diff::numbering::Repeatable;
 use lin_parts::Location;
+use lin_parts::description::Name;
 use lin_text::{Many, Text};
-use std::alloc::Global;
+use std::alloc::{AllocError, Global};
 
 /// What a difference means for the nodes of the cluster.
 #[derive(Clone, Copy)]
@@ -196,16 +201,78 @@ impl<'a> Fact<'a> {
     }
 }
 
-impl<'a> EntryFact<'a> {
-    /// Returns the identifier of the entry, which is unique in its table: its word, with a number if the
-    /// word is repeated.
-    pub(crate) fn id(&self) -> &[u8]
-        ensures { result.now ≡ entry_id self.now }
-    {
+/// Adds a fact without bits.
+pub(crate) fn add_fact<'a>(
+    facts: &mut Vec<Fact<'a>>,
+    key: &'static [u8],
+    value: FactText<'a>,
+    place: Location,
+    class: Class,
+) -> Result<(), AllocError>
+    ensures { OnOk result (facts.new.items
+        ≡ facts.old.items ++ fact key.now value.entry place class ∷ []) }
+{
+    facts.push(Fact::new(FactText::lent(key), value, place, class))?;
+    Ok(())
+}
+
+impl<'a> Identified for Thing<'a> {
+    ghost id_of = { λ t. t.new_name };
+
+    fn id(&self) -> &[u8] {
+        self.new_name.as_slice()
+    }
+}
+
+impl<'a> Identified for Fact<'a> {
+    ghost id_of = { λ f. f.key };
+
+    fn id(&self) -> &[u8] {
+        self.key.as_slice()
+    }
+}
+
+// The word of an entry, with a number if the word is repeated, is unique in its table.
+impl<'a> Identified for EntryFact<'a> {
+    ghost use Rattle.lin_sections.specs.Numbering.{entry_id};
+
+    ghost id_of = { entry_id };
+
+    fn id(&self) -> &[u8] {
         match &self.again {
             Some(again) => again.as_slice(),
             None => self.word.as_slice(),
         }
+    }
+}
+
+impl<'a> Repeatable for Fact<'a> {
+    ghost text_of = { λ f. f.key };
+
+    ghost with_text = { λ text f. record f { key = text } };
+
+    fn text(&self) -> &[u8] {
+        self.key.as_slice()
+    }
+
+    fn keep_numbered(&mut self, numbered: Text) {
+        self.key = FactText::made(numbered);
+    }
+}
+
+impl<'a> Repeatable for EntryFact<'a> {
+    ghost use Rattle.std.specs.Prelude.{Some};
+
+    ghost text_of = { λ e. e.word };
+
+    ghost with_text = { λ text e. record e { again = Some text } };
+
+    fn text(&self) -> &[u8] {
+        self.word.as_slice()
+    }
+
+    fn keep_numbered(&mut self, numbered: Text) {
+        self.again = Some(numbered);
     }
 }
 
@@ -229,5 +296,20 @@ impl<'a> Thing<'a> {
             entries: Many::new(Vec::new(alloc)),
             taken: Many::new(Vec::new(alloc)),
         }
+    }
+
+    /// Makes a thing without entries and bits, with its new name among `renames`.
+    pub(crate) fn named(
+        alloc: Global,
+        kind: ThingKind,
+        name: &'a Name,
+        renames: &NewNames<'a>,
+        facts: Vec<Fact<'a>>,
+    ) -> Thing<'a>
+        ensures { result ≡ thing kind name.now.text (name_in (known_by renames.now) name.now.text)
+            (place_of_name name.now) facts.entry.items }
+    {
+        let text = name.text.as_slice();
+        Thing::new(alloc, kind, (text, renames.of(text)), place_of(name), facts)
     }
 }

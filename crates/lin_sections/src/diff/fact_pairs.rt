@@ -12,7 +12,6 @@ ghost use Rattle.lin_sections.specs.Differences.{AddsDifferences};
 use crate::diff::difference::Difference;
 use crate::diff::fact::{Bits, Class, Fact, Thing};
 use crate::diff::index::Index;
-use crate::diff::numbering::keys_of;
 use lin_parts::Location;
 use std::alloc::{AllocError, Global};
 
@@ -63,7 +62,12 @@ fn fact_difference<'t>(
 fn is_taken(taken: &[Bits], bits: Bits) -> bool
     ensures { result ≡ list_any (λ other. overlap other bits) taken.now }
 {
-    taken.iter().any(|other| other.overlap(bits))
+    for other in taken {
+        if other.overlap(bits) {
+            return true;
+        }
+    }
+    false
 }
 
 /// Returns the class of a fact that the old thing doesn't have. A signal on unused bits is compatible.
@@ -86,23 +90,19 @@ fn index_of<'t>(alloc: Global, facts: &'t [Fact<'_>]) -> Result<Option<Index<'t>
     if facts.len() <= FEW {
         return Ok(None);
     }
-    let keys = keys_of(alloc, facts)?;
-    Ok(Some(Index::of(alloc, keys.as_slice())?))
+    Ok(Some(Index::of(alloc, facts)?))
 }
 
-/// Returns the fact with a key. `index` has the places of all keys.
-fn indexed_fact<'t, 'a>(
-    facts: &'t [Fact<'a>],
-    index: &Index<'_>,
-    key: &[u8],
-) -> Option<&'t Fact<'a>>
-    requires { ArePlaces (map (λ f. f.key) facts.now) index.now.map }
+/// Returns the first fact with a key.
+fn first_with<'t, 'a>(facts: &'t [Fact<'a>], key: &[u8]) -> Option<&'t Fact<'a>>
     ensures { option_copied result ≡ fact_with key.now facts.now }
 {
-    match index.place_of(key) {
-        Some(place) => facts.get(place),
-        None => None,
+    for fact in facts {
+        if fact.key.as_slice() == key {
+            return Some(fact);
+        }
     }
+    None
 }
 
 /// Returns the fact with a key. `index` has the places of all keys, if there is an index.
@@ -115,8 +115,8 @@ fn fact_with<'t, 'a>(
     ensures { option_copied result ≡ fact_with key.now facts.now }
 {
     match index {
-        Some(index) => indexed_fact(facts, index, key),
-        None => facts.iter().find(|fact| fact.key.as_slice() == key),
+        Some(index) => index.find(facts, key),
+        None => first_with(facts, key),
     }
 }
 

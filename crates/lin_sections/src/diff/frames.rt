@@ -6,15 +6,17 @@ ghost use Rattle.lin_cluster.specs.LintNames.{has_dot};
 ghost use Rattle.lin_sections.specs.FactTexts.{with_spaces};
 ghost use Rattle.lin_sections.specs.Lookups.{AreFrameLookups};
 ghost use Rattle.lin_sections.specs.NewNames.{alone, has_in, keyed_name, renames_data};
+ghost use Rattle.lin_sections.specs.Renames.{all_event_names, all_frame_names, all_sporadic_names};
 ghost use Rattle.lin_sections.specs.Renames.{event_keys, frame_keys, number_key, sporadic_keys, sporadic_key};
 ghost use Rattle.lin_sections.specs.SortedTexts.{sorted_texts};
 ghost use Rattle.lin_sections.specs.Things.{bits_in, signal_bits, compared_data, event_thing, frame_thing, id_fact};
 ghost use Rattle.lin_sections.specs.Things.{frame_things, is_event_member, is_in_an_event, member_names, model_text, own_facts, place_fact};
 ghost use Rattle.lin_sections.specs.Things.{place_of_first, placed_fact, sporadic_thing, table_facts, taken_bits};
-ghost use Rattle.lin_sections.specs.NewNames.{AddsKeys, AreKeys};
+ghost use Rattle.lin_sections.specs.NewNames.{AddsKeys};
+ghost use Rattle.lin_sections.specs.Renames.{AreKeys};
 
 use crate::diff::compared::LdfFacts;
-use crate::diff::fact::{Bits, Class, Fact, Thing, ThingKind};
+use crate::diff::fact::{Bits, Class, Fact, Thing, ThingKind, add_fact};
 use crate::diff::fact_text::{FactText, put_hex, put_word, two_words};
 use crate::diff::header::{add_number, place_of as place_of_number};
 use crate::diff::new_names::{Keyed, KnownNames};
@@ -23,8 +25,8 @@ use crate::diff::renames::Renames;
 use crate::diff::sorted::{insert_sorted, joined};
 use lin_cluster::{Numbers, find_by, numbers_of};
 use lin_frame::SumKind;
+use lin_parts::Location;
 use lin_parts::description::{EventFrame, Frame, Name, Number, PlacedSignal, Signal, Sporadic};
-use lin_parts::{Cluster, Location};
 use lin_text::Many;
 use std::alloc::{AllocError, Global};
 
@@ -58,9 +60,7 @@ fn add_id<'a>(alloc: Global, facts: &mut Vec<Fact<'a>>, id: Number) -> Result<()
     ensures { OnOk result (facts.new.items ≡ facts.old.items ++ id_fact id ∷ []) }
 {
     let value = id_text(alloc, id)?;
-    let place = place_of_number(id);
-    facts.push(Fact::new(FactText::lent(b"id"), value, place, Class::Bytes))?;
-    Ok(())
+    add_fact(facts, b"id", value, place_of_number(id), Class::Bytes)
 }
 
 /// Returns the bits of a signal in a frame. `signal` is its declaration.
@@ -108,32 +108,21 @@ fn own_facts<'a>(
     add_id(alloc, &mut found, frame.id)?;
     let value = FactText::lent(publisher);
     let place = place_of(&frame.publisher);
-    found.push(Fact::new(FactText::lent(b"publisher"), value, place, Class::Bytes))?;
+    add_fact(&mut found, b"publisher", value, place, Class::Bytes)?;
     add_number(alloc, &mut found, b"size", frame.size, Class::Bytes)?;
     let value = FactText::lent(model_word(model));
     let place = place_of(&frame.name);
-    found.push(Fact::new(FactText::lent(b"model"), value, place, Class::Bytes))?;
+    add_fact(&mut found, b"model", value, place, Class::Bytes)?;
     Ok(found)
 }
 
 /// The data for the facts of frames, with signals and event-triggered members by name.
+#[derive(Drop)]
 struct FrameLookups<'b, 'a> {
     facts: &'b LdfFacts<'a>,
     renames: &'b Renames<'a>,
     signals: Numbers<'a>,
     members: KnownNames<'a>,
-}
-
-// Written by hand, so that its owners drop it in one step.
-impl<'b, 'a> Drop for FrameLookups<'b, 'a> {
-    fn drop(self) {
-        let FrameLookups {
-            facts: _,
-            renames: _,
-            signals: _signals,
-            members: _members,
-        } = self;
-    }
 }
 
 /// Returns the names of the members of event-triggered frames.
@@ -246,24 +235,12 @@ impl<'b, 'a> FrameLookups<'b, 'a> {
         let publisher = self.renames.nodes.of(frame.publisher.text.as_slice());
         let mut found = own_facts(alloc, frame, publisher, model)?;
         self.add_places(alloc, &mut found, frame.placed.as_slice())?;
-        let name = frame.name.text.as_slice();
-        let names = (name, self.renames.frames.of(name));
-        let mut thing = Thing::new(alloc, ThingKind::Frame, names, place_of(&frame.name), found);
-        thing.taken = Many::new(self.taken(alloc, frame)?);
+        let taken = self.taken(alloc, frame)?;
+        let renames = &self.renames.frames;
+        let mut thing = Thing::named(alloc, ThingKind::Frame, &frame.name, renames, found);
+        thing.taken = Many::new(taken);
         Ok(thing)
     }
-}
-
-/// Returns the checksum models of the unconditional frames.
-fn models(alloc: Global, cluster: &Cluster) -> Result<Vec<SumKind>, AllocError>
-    ensures { IfOk result (λ v. v.items ≡ map (λ f. f.model) cluster.now.frames) }
-{
-    cluster.sound();
-    let mut models = Vec::new(alloc);
-    for frame in 0..cluster.frames() as u16 {
-        models.push(cluster.model(frame))?;
-    }
-    Ok(models)
 }
 
 /// Returns the unconditional frames as things.
@@ -277,10 +254,11 @@ pub(crate) fn things<'a>(
 {
     let looked_up = FrameLookups::new(alloc, facts, renames)?;
     let frames = facts.ldf.description.frames();
-    let models = models(alloc, facts.ldf.cluster)?;
+    let cluster = facts.ldf.cluster;
+    cluster.sound();
     let mut things = Vec::new(alloc);
-    for number in 0..frames.len().min(models.len()) {
-        things.push(looked_up.thing(alloc, &frames[number], models[number])?)?;
+    for number in 0..frames.len().min(cluster.frames()) {
+        things.push(looked_up.thing(alloc, &frames[number], cluster.model(number as u16))?)?;
     }
     Ok(things)
 }
@@ -321,11 +299,9 @@ fn sporadic_thing<'a>(
     let value = member_names(alloc, members, renames)?;
     let place = place_of_first(members, &sporadic.name);
     let mut found = Vec::new(alloc);
-    found.push(Fact::new(FactText::lent(b"members"), value, place, Class::Timing))?;
-    let name = sporadic.name.text.as_slice();
-    let names = (name, renames.frames.of(name));
-    let place = place_of(&sporadic.name);
-    Ok(Thing::new(alloc, ThingKind::Sporadic, names, place, found))
+    add_fact(&mut found, b"members", value, place, Class::Timing)?;
+    let name = &sporadic.name;
+    Ok(Thing::named(alloc, ThingKind::Sporadic, name, &renames.frames, found))
 }
 
 /// Returns the sporadic frames as things.
@@ -375,13 +351,7 @@ fn add_table<'a>(
         return Ok(());
     }
     let value = FactText::lent(renames.tables.of(table.text.as_slice()));
-    facts.push(Fact::new(
-        FactText::lent(b"table"),
-        value,
-        place_of(table),
-        Class::Timing,
-    ))?;
-    Ok(())
+    add_fact(facts, b"table", value, place_of(table), Class::Timing)
 }
 
 fn event_thing<'a>(
@@ -397,10 +367,8 @@ fn event_thing<'a>(
     let members = event.members.as_slice();
     let value = sorted_names(alloc, members, renames)?;
     let place = place_of_first(members, &event.name);
-    found.push(Fact::new(FactText::lent(b"members"), value, place, Class::Bytes))?;
-    let name = event.name.text.as_slice();
-    let names = (name, renames.frames.of(name));
-    Ok(Thing::new(alloc, ThingKind::Event, names, place_of(&event.name), found))
+    add_fact(&mut found, b"members", value, place, Class::Bytes)?;
+    Ok(Thing::named(alloc, ThingKind::Event, &event.name, &renames.frames, found))
 }
 
 /// Returns the event-triggered frames as things.
@@ -439,32 +407,36 @@ pub(crate) fn add_number_key<'a>(
     Ok(())
 }
 
-/// Returns the keys of the unconditional frames whose names aren't among `others`.
+/// Returns the keys of the unconditional frames whose names the other LDF doesn't have.
 pub(crate) fn keys<'a>(
     alloc: Global,
     facts: &LdfFacts<'a>,
-    others: &KnownNames<'_>,
+    other: &LdfFacts<'_>,
 ) -> Result<Vec<Keyed<'a>>, AllocError>
-    ensures { IfOk result (λ v. AreKeys others.now v.items (frame_keys (compared_data facts.now.ldf))) }
+    ensures { IfOk result (λ v. AreKeys all_frame_names other.now v.items
+        (frame_keys (compared_data facts.now.ldf))) }
 {
+    let others = KnownNames::of(alloc, other.ldf.description.frames())?;
     let mut keys = Vec::new(alloc);
     for frame in facts.ldf.description.frames() {
-        add_number_key(alloc, &mut keys, &frame.name, frame.id, others)?;
+        add_number_key(alloc, &mut keys, &frame.name, frame.id, &others)?;
     }
     Ok(keys)
 }
 
-/// Returns the keys of the event-triggered frames whose names aren't among `others`.
+/// Returns the keys of the event-triggered frames whose names the other LDF doesn't have.
 pub(crate) fn event_keys<'a>(
     alloc: Global,
     facts: &LdfFacts<'a>,
-    others: &KnownNames<'_>,
+    other: &LdfFacts<'_>,
 ) -> Result<Vec<Keyed<'a>>, AllocError>
-    ensures { IfOk result (λ v. AreKeys others.now v.items (event_keys (compared_data facts.now.ldf))) }
+    ensures { IfOk result (λ v. AreKeys all_event_names other.now v.items
+        (event_keys (compared_data facts.now.ldf))) }
 {
+    let others = KnownNames::of(alloc, other.ldf.description.events())?;
     let mut keys = Vec::new(alloc);
     for event in facts.ldf.description.events() {
-        add_number_key(alloc, &mut keys, &event.name, event.id, others)?;
+        add_number_key(alloc, &mut keys, &event.name, event.id, &others)?;
     }
     Ok(keys)
 }
@@ -489,18 +461,20 @@ fn add_sporadic_key<'a>(
     Ok(())
 }
 
-/// Returns the keys of the sporadic frames whose names aren't among `others`.
+/// Returns the keys of the sporadic frames whose names the other LDF doesn't have.
 pub(crate) fn sporadic_keys<'a>(
     alloc: Global,
     facts: &LdfFacts<'a>,
-    others: &KnownNames<'_>,
+    other: &LdfFacts<'_>,
     renames: &Renames<'a>,
 ) -> Result<Vec<Keyed<'a>>, AllocError>
-    ensures { IfOk result (λ v. AreKeys others.now v.items (sporadic_keys (compared_data facts.now.ldf) (renames_data renames.now))) }
+    ensures { IfOk result (λ v. AreKeys all_sporadic_names other.now v.items
+        (sporadic_keys (compared_data facts.now.ldf) (renames_data renames.now))) }
 {
+    let others = KnownNames::of(alloc, other.ldf.description.sporadic())?;
     let mut keys = Vec::new(alloc);
     for sporadic in facts.ldf.description.sporadic() {
-        add_sporadic_key(alloc, &mut keys, sporadic, others, renames)?;
+        add_sporadic_key(alloc, &mut keys, sporadic, &others, renames)?;
     }
     Ok(keys)
 }

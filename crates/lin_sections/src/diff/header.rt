@@ -11,7 +11,7 @@ ghost use Rattle.lin_sections.specs.Things.{version_value, IsReadOf};
 
 use crate::attribute_blocks::Attribute;
 use crate::diff::compared::LdfFacts;
-use crate::diff::fact::{Class, Fact, Thing, ThingKind};
+use crate::diff::fact::{Class, Fact, Thing, ThingKind, add_fact};
 use crate::diff::fact_text::{FactText, two_words};
 use crate::diff::numbering::numbered;
 use crate::diff::tokens::{Spelling, between_quotes, value_text};
@@ -43,8 +43,7 @@ pub(crate) fn add_number<'a>(
         (facts.new.items ≡ facts.old.items ++ number_fact key.now number class ∷ []) }
 {
     let value = FactText::number(alloc, u64::from(number.value))?;
-    facts.push(Fact::new(FactText::lent(key), value, place_of(number), class))?;
-    Ok(())
+    add_fact(facts, key, value, place_of(number), class)
 }
 
 /// Returns a version without its quotes.
@@ -61,7 +60,12 @@ fn version_text<'a>(alloc: Global, parser: &Parser<'a>) -> Result<FactText<'a>, 
 fn line_with<'l, 'a>(lines: &'l [Attribute<'a>], word: &[u8]) -> Option<&'l Attribute<'a>>
     ensures { option_copied result ≡ find (is_word_next word.now) lines.now }
 {
-    lines.iter().find(|line| line.is(word))
+    for line in lines {
+        if line.is(word) {
+            return Some(line);
+        }
+    }
+    None
 }
 
 /// Adds the version in a line if the line has one.
@@ -80,7 +84,7 @@ fn add_version_line<'a>(
     }
     if parser.front_kind().is_some() {
         let value = version_text(alloc, &parser)?;
-        facts.push(Fact::new(FactText::lent(key), value, parser.place(), Class::Names))?;
+        add_fact(facts, key, value, parser.place(), Class::Names)?;
     }
     Ok(())
 }

@@ -1,7 +1,8 @@
-//! An index of texts.
+//! An index of things, facts or entries.
 
-ghost use Rattle.std.specs.Prelude.{◌≡◌, ℕ, IfOk, List, map};
+ghost use Rattle.std.specs.Prelude.{◌≡◌, ℕ, IfOk, List, find, map};
 ghost use Rattle.std.specs.List.{position_from};
+ghost use Rattle.std.specs.Option.{option_copied};
 ghost use Rattle.std.specs.Str.{bytes_eq};
 ghost use Rattle.lin_sections.specs.Numbering.{ArePlaces};
 
@@ -9,7 +10,18 @@ use indexmap::IndexMap;
 use lin_values::put_first;
 use std::alloc::{AllocError, Global};
 
-/// The places of texts by their bytes. Of equal texts it has the first place.
+/// What both LDFs can have: a thing, a fact or an entry.
+pub(crate) trait Identified {
+    ghost use Rattle.std.specs.Prelude.{List, ℕ};
+
+    ghost id_of: { Self → List ℕ };
+
+    /// Returns the text that is the same in both LDFs.
+    fn id(&self) -> &[u8]
+        ensures { result.now ≡ id_of self.now };
+}
+
+/// The places of identifiers. Of equal identifiers it has the first place.
 pub(crate) struct Index<'k> {
     pub(crate) map: IndexMap<&'k [u8], usize>,
 }
@@ -22,24 +34,48 @@ impl<'k> Drop for Index<'k> {
 }
 
 impl<'k> Index<'k> {
-    /// Makes the index of texts.
-    pub(crate) fn of(alloc: Global, texts: &[&'k [u8]]) -> Result<Index<'k>, AllocError>
-        ensures { IfOk result (λ index. ArePlaces (map (λ t. t.now) texts.now) index.map) }
+    /// Makes the index of things, facts or entries.
+    pub(crate) fn of<T: Identified>(alloc: Global, all: &'k [T]) -> Result<Index<'k>, AllocError>
+        ensures { IfOk result (λ index. ArePlaces (map T.id_of all.now) index.map) }
     {
         let mut index = Index {
-            map: IndexMap::with_capacity(alloc, texts.len())?,
+            map: IndexMap::with_capacity(alloc, all.len())?,
         };
-        for place in 0..texts.len() {
-            put_first(&mut index.map, texts[place], place)?;
+        for (place, one) in all.iter().enumerate() {
+            put_first(&mut index.map, one.id(), place)?;
         }
         Ok(index)
     }
 
-    /// Returns the place of the first text with these bytes.
-    pub(crate) fn place_of(&self, text: &[u8]) -> Option<usize>
-        ensures { (texts : List (List ℕ)) → ArePlaces texts self.now.map
-            → result ≡ position_from (λ t. bytes_eq t text.now) 0 texts }
+    /// Makes the index of identifiers.
+    pub(crate) fn of_ids(alloc: Global, ids: &[&'k [u8]]) -> Result<Index<'k>, AllocError>
+        ensures { IfOk result (λ index. ArePlaces (map (λ i. i.now) ids.now) index.map) }
     {
-        self.map.get(&text).copied()
+        let mut index = Index {
+            map: IndexMap::with_capacity(alloc, ids.len())?,
+        };
+        for place in 0..ids.len() {
+            put_first(&mut index.map, ids[place], place)?;
+        }
+        Ok(index)
+    }
+
+    /// Returns the place of the first one with an identifier.
+    pub(crate) fn place_of(&self, id: &[u8]) -> Option<usize>
+        ensures { (ids : List (List ℕ)) → ArePlaces ids self.now.map
+            → result ≡ position_from (λ i. bytes_eq i id.now) 0 ids }
+    {
+        self.map.get(&id).copied()
+    }
+
+    /// Returns the first one with an identifier. The index has the places of all of them.
+    pub(crate) fn find<'t, T: Identified>(&self, all: &'t [T], id: &[u8]) -> Option<&'t T>
+        requires { ArePlaces (map T.id_of all.now) self.now.map }
+        ensures { option_copied result ≡ find (λ x. bytes_eq (T.id_of x) id.now) all.now }
+    {
+        match self.place_of(id) {
+            Some(place) => all.get(place),
+            None => None,
+        }
     }
 }

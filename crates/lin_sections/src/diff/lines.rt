@@ -41,9 +41,12 @@ impl Classes {
 pub fn is_any_listed(differences: &[Difference<'_>], classes: Classes) -> bool
     ensures { result ≡ list_any (λ d. lists_class classes d.class) differences.now }
 {
-    differences
-        .iter()
-        .any(|difference| classes.has(difference.class))
+    for difference in differences {
+        if classes.has(difference.class) {
+            return true;
+        }
+    }
+    false
 }
 
 /// Writes a space and a place in a file, or `-` if there is no place.

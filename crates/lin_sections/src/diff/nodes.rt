@@ -15,13 +15,14 @@ ghost use Rattle.lin_sections.specs.Things.{attribute_fact, attribute_facts, com
 ghost use Rattle.lin_sections.specs.Things.{is_other_attribute, nad_facts, nad_of, node_facts, node_thing};
 ghost use Rattle.lin_sections.specs.Things.{node_things, protocol_facts, responder_thing, role_fact};
 ghost use Rattle.lin_sections.specs.Things.{IsReadOf};
-ghost use Rattle.lin_sections.specs.NewNames.{AddsKeys, AreKeys};
+ghost use Rattle.lin_sections.specs.NewNames.{AddsKeys};
+ghost use Rattle.lin_sections.specs.Renames.{AreKeys};
 ghost use Rattle.lin_sections.specs.Renames.{all_responder_keys};
 ghost use Rattle.lin_sections.specs.Things.{other_attribute, fact_of};
 
 use crate::attribute_blocks::{Attribute, NodeAttributes};
 use crate::diff::compared::LdfFacts;
-use crate::diff::fact::{Class, Fact, Thing, ThingKind};
+use crate::diff::fact::{Class, Fact, Thing, ThingKind, add_fact};
 use crate::diff::fact_text::FactText;
 use crate::diff::frames::add_number_key;
 use crate::diff::header::add_number;
@@ -46,7 +47,7 @@ pub(crate) fn place_of(name: &Name) -> Location
 }
 
 /// Returns the names of the nodes.
-pub(crate) fn names<'a>(alloc: Global, facts: &LdfFacts<'a>) -> Result<KnownNames<'a>, AllocError>
+fn names<'a>(alloc: Global, facts: &LdfFacts<'a>) -> Result<KnownNames<'a>, AllocError>
     ensures { IfOk result (λ s. (q : List ℕ)
         → has_in s.map q ≡ is_among (all_node_names facts.now.ldf.description.now) q) }
 {
@@ -83,21 +84,22 @@ fn add_key<'a>(
     }
 }
 
-/// Returns the key of the commander if its name isn't among `others`.
-fn commander_keys<'a>(
-    alloc: Global,
-    description: &'a Description,
+/// Adds the key of the commander if its name isn't among `others`.
+#[tactic(auto, using(crate::proofs::StatementSteps::nothing_more))]
+fn add_commander_key<'a>(
+    keys: &mut Vec<Keyed<'a>>,
     others: &KnownNames<'_>,
-) -> Result<Vec<Keyed<'a>>, AllocError>
-    ensures { IfOk result (λ v. AreKeys others.now v.items (commander_key description.now ∷ [])) }
+    description: &'a Description,
+) -> Result<(), AllocError>
+    ensures { OnOk result (AddsKeys others.now keys.old.items keys.new.items (commander_key description.now ∷ [])) }
 {
-    let mut keys = Vec::new(alloc);
     let name = description.master().text.as_slice();
-    if !others.has(name) {
-        let key = FactText::lent(b"commander");
-        keys.push(Keyed { name, key })?;
+    if others.has(name) {
+        return Ok(());
     }
-    Ok(keys)
+    let key = FactText::lent(b"commander");
+    keys.push(Keyed { name, key })?;
+    Ok(())
 }
 
 /// Adds the keys of the responders whose names aren't among `others`. `attributes` has the attributes of
@@ -124,18 +126,21 @@ fn add_responder_keys<'a>(
     Ok(())
 }
 
-/// Returns the keys of the nodes whose names aren't among `others`: the word `commander`, or a NAD.
+/// Returns the keys of the nodes whose names the other LDF doesn't have: the word `commander`, or a NAD.
 pub(crate) fn keys<'a>(
     alloc: Global,
     facts: &LdfFacts<'a>,
-    others: &KnownNames<'_>,
+    other: &LdfFacts<'_>,
 ) -> Result<Vec<Keyed<'a>>, AllocError>
-    ensures { IfOk result (λ v. AreKeys others.now v.items (node_keys (compared_data facts.now.ldf))) }
+    ensures { IfOk result (λ v. AreKeys (λ d. all_node_names d.description) other.now v.items
+        (node_keys (compared_data facts.now.ldf))) }
 {
     let description = facts.ldf.description;
-    let mut keys = commander_keys(alloc, description, others)?;
+    let others = names(alloc, other)?;
+    let mut keys = Vec::new(alloc);
+    add_commander_key(&mut keys, &others, description)?;
     let attributes = description.attributes();
-    add_responder_keys(alloc, &mut keys, others, description.slaves(), attributes)?;
+    add_responder_keys(alloc, &mut keys, &others, description.slaves(), attributes)?;
     Ok(keys)
 }
 
@@ -247,17 +252,26 @@ fn add_protocol<'a>(
     {
         let value = FactText::made(shown_text(alloc, protocol.as_slice())?);
         let place = place_of(&block.node);
-        facts.push(Fact::new(FactText::lent(b"protocol"), value, place, Class::Names))?;
+        add_fact(facts, b"protocol", value, place, Class::Names)?;
     }
     Ok(())
 }
 
-/// Returns the role of a node in the cluster.
-fn role_fact<'a>(role: &'static [u8], name: &Name) -> Fact<'a>
-    ensures { result ≡ role_fact role.now name.now }
+/// Adds the role of a node in the cluster.
+fn add_role<'a>(
+    facts: &mut Vec<Fact<'a>>,
+    role: &'static [u8],
+    name: &Name,
+) -> Result<(), AllocError>
+    ensures { OnOk result (facts.new.items ≡ facts.old.items ++ role_fact role.now name.now ∷ []) }
 {
-    let value = FactText::lent(role);
-    Fact::new(FactText::lent(b"role"), value, place_of(name), Class::Bytes)
+    add_fact(
+        facts,
+        b"role",
+        FactText::lent(role),
+        place_of(name),
+        Class::Bytes,
+    )
 }
 
 /// Adds the NAD of a responder if it has one.
@@ -285,28 +299,16 @@ fn node_thing<'a>(
 ) -> Result<Thing<'a>, AllocError>
     ensures { IfOk result (λ t. t ≡ node_thing (renames_data renames.now) name.now facts.entry.items) }
 {
-    let text = name.text.as_slice();
-    let names = (text, renames.nodes.of(text));
     let found = numbered(alloc, facts)?;
-    Ok(Thing::new(alloc, ThingKind::Node, names, place_of(name), found))
+    Ok(Thing::named(alloc, ThingKind::Node, name, &renames.nodes, found))
 }
 
 /// The attributes of nodes by name: the ones of the description, and all attributes of the LDF.
+#[derive(Drop)]
 struct Blocks<'b, 'a> {
     facts: &'b LdfFacts<'a>,
     declared: Numbers<'a>,
     read: Numbers<'b>,
-}
-
-// Written by hand, so that its owners drop it in one step.
-impl<'b, 'a> Drop for Blocks<'b, 'a> {
-    fn drop(self) {
-        let Blocks {
-            facts: _,
-            declared: _declared,
-            read: _read,
-        } = self;
-    }
 }
 
 impl<'b, 'a> Blocks<'b, 'a> {
@@ -367,7 +369,7 @@ impl<'b, 'a> Blocks<'b, 'a> {
         let facts = self.facts;
         let name = facts.ldf.description.master();
         let mut found = Vec::new(alloc);
-        found.push(role_fact(b"commander", name))?;
+        add_role(&mut found, b"commander", name)?;
         self.add_facts(alloc, &mut found, name, renames)?;
         node_thing(alloc, name, found, renames)
     }
@@ -384,7 +386,7 @@ impl<'b, 'a> Blocks<'b, 'a> {
             ≡ responder_thing (compared_data self.now.facts.now.ldf) (renames_data renames.now) name.now) }
     {
         let mut found = Vec::new(alloc);
-        found.push(role_fact(b"responder", name))?;
+        add_role(&mut found, b"responder", name)?;
         add_nad(alloc, &mut found, self.declared(name))?;
         self.add_facts(alloc, &mut found, name, renames)?;
         node_thing(alloc, name, found, renames)

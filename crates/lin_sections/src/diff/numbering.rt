@@ -1,14 +1,28 @@
 //! The numbers of repeated keys and words.
 
 ghost use Rattle.std.specs.Prelude.{◌≡◌, ◌+◌, ◌++◌, ◌∷◌, ◌<◌, ◌^◌, [], ℕ, IfOk, List, OnOk, length, map};
-ghost use Rattle.lin_sections.specs.Numbering.{again_text, count_of, numbered_facts, numbered_entries};
-ghost use Rattle.lin_sections.specs.Numbering.{numbered_entry, numbered_fact, repeats, AreTextCounts};
+ghost use Rattle.lin_sections.specs.Numbering.{again_text, all_numbered, count_of, repeats, number_if_repeated, AreTextCounts};
 
-use crate::diff::fact::{EntryFact, Fact};
-use crate::diff::fact_text::{FactText, put_number};
+use crate::diff::fact_text::put_number;
 use indexmap::IndexMap;
 use lin_text::Text;
 use std::alloc::{AllocError, Global};
+
+/// What has a text that can be repeated: a fact has its key, an entry its word.
+pub(crate) trait Repeatable: Drop {
+    ghost use Rattle.std.specs.Prelude.{List, ℕ};
+
+    ghost text_of: { Self → List ℕ };
+
+    ghost with_text: { List ℕ → Self → Self };
+
+    fn text(&self) -> &[u8]
+        ensures { result.now ≡ text_of self.now };
+
+    /// Keeps its text with a number.
+    fn keep_numbered(&mut self, numbered: Text)
+        ensures { self.new ≡ with_text numbered self.old };
+}
 
 /// How often each text occurred.
 struct TextCounts<'a> {
@@ -54,103 +68,49 @@ fn again_text(
 }
 
 /// Returns for each text the number of earlier texts that are the same.
-fn repeats(alloc: Global, texts: &[&[u8]]) -> Result<Vec<usize>, AllocError>
-    ensures { IfOk result (λ v. v.items ≡ repeats (map (λ t. t.now) texts.now)) }
+fn repeats<T: Repeatable>(alloc: Global, all: &[T]) -> Result<Vec<usize>, AllocError>
+    ensures { IfOk result (λ v. v.items ≡ repeats (map T.text_of all.now)) }
 {
     let mut counts = TextCounts {
         map: IndexMap::with_capacity(alloc, 0)?,
     };
-    let mut repeats = Vec::with_capacity(alloc, texts.len())?;
-    for place in 0..texts.len() {
-        repeats.push(counts.count(texts[place])?)?;
+    let mut repeats = Vec::with_capacity(alloc, all.len())?;
+    for one in all {
+        repeats.push(counts.count(one.text())?)?;
     }
     Ok(repeats)
 }
 
-/// Returns the keys of facts.
-pub(crate) fn keys_of<'t>(alloc: Global, facts: &'t [Fact<'_>]) -> Result<Vec<&'t [u8]>, AllocError>
-    ensures { IfOk result (λ v. map (λ k. k.now) v.items ≡ map (λ f. f.key) facts.now) }
-{
-    let mut keys = Vec::with_capacity(alloc, facts.len())?;
-    for fact in facts {
-        keys.push(fact.key.as_slice())?;
-    }
-    Ok(keys)
-}
-
-/// Returns the words of entries.
-fn words_of<'t>(alloc: Global, entries: &'t [EntryFact<'_>]) -> Result<Vec<&'t [u8]>, AllocError>
-    ensures { IfOk result (λ v. map (λ k. k.now) v.items ≡ map (λ e. e.word) entries.now) }
-{
-    let mut words = Vec::with_capacity(alloc, entries.len())?;
-    for entry in entries {
-        words.push(entry.word.as_slice())?;
-    }
-    Ok(words)
-}
-
-/// Adds a number to the key of a fact if `count`, the number of earlier facts with the key, isn't 0.
-fn number_fact(
+/// Adds a number to a text if `count`, the number of earlier texts that are the same, isn't 0. `text` is
+/// memory for the text.
+fn number<T: Repeatable>(
     alloc: Global,
     text: &mut Vec<u8>,
-    fact: &mut Fact<'_>,
+    one: &mut T,
     count: usize,
 ) -> Result<(), AllocError>
     requires { count + 1 < 2 ^ 64 }
-    ensures { OnOk result (fact.new ≡ numbered_fact count fact.old) }
+    ensures { OnOk result (one.new ≡ number_if_repeated T.text_of T.with_text count one.old) }
 {
     if count > 0 {
-        let again = again_text(alloc, text, fact.key.as_slice(), count)?;
-        fact.key = FactText::made(again);
+        let again = again_text(alloc, text, one.text(), count)?;
+        one.keep_numbered(again);
     }
     Ok(())
 }
 
-/// Adds a number to each key that an earlier fact has.
-pub(crate) fn numbered<'a>(alloc: Global, facts: Vec<Fact<'a>>) -> Result<Vec<Fact<'a>>, AllocError>
-    ensures { IfOk result (λ v. v.items ≡ numbered_facts facts.entry.items) }
+/// Adds a number to each text that an earlier one has.
+pub(crate) fn numbered<T: Repeatable>(alloc: Global, all: Vec<T>) -> Result<Vec<T>, AllocError>
+    ensures { IfOk result (λ v. v.items ≡ all_numbered T.text_of T.with_text all.items) }
 {
-    if facts.len() < 2 {
-        return Ok(facts);
+    if all.len() < 2 {
+        return Ok(all);
     }
-    let counts = repeats(alloc, keys_of(alloc, facts.as_slice())?.as_slice())?;
-    let mut facts = facts;
+    let counts = repeats(alloc, all.as_slice())?;
+    let mut all = all;
     let mut text = Vec::new(alloc);
-    for place in 0..facts.len().min(counts.len()) {
-        number_fact(alloc, &mut text, &mut facts[place], counts[place])?;
+    for place in 0..all.len().min(counts.len()) {
+        number(alloc, &mut text, &mut all[place], counts[place])?;
     }
-    Ok(facts)
-}
-
-/// Adds a number to an entry if `count`, the number of earlier entries with its word, isn't 0.
-fn number_entry(
-    alloc: Global,
-    text: &mut Vec<u8>,
-    entry: &mut EntryFact<'_>,
-    count: usize,
-) -> Result<(), AllocError>
-    requires { count + 1 < 2 ^ 64 }
-    ensures { OnOk result (entry.new ≡ numbered_entry count entry.old) }
-{
-    if count > 0 {
-        let again = again_text(alloc, text, entry.word.as_slice(), count)?;
-        entry.again = Some(again);
-    }
-    Ok(())
-}
-
-/// Adds a number to each entry whose word an earlier entry has.
-pub(crate) fn numbered_entries<'a>(
-    alloc: Global,
-    entries: Vec<EntryFact<'a>>,
-) -> Result<Vec<EntryFact<'a>>, AllocError>
-    ensures { IfOk result (λ v. v.items ≡ numbered_entries entries.entry.items) }
-{
-    let counts = repeats(alloc, words_of(alloc, entries.as_slice())?.as_slice())?;
-    let mut entries = entries;
-    let mut text = Vec::new(alloc);
-    for place in 0..entries.len().min(counts.len()) {
-        number_entry(alloc, &mut text, &mut entries[place], counts[place])?;
-    }
-    Ok(entries)
+    Ok(all)
 }

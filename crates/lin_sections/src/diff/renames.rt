@@ -12,7 +12,7 @@ ghost use Rattle.lin_sections.specs.Things.{compared_data, IsReadOf};
 ghost use Rattle.lin_sections.specs.NewNames.{AddsNames};
 
 use crate::diff::compared::LdfFacts;
-use crate::diff::new_names::{Keyed, KnownNames, NewNames};
+use crate::diff::new_names::{Keyed, NewNames};
 use crate::diff::{encodings, frames, nodes, signals, tables};
 use lin_cluster::Named;
 use std::alloc::{AllocError, Global};
@@ -94,10 +94,8 @@ impl<'a> Renames<'a> {
         ensures { OnOk result (RenamesBy with_node_names ldfs.entry self.old self.new) }
     {
         let Ldfs { old, new, .. } = ldfs;
-        let old_names = nodes::names(alloc, old)?;
-        let new_names = nodes::names(alloc, new)?;
-        let olds = nodes::keys(alloc, old, &new_names)?;
-        let news = nodes::keys(alloc, new, &old_names)?;
+        let olds = nodes::keys(alloc, old, new)?;
+        let news = nodes::keys(alloc, new, old)?;
         self.nodes
             .add_renamed(alloc, olds.as_slice(), news.as_slice())?;
         let description = old.ldf.description;
@@ -109,24 +107,30 @@ impl<'a> Renames<'a> {
         ensures { OnOk result (RenamesBy with_frame_names ldfs.entry self.old self.new) }
     {
         let Ldfs { old, new, .. } = ldfs;
-        let all = old.ldf.description.frames();
-        let old_names = KnownNames::of(alloc, all)?;
-        let new_names = KnownNames::of(alloc, new.ldf.description.frames())?;
-        let olds = frames::keys(alloc, old, &new_names)?;
-        let news = frames::keys(alloc, new, &old_names)?;
-        add_names(alloc, &mut self.frames, all, &olds, &news)
+        let olds = frames::keys(alloc, old, new)?;
+        let news = frames::keys(alloc, new, old)?;
+        add_names(
+            alloc,
+            &mut self.frames,
+            old.ldf.description.frames(),
+            &olds,
+            &news,
+        )
     }
 
     fn add_events(&mut self, alloc: Global, ldfs: Ldfs<'_, 'a>) -> Result<(), AllocError>
         ensures { OnOk result (RenamesBy with_event_names ldfs.entry self.old self.new) }
     {
         let Ldfs { old, new, .. } = ldfs;
-        let all = old.ldf.description.events();
-        let old_names = KnownNames::of(alloc, all)?;
-        let new_names = KnownNames::of(alloc, new.ldf.description.events())?;
-        let olds = frames::event_keys(alloc, old, &new_names)?;
-        let news = frames::event_keys(alloc, new, &old_names)?;
-        add_names(alloc, &mut self.frames, all, &olds, &news)
+        let olds = frames::event_keys(alloc, old, new)?;
+        let news = frames::event_keys(alloc, new, old)?;
+        add_names(
+            alloc,
+            &mut self.frames,
+            old.ldf.description.events(),
+            &olds,
+            &news,
+        )
     }
 
     fn add_signals(&mut self, alloc: Global, ldfs: Ldfs<'_, 'a>) -> Result<(), AllocError>
@@ -134,12 +138,15 @@ impl<'a> Renames<'a> {
         ensures { OnOk result (RenamesBy with_signal_names ldfs.entry self.old self.new) }
     {
         let Ldfs { old, new, none } = ldfs;
-        let all = old.ldf.description.signals();
-        let old_names = KnownNames::of(alloc, all)?;
-        let new_names = KnownNames::of(alloc, new.ldf.description.signals())?;
-        let olds = signals::keys(alloc, old, &new_names, self)?;
-        let news = signals::keys(alloc, new, &old_names, none)?;
-        add_names(alloc, &mut self.signals, all, &olds, &news)
+        let olds = signals::keys(alloc, old, new, self)?;
+        let news = signals::keys(alloc, new, old, none)?;
+        add_names(
+            alloc,
+            &mut self.signals,
+            old.ldf.description.signals(),
+            &olds,
+            &news,
+        )
     }
 
     fn add_sporadics(&mut self, alloc: Global, ldfs: Ldfs<'_, 'a>) -> Result<(), AllocError>
@@ -147,12 +154,15 @@ impl<'a> Renames<'a> {
         ensures { OnOk result (RenamesBy with_sporadic_names ldfs.entry self.old self.new) }
     {
         let Ldfs { old, new, none } = ldfs;
-        let all = old.ldf.description.sporadic();
-        let old_names = KnownNames::of(alloc, all)?;
-        let new_names = KnownNames::of(alloc, new.ldf.description.sporadic())?;
-        let olds = frames::sporadic_keys(alloc, old, &new_names, self)?;
-        let news = frames::sporadic_keys(alloc, new, &old_names, none)?;
-        add_names(alloc, &mut self.frames, all, &olds, &news)
+        let olds = frames::sporadic_keys(alloc, old, new, self)?;
+        let news = frames::sporadic_keys(alloc, new, old, none)?;
+        add_names(
+            alloc,
+            &mut self.frames,
+            old.ldf.description.sporadic(),
+            &olds,
+            &news,
+        )
     }
 
     fn add_tables(&mut self, alloc: Global, ldfs: Ldfs<'_, 'a>) -> Result<(), AllocError>
@@ -160,12 +170,15 @@ impl<'a> Renames<'a> {
         ensures { OnOk result (RenamesBy with_table_names ldfs.entry self.old self.new) }
     {
         let Ldfs { old, new, none } = ldfs;
-        let all = old.ldf.description.tables();
-        let old_names = KnownNames::of(alloc, all)?;
-        let new_names = KnownNames::of(alloc, new.ldf.description.tables())?;
-        let olds = tables::keys(alloc, old, &new_names, self)?;
-        let news = tables::keys(alloc, new, &old_names, none)?;
-        add_names(alloc, &mut self.tables, all, &olds, &news)
+        let olds = tables::keys(alloc, old, new, self)?;
+        let news = tables::keys(alloc, new, old, none)?;
+        add_names(
+            alloc,
+            &mut self.tables,
+            old.ldf.description.tables(),
+            &olds,
+            &news,
+        )
     }
 
     fn add_encodings(&mut self, alloc: Global, ldfs: Ldfs<'_, 'a>) -> Result<(), AllocError>
@@ -174,32 +187,32 @@ impl<'a> Renames<'a> {
         ensures { OnOk result (RenamesBy with_encoding_names ldfs.entry self.old self.new) }
     {
         let Ldfs { old, new, .. } = ldfs;
-        let all = old.ldf.codings.types.as_slice();
-        let old_names = KnownNames::of(alloc, all)?;
-        let new_names = KnownNames::of(alloc, new.ldf.codings.types.as_slice())?;
-        let olds = encodings::keys(alloc, old, &new_names)?;
-        let news = encodings::keys(alloc, new, &old_names)?;
-        add_names(alloc, &mut self.encodings, all, &olds, &news)
+        let olds = encodings::keys(alloc, old, new)?;
+        let news = encodings::keys(alloc, new, old)?;
+        add_names(
+            alloc,
+            &mut self.encodings,
+            old.ldf.codings.types.as_slice(),
+            &olds,
+            &news,
+        )
     }
 
-    /// Finds the new names of all things.
+    /// Finds the new names of all things. `none` changes no name.
     pub(crate) fn find(
         alloc: Global,
         old: &LdfFacts<'a>,
         new: &LdfFacts<'a>,
+        none: &Renames<'a>,
     ) -> Result<Renames<'a>, AllocError>
         requires old { IsReadOf old.now }
         requires new { IsReadOf new.now }
+        requires none { renames_data none.now ≡ no_renames }
         ensures { IfOk result (λ r. renames_data r
             ≡ all_renames (compared_data old.now.ldf) (compared_data new.now.ldf)) }
     {
-        let none = Renames::none(alloc)?;
         let mut renames = Renames::none(alloc)?;
-        let ldfs = Ldfs {
-            old,
-            new,
-            none: &none,
-        };
+        let ldfs = Ldfs { old, new, none };
         renames.add_nodes(alloc, ldfs)?;
         renames.add_frames(alloc, ldfs)?;
         renames.add_events(alloc, ldfs)?;

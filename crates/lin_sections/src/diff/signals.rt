@@ -11,11 +11,12 @@ ghost use Rattle.lin_sections.specs.SortedTexts.{insert_text};
 ghost use Rattle.lin_sections.specs.Things.{array_text, compared_data, encoding_facts, encoding_of};
 ghost use Rattle.lin_sections.specs.Things.{initial_fact, is_subscriber, signal_thing, size_text};
 ghost use Rattle.lin_sections.specs.Things.{value_facts, with_subscriber, IsReadOf};
-ghost use Rattle.lin_sections.specs.NewNames.{AddsKeys, AreKeys};
+ghost use Rattle.lin_sections.specs.NewNames.{AddsKeys};
+ghost use Rattle.lin_sections.specs.Renames.{AreKeys};
 ghost use Rattle.lin_sections.specs.SignalPlaces.{AddsPlaces, FindsPlaces, WithPlaces, ArePlacesIn};
 
 use crate::diff::compared::LdfFacts;
-use crate::diff::fact::{Class, Fact, Thing, ThingKind};
+use crate::diff::fact::{Class, Fact, Thing, ThingKind, add_fact};
 use crate::diff::fact_text::{FactText, put_hex, put_number, put_word, two_words};
 use crate::diff::header::place_of as place_of_number;
 use crate::diff::index::Index;
@@ -72,7 +73,12 @@ fn initial_fact<'a>(alloc: Global, init: &Init) -> Result<Fact<'a>, AllocError>
 fn is_known(facts: &[Fact<'_>], name: &[u8]) -> bool
     ensures { result ≡ list_any (is_subscriber name.now) facts.now }
 {
-    facts.iter().any(|fact| fact.class.is_compatible() && fact.value.as_slice() == name)
+    for fact in facts {
+        if fact.class.is_compatible() && fact.value.as_slice() == name {
+            return true;
+        }
+    }
+    false
 }
 
 /// Adds a subscriber unless an earlier fact has it.
@@ -122,11 +128,11 @@ fn value_facts<'a>(
     let mut found = Vec::new(alloc);
     let size = size_text(alloc, signal)?;
     let place = place_of_number(signal.size);
-    found.push(Fact::new(FactText::lent(b"size"), size, place, Class::Bytes))?;
+    add_fact(&mut found, b"size", size, place, Class::Bytes)?;
     found.push(initial_fact(alloc, &signal.init)?)?;
     let publisher = FactText::lent(renames.nodes.of(signal.publisher.text.as_slice()));
     let place = place_of(&signal.publisher);
-    found.push(Fact::new(FactText::lent(b"publisher"), publisher, place, Class::Bytes))?;
+    add_fact(&mut found, b"publisher", publisher, place, Class::Bytes)?;
     Ok(found)
 }
 
@@ -144,7 +150,7 @@ fn add_encoding<'a>(
     if let Some(encoding) = encoding {
         let value = FactText::lent(renames.encodings.of(encoding.name.text.as_slice()));
         let place = place_of(&signal.name);
-        facts.push(Fact::new(FactText::lent(b"encoding"), value, place, Class::Meaning))?;
+        add_fact(facts, b"encoding", value, place, Class::Meaning)?;
     }
     Ok(())
 }
@@ -174,10 +180,13 @@ fn thing<'a>(
     let mut found = value_facts(alloc, signal, renames)?;
     add_subscribers(alloc, &mut found, signal.subscribers.as_slice(), renames)?;
     add_encoding(&mut found, signal, encoding_of(facts, signal), renames)?;
-    let name = signal.name.text.as_slice();
-    let names = (name, renames.signals.of(name));
-    let place = place_of(&signal.name);
-    Ok(Thing::new(alloc, ThingKind::Signal, names, place, found))
+    Ok(Thing::named(
+        alloc,
+        ThingKind::Signal,
+        &signal.name,
+        &renames.signals,
+        found,
+    ))
 }
 
 /// Returns the signals as things.
@@ -199,19 +208,10 @@ pub(crate) fn things<'a>(
 }
 
 /// The places in frames of signals, by the names of the signals.
+#[derive(Drop)]
 struct Places<'a> {
     numbers: Index<'a>,
     all: Vec<Many<FactText<'a>>>,
-}
-
-// Written by hand, so that its owners drop it in one step.
-impl<'a> Drop for Places<'a> {
-    fn drop(self) {
-        let Places {
-            numbers: _numbers,
-            all: _all,
-        } = self;
-    }
 }
 
 /// Adds a name if it isn't among `others`.
@@ -271,7 +271,7 @@ impl<'a> Places<'a> {
             all.push(Many::new(Vec::new(alloc)))?;
         }
         Ok(Places {
-            numbers: Index::of(alloc, names)?,
+            numbers: Index::of_ids(alloc, names)?,
             all,
         })
     }
@@ -391,20 +391,22 @@ fn add_key_if_alone<'a>(
     add_key(alloc, keys, signal, places.of(name))
 }
 
-/// Returns the keys of the signals that are in a frame and whose names aren't among `others`: kind, size
-/// and all places.
+/// Returns the keys of the signals that are in a frame and whose names the other LDF doesn't have: kind,
+/// size and all places.
 pub(crate) fn keys<'a>(
     alloc: Global,
     facts: &LdfFacts<'a>,
-    others: &KnownNames<'_>,
+    other: &LdfFacts<'_>,
     renames: &Renames<'a>,
 ) -> Result<Vec<Keyed<'a>>, AllocError>
-    ensures { IfOk result (λ v. AreKeys others.now v.items (signal_keys (compared_data facts.now.ldf) (renames_data renames.now))) }
+    ensures { IfOk result (λ v. AreKeys all_signal_names other.now v.items
+        (signal_keys (compared_data facts.now.ldf) (renames_data renames.now))) }
 {
-    let places = placed_in_frames(alloc, facts, others, renames)?;
+    let others = KnownNames::of(alloc, other.ldf.description.signals())?;
+    let places = placed_in_frames(alloc, facts, &others, renames)?;
     let mut keys = Vec::new(alloc);
     for signal in facts.ldf.description.signals() {
-        add_key_if_alone(alloc, &mut keys, signal, others, &places)?;
+        add_key_if_alone(alloc, &mut keys, signal, &others, &places)?;
     }
     Ok(keys)
 }

@@ -9,22 +9,23 @@ ghost use Rattle.lin_ldf.specs.Symbols.{symbols_in};
 ghost use Rattle.lin_sections.specs.Facts.{place_of_name};
 ghost use Rattle.lin_sections.specs.NewNames.{alone, has_in, keyed_name, renames_data};
 ghost use Rattle.lin_sections.specs.Numbering.{numbered_entries};
-ghost use Rattle.lin_sections.specs.Renames.{table_keys, table_keys_of, words_key};
+ghost use Rattle.lin_sections.specs.Renames.{all_table_names, table_keys, table_keys_of, words_key};
 ghost use Rattle.lin_sections.specs.Statements.{statements};
 ghost use Rattle.lin_sections.specs.Things.{compared_data, entry_facts, entries_in, entry_fact, entry_word};
 ghost use Rattle.lin_sections.specs.Things.{has_command, lines_of_table, load_facts, section_tables};
 ghost use Rattle.lin_sections.specs.Things.{slack_text, named_lines, table_thing, table_thing_of, table_things, text_tables};
-ghost use Rattle.lin_sections.specs.NewNames.{AddsKeys, AreKeys};
+ghost use Rattle.lin_sections.specs.NewNames.{AddsKeys};
+ghost use Rattle.lin_sections.specs.Renames.{AreKeys};
 
 use crate::configurable_lists::name_here;
 use crate::diff::compared::LdfFacts;
-use crate::diff::fact::{Class, EntryFact, Fact, Thing, ThingKind};
+use crate::diff::fact::{Class, EntryFact, Fact, Thing, ThingKind, add_fact};
 use crate::diff::fact_text::{FactText, number_text, put_number};
 use crate::diff::frames::is_added;
 use crate::diff::header::place_of as place_of_number;
 use crate::diff::new_names::{Keyed, KnownNames};
 use crate::diff::nodes::place_of;
-use crate::diff::numbering::numbered_entries;
+use crate::diff::numbering::numbered;
 use crate::diff::renames::Renames;
 use crate::diff::tokens::command_text;
 use crate::skipping::{has_line, pass_line};
@@ -96,14 +97,24 @@ fn add_section<'a>(parser: &Parser<'a>, tables: &mut Vec<TableLines<'a>>) -> Res
 fn has_command(table: &Table) -> bool
     ensures { result ≡ has_command table.now }
 {
-    table.entries.as_slice().iter().any(|entry| entry.has_group)
+    for entry in table.entries.as_slice() {
+        if entry.has_group {
+            return true;
+        }
+    }
+    false
 }
 
 /// Whether one of the tables has a configuration entry.
 fn has_commands(tables: &[Table]) -> bool
     ensures { result ≡ list_any has_command tables.now }
 {
-    tables.iter().any(|table| has_command(table))
+    for table in tables {
+        if has_command(table) {
+            return true;
+        }
+    }
+    false
 }
 
 /// Returns where the entries of the tables begin. The result is empty if no table has a configuration
@@ -195,7 +206,7 @@ fn entries_of<'a>(
         found.push(entry_fact(alloc, word, position, entry)?)?;
         pass_line(&mut line);
     }
-    numbered_entries(alloc, found)
+    numbered(alloc, found)
 }
 
 /// Returns the least slack of a table's slots in microseconds, with `-` if a delay is too short.
@@ -220,11 +231,11 @@ fn load_facts<'a>(
 {
     let mut found = Vec::new(alloc);
     let cycle = FactText::number(alloc, load.cycle_us)?;
-    found.push(Fact::new(FactText::lent(b"cycle"), cycle, place, Class::Timing))?;
+    add_fact(&mut found, b"cycle", cycle, place, Class::Timing)?;
     let thousandths = FactText::number(alloc, load.load)?;
-    found.push(Fact::new(FactText::lent(b"load"), thousandths, place, Class::Timing))?;
+    add_fact(&mut found, b"load", thousandths, place, Class::Timing)?;
     let slack = slack_text(alloc, load)?;
-    found.push(Fact::new(FactText::lent(b"slack"), slack, place, Class::Timing))?;
+    add_fact(&mut found, b"slack", slack, place, Class::Timing)?;
     Ok(found)
 }
 
@@ -355,15 +366,17 @@ fn add_key<'a>(
     Ok(())
 }
 
-/// Returns the keys of the tables whose names aren't among `others`: the words of their entries.
+/// Returns the keys of the tables whose names the other LDF doesn't have: the words of their entries.
 pub(crate) fn keys<'a>(
     alloc: Global,
     facts: &LdfFacts<'a>,
-    others: &KnownNames<'_>,
+    other: &LdfFacts<'_>,
     renames: &Renames<'a>,
 ) -> Result<Vec<Keyed<'a>>, AllocError>
-    ensures { IfOk result (λ v. AreKeys others.now v.items (table_keys (compared_data facts.now.ldf) (renames_data renames.now))) }
+    ensures { IfOk result (λ v. AreKeys all_table_names other.now v.items
+        (table_keys (compared_data facts.now.ldf) (renames_data renames.now))) }
 {
+    let others = KnownNames::of(alloc, other.ldf.description.tables())?;
     let tables = facts.ldf.description.tables();
     let lines = text_tables(alloc, facts.ldf.source, tables)?;
     let numbers = numbers_of(alloc, lines.as_slice())?;
@@ -372,7 +385,7 @@ pub(crate) fn keys<'a>(
         add_key(
             alloc,
             &mut keys,
-            (table, others),
+            (table, &others),
             &numbers,
             lines.as_slice(),
             renames,

@@ -1,8 +1,7 @@
 //! The differences between two LDFs, thing by thing.
 
 ghost use Rattle.std.specs.Prelude.{◌≡◌, ◌++◌, IfOk, OnOk, flat_map, map};
-ghost use Rattle.std.specs.Option.{option_copied};
-ghost use Rattle.lin_sections.specs.Differences.{all_differences, differences_data, kind_differences, thing_named, new_thing, old_thing, thing_differences};
+ghost use Rattle.lin_sections.specs.Differences.{all_differences, differences_data, kind_differences, new_thing, old_thing, thing_differences};
 ghost use Rattle.lin_sections.specs.Numbering.{ArePlaces};
 ghost use Rattle.lin_sections.specs.Differences.{AddsDifferences};
 
@@ -10,7 +9,7 @@ use crate::diff::difference::{Difference, named, thing_difference};
 use crate::diff::entry_pairs::add_entries;
 use crate::diff::fact::{Class, Thing};
 use crate::diff::fact_pairs::{add_new_facts, add_old_facts};
-use crate::diff::index::Index;
+use crate::diff::index::{Identified, Index};
 use lin_text::Many;
 use std::alloc::{AllocError, Global};
 
@@ -32,32 +31,6 @@ fn add_thing<'t>(
     add_entries(alloc, found, old, new)
 }
 
-/// Returns the new names of things.
-fn names_of<'t>(alloc: Global, things: &'t [Thing<'_>]) -> Result<Vec<&'t [u8]>, AllocError>
-    ensures { IfOk result (λ v. map (λ n. n.now) v.items ≡ map (λ t. t.new_name) things.now) }
-{
-    let mut names = Vec::with_capacity(alloc, things.len())?;
-    for thing in things {
-        names.push(thing.new_name.as_slice())?;
-    }
-    Ok(names)
-}
-
-/// Returns the thing with a new name. `index` has the places of all new names.
-fn thing_named<'t, 'a>(
-    things: &'t [Thing<'a>],
-    index: &Index<'_>,
-    name: &[u8],
-) -> Option<&'t Thing<'a>>
-    requires { ArePlaces (map (λ t. t.new_name) things.now) index.now.map }
-    ensures { option_copied result ≡ thing_named name.now things.now }
-{
-    match index.place_of(name) {
-        Some(place) => things.get(place),
-        None => None,
-    }
-}
-
 /// Adds the differences of a thing of the old LDF.
 fn add_old_thing<'t>(
     alloc: Global,
@@ -69,7 +42,7 @@ fn add_old_thing<'t>(
     requires { ArePlaces (map (λ t. t.new_name) news.now) index.now.map }
     ensures { OnOk result (AddsDifferences found.old.items found.new.items (old_thing news.now old.now)) }
 {
-    match thing_named(news, index, old.new_name.as_slice()) {
+    match index.find(news, old.new_name.as_slice()) {
         Some(new) => add_thing(alloc, found, old, new),
         None => {
             let class = old.kind.class_if_gone();
@@ -88,8 +61,7 @@ fn add_old_things<'t>(
 ) -> Result<(), AllocError>
     ensures { OnOk result (AddsDifferences found.old.items found.new.items (flat_map (old_thing news.now) olds.now)) }
 {
-    let names = names_of(alloc, news)?;
-    let index = Index::of(alloc, names.as_slice())?;
+    let index = Index::of(alloc, news)?;
     for old in olds {
         add_old_thing(alloc, found, old, news, &index)?;
     }
@@ -106,7 +78,7 @@ fn add_new_thing<'t>(
     requires { ArePlaces (map (λ t. t.new_name) olds.now) index.now.map }
     ensures { OnOk result (AddsDifferences found.old.items found.new.items (new_thing olds.now new.now)) }
 {
-    if thing_named(olds, index, new.new_name.as_slice()).is_some() {
+    if index.find(olds, new.new_name.as_slice()).is_some() {
         return Ok(());
     }
     let class = new.kind.class_if_new();
@@ -123,8 +95,7 @@ fn add_new_things<'t>(
 ) -> Result<(), AllocError>
     ensures { OnOk result (AddsDifferences found.old.items found.new.items (flat_map (new_thing olds.now) news.now)) }
 {
-    let names = names_of(alloc, olds)?;
-    let index = Index::of(alloc, names.as_slice())?;
+    let index = Index::of(alloc, olds)?;
     for new in news {
         add_new_thing(found, olds, new, &index)?;
     }

@@ -17,7 +17,7 @@ ghost use Rattle.lin_values.specs.Shown.{quoted_text};
 
 use crate::attribute_blocks::{Attribute, attribute_here};
 use crate::attribute_values::if_read;
-use crate::diff::fact_text::{FactText, put_number, put_word};
+use crate::diff::fact_text::{FactText, put_number, put_quoted, put_word};
 use crate::diff::renames::Renames;
 use crate::shown_texts::shown_text;
 use crate::skipping::{depth_behind, has_line};
@@ -84,16 +84,12 @@ pub(crate) fn between_quotes(text: &[u8]) -> &[u8]
 }
 
 /// Appends the shown form of a string, in quotes.
-#[tactic(auto, using(crate::proofs::FactSteps::word_goes_on))]
-fn put_quoted(text: &mut Vec<u8>, alloc: Global, token: &[u8]) -> Result<(), AllocError>
+fn put_string(text: &mut Vec<u8>, alloc: Global, token: &[u8]) -> Result<(), AllocError>
     ensures { OnOk result
         (text.new.items ≡ with_word text.old.items (quoted_text (shown_text (without_quotes token.now)))) }
 {
     let shown = shown_text(alloc, between_quotes(token))?;
-    put_word(text, b"\"")?;
-    text.extend_from_slice(shown.as_slice())?;
-    text.push(b'"')?;
-    Ok(())
+    put_quoted(text, shown.as_slice())
 }
 
 /// Appends a number: an integer of up to 32 bits in decimal, any other number as the LDF has it.
@@ -130,7 +126,7 @@ fn put_token<'a>(
         (text.new.items ≡ with_word text.old.items (token_text (spelling_of spelling.entry) (front parser.now))) }
 {
     match kind {
-        TokenKind::Text => put_quoted(text, parser.alloc(), parser.text()),
+        TokenKind::Text => put_string(text, parser.alloc(), parser.text()),
         TokenKind::Word => put_word(text, spelling.word(parser.text())),
         TokenKind::Number if spelling.has_decimals() => put_decimal_token(text, parser),
         _ => put_word(text, parser.text()),

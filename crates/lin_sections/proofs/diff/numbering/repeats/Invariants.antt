@@ -2,8 +2,8 @@ use Rattle.std.proofs.Common.{◌≡◌, map, take}
 use Rattle.lin_sections.specs.Numbering.{repeats, AreTextCounts}
 use Rattle.lin_sections.proofs.diff.numbering.repeats.Given as goal
 
-abbrev pub invariant-loop-place : goal.invariant-loop-place
-invariant-loop-place l = record {
-  repeats : l.repeats.items ≡ repeats (take l.place (map (λ t. t.now) l.texts));
-  counts : AreTextCounts (take l.place (map (λ t. t.now) l.texts)) l.counts.map;
+abbrev pub invariant-loop-one : goal.invariant-loop-one
+invariant-loop-one g l = record {
+  repeats : l.repeats.items ≡ repeats (take l.one-index (map g.T.Repeatable.text_of l.all));
+  counts : AreTextCounts (take l.one-index (map g.T.Repeatable.text_of l.all)) l.counts.map;
 }

@@ -1,10 +1,9 @@
 use Rattle.std.proofs.Common.{◌∙◌, List, map, ap}
 use Rattle.std.specs.Option.{option_or}
 use Rattle.std.proofs.lemmas.Result.{on_ok_weaker}
-use Rattle.lin_sections.specs.NewNames.{has_in, is_among, keyed_name, known_by, new_names, renames_data, KeyedName, NameMap}
+use Rattle.lin_sections.specs.NewNames.{keyed_name, known_by, new_names, renames_data, KeyedName, NameMap}
 use Rattle.lin_sections.specs.Renames.{encoding_keys, all_encoding_names}
 use Rattle.lin_sections.specs.Things.{compared_data, ComparedData}
-use Rattle.lin_values.specs.declared.codings.CodingType.{CodingType}
 use Rattle.lin_sections.proofs.RenamedKinds.{kind-named}
 use Rattle.lin_sections.proofs.diff.renames.Renames.add_encodings.Goals as goal
 
@@ -17,10 +16,8 @@ returns c =
     let news : List KeyedName = map keyed_name c.in_ok-news.news.items in
     on_ok_weaker c.add_names.result
     (λ is. ap (λ (x : NameMap). record (renames_data c.args.self.now) { encodings = x })
-    (kind-named (all_encoding_names old) (all_encoding_names new) (has_in c.in_ok-old_names.old_names.map) (has_in c.in_ok-new_names.new_names.map)
+    (kind-named (all_encoding_names old) (all_encoding_names new)
     (encoding_keys old) (encoding_keys new) olds news known (known_by c.add_names.new.names)
-    (λ q. c.in_ok-old_names.ensures q ∙ ap (λ (xs : List CodingType). is_among (map (λ x. x.name.text) xs) q) c.as_slice-all.ensures)
-    (λ q. c.in_ok-new_names.ensures q ∙ ap (λ (xs : List CodingType). is_among (map (λ x. x.name.text) xs) q) c.as_slice.ensures)
     c.in_ok-olds.ensures c.in_ok-news.ensures
-    (λ q. is q ∙ (λ j. option_or (known q) (new_names (map (λ x. x.name.text) (c.as_slice-all.ensures j)) olds news q)))))
+    (λ q. is q ∙ (λ j. option_or (known q) (new_names (map (λ x. x.name.text) (c.as_slice.ensures j)) olds news q)))))
     c.add_names.ensures

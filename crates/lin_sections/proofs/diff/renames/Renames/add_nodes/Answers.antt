@@ -3,7 +3,7 @@ use Rattle.std.specs.Option.{option_or}
 use Rattle.std.specs.Str.{bytes_eq}
 use Rattle.std.proofs.lemmas.Result.{on_ok_weaker}
 use Rattle.lin_parts.specs.declared.description.Name.{Name}
-use Rattle.lin_sections.specs.NewNames.{has_in, keyed_name, known_by, renamed_in, renames_data, stays, NameMap}
+use Rattle.lin_sections.specs.NewNames.{keyed_name, known_by, renamed_in, renames_data, stays, NameMap}
 use Rattle.lin_sections.specs.Renames.{node_keys, all_node_names}
 use Rattle.lin_sections.specs.Things.{compared_data}
 use Rattle.lin_sections.proofs.RenamedKinds.{kind-named, nodes-named}
@@ -16,10 +16,10 @@ returns c =
     let d = old.description.now in
     on_ok_weaker c.add_all.result
     (λ is. ap (λ (x : NameMap). record (renames_data c.args.self.now) { nodes = x })
-    (kind-named (all_node_names d) (all_node_names new.description.now) (has_in c.in_ok-old_names.old_names.map) (has_in c.in_ok-new_names.new_names.map)
+    (kind-named (all_node_names d) (all_node_names new.description.now)
     (node_keys (compared_data old)) (node_keys (compared_data new)) (map keyed_name c.in_ok-olds.olds.items) (map keyed_name c.in_ok-news.news.items)
     (known_by c.args.self.now.nodes) (known_by c.add_all.new.self)
-    c.in_ok-old_names.ensures c.in_ok-new_names.ensures c.in_ok-olds.ensures c.in_ok-news.ensures
+    c.in_ok-olds.ensures c.in_ok-news.ensures
     (nodes-named d.master.text (map (λ n. n.text) d.slaves) (map keyed_name c.in_ok-olds.olds.items) (map keyed_name c.in_ok-news.news.items)
     (known_by c.args.self.now.nodes) (known_by c.add_renamed.new.self) (known_by c.add.new.self) (known_by c.add_all.new.self)
     (λ q. c.in_ok-add_renamed.ensures q

@@ -1,8 +1,7 @@
 use Rattle.std.proofs.Common.{◌∙◌, List, map, ap}
 use Rattle.std.specs.Option.{option_or}
 use Rattle.std.proofs.lemmas.Result.{on_ok_weaker}
-use Rattle.lin_parts.specs.declared.description.Sporadic.{Sporadic}
-use Rattle.lin_sections.specs.NewNames.{alone, has_in, is_among, keyed_name, known_by, new_names, no_renames, renames_data, KeyedName, NameMap, RenamesData}
+use Rattle.lin_sections.specs.NewNames.{alone, is_among, keyed_name, known_by, new_names, no_renames, renames_data, KeyedName, NameMap, RenamesData}
 use Rattle.lin_sections.specs.Renames.{sporadic_keys, all_sporadic_names}
 use Rattle.lin_sections.specs.Things.{compared_data, ComparedData}
 use Rattle.lin_sections.proofs.RenamedKinds.{kind-named}
@@ -17,10 +16,8 @@ returns c =
     let news : List KeyedName = map keyed_name c.in_ok-news.news.items in
     on_ok_weaker c.add_names.result
     (λ is. ap (λ (x : NameMap). record (renames_data c.args.self.now) { frames = x })
-    (kind-named (all_sporadic_names old) (all_sporadic_names new) (has_in c.in_ok-old_names.old_names.map) (has_in c.in_ok-new_names.new_names.map)
+    (kind-named (all_sporadic_names old) (all_sporadic_names new)
     (sporadic_keys old (renames_data c.args.self.now)) (sporadic_keys new no_renames) olds news known (known_by c.add_names.new.names)
-    (λ q. c.in_ok-old_names.ensures q ∙ ap (λ (xs : List Sporadic). is_among (map (λ x. x.name.text) xs) q) c.sporadic-all.ensures)
-    (λ q. c.in_ok-new_names.ensures q ∙ ap (λ (xs : List Sporadic). is_among (map (λ x. x.name.text) xs) q) c.sporadic.ensures)
-    c.in_ok-olds.ensures (c.in_ok-news.ensures ∙ ap (λ (x : RenamesData). alone (has_in c.in_ok-old_names.old_names.map) (sporadic_keys new x)) c.requires)
-    (λ q. is q ∙ (λ j. option_or (known q) (new_names (map (λ x. x.name.text) (c.sporadic-all.ensures j)) olds news q)))))
+    c.in_ok-olds.ensures (c.in_ok-news.ensures ∙ ap (λ (x : RenamesData). alone (is_among (all_sporadic_names old)) (sporadic_keys new x)) c.requires)
+    (λ q. is q ∙ (λ j. option_or (known q) (new_names (map (λ x. x.name.text) (c.sporadic.ensures j)) olds news q)))))
     c.add_names.ensures
