@@ -32,7 +32,7 @@ fn chain_lengths(alloc: Global, places: &[usize]) -> Result<Vec<usize>, AllocErr
     ensures number { IfOk result (λ all. length all.items ≡ length places.now) }
     ensures short { IfOk result (λ all. (i : ℕ) → i < length all.items → slice_index all.items i ≤ i + 1) }
 {
-    let mut lengths = Vec::with_capacity(alloc, places.len())?;
+    let mut lengths = Vec::new(alloc);
     let mut most = 0usize;
     for place in places {
         let length = longest_before(places, lengths.as_slice(), *place, most) + 1;
@@ -92,7 +92,7 @@ pub(crate) fn moved(alloc: Global, places: &[usize]) -> Result<Vec<bool>, AllocE
     ensures { IfOk result (λ all. all.items ≡ moved_flags places.now) }
 {
     let lengths = chain_lengths(alloc, places)?;
-    let mut moved = Vec::with_capacity(alloc, places.len())?;
+    let mut moved = Vec::new(alloc);
     for _place in places {
         moved.push(true)?;
     }

@@ -211,7 +211,7 @@ pub(crate) fn first_types<'a>(
     requires { NumbersFirst (λ t. t.name) types.now numbers.now.map }
     ensures { IfOk result (λ v. map (λ t. t.now) v.items ≡ first_types [] types.now) }
 {
-    let mut firsts = Vec::with_capacity(alloc, types.len())?;
+    let mut firsts = Vec::new(alloc);
     for number in 0..types.len() {
         add_first(&mut firsts, types, numbers, number, &types[number])?;
     }
@@ -230,7 +230,7 @@ pub(crate) fn things<'a>(
 {
     let types = facts.types.as_slice();
     let mut scratch = Scratch::new(alloc);
-    let mut things = Vec::with_capacity(alloc, types.len())?;
+    let mut things = Vec::new(alloc);
     for coding in types {
         things.push(thing(alloc, &mut scratch, *coding, renames)?)?;
     }

@@ -131,7 +131,7 @@ fn moved_entries(alloc: Global, count: usize, places: &[usize]) -> Result<Vec<bo
     ensures { IfOk result (λ v. v.items ≡ map (was_moved places.now) (range_with_len 0 count)) }
 {
     let by_pair = moved(alloc, places)?;
-    let mut by_place = Vec::with_capacity(alloc, count)?;
+    let mut by_place = Vec::new(alloc);
     for _place in 0..count {
         by_place.push(false)?;
     }

@@ -183,21 +183,6 @@ impl<'b, 'a> FrameLookups<'b, 'a> {
         Ok(())
     }
 
-    /// Returns the bits of the protected identifier in a member of an event-triggered frame, and no bits
-    /// for other frames.
-    fn identifier_bits(&self, alloc: Global, frame: &Frame) -> Result<Vec<Bits>, AllocError>
-        requires { AreFrameLookups self.now }
-        ensures { IfOk result (λ v. v.items
-            ≡ (if is_in_an_event self.now.facts.now.ldf.description.now frame.now
-            then record { from = 0; end = 8 } ∷ [] else [])) }
-    {
-        let mut taken = Vec::new(alloc);
-        if self.members.has(frame.name.text.as_slice()) {
-            taken.push(Bits { from: 0, end: 8 })?;
-        }
-        Ok(taken)
-    }
-
     /// Adds the bits of signals.
     fn add_bits(&self, taken: &mut Vec<Bits>, all: &[PlacedSignal]) -> Result<(), AllocError>
         requires { AreFrameLookups self.now }
@@ -216,7 +201,10 @@ impl<'b, 'a> FrameLookups<'b, 'a> {
         ensures { IfOk result (λ v. v.items
             ≡ taken_bits self.now.facts.now.ldf.description.now frame.now) }
     {
-        let mut taken = self.identifier_bits(alloc, frame)?;
+        let mut taken = Vec::new(alloc);
+        if self.members.has(frame.name.text.as_slice()) {
+            taken.push(Bits { from: 0, end: 8 })?;
+        }
         self.add_bits(&mut taken, frame.placed.as_slice())?;
         Ok(taken)
     }

@@ -74,7 +74,7 @@ fn repeats<T: Repeatable>(alloc: Global, all: &[T]) -> Result<Vec<usize>, AllocE
     let mut counts = TextCounts {
         map: IndexMap::with_capacity(alloc, 0)?,
     };
-    let mut repeats = Vec::with_capacity(alloc, all.len())?;
+    let mut repeats = Vec::new(alloc);
     for one in all {
         repeats.push(counts.count(one.text())?)?;
     }

@@ -266,7 +266,7 @@ impl<'a> Places<'a> {
     fn new(alloc: Global, names: &[&'a [u8]]) -> Result<Places<'a>, AllocError>
         ensures { IfOk result (λ p. ArePlacesOf (map (λ n. n.now) names.now) (λ q. []) p) }
     {
-        let mut all = Vec::with_capacity(alloc, names.len())?;
+        let mut all = Vec::new(alloc);
         for _name in names {
             all.push(Many::new(Vec::new(alloc)))?;
         }
