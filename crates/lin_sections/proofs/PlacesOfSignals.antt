@@ -1,6 +1,8 @@
 -- The places of signals, one by one.
-use Rattle.std.proofs.Common.{◌≡◌, ◌≢◌, ◌∙◌, ◌+◌, ◌<◌, ◌≤◌, ℕ, zero, suc, Bool, true, false, cond, List, [], ◌∷◌, ◌++◌, length, map, flat_map, take, get_or, set, replicate, refl, sym, ap, arith, append-nil}
+use Rattle.std.proofs.Common.{◌≡◌, ◌≢◌, ◌∙◌, ◌+◌, ◌<◌, ◌≤◌, ℕ, zero, suc, Bool, true, false, cond, List, [], ◌∷◌, ◌++◌, length, map, flat_map, take, get_or, set, Some, None, refl, sym, ap, arith, append-nil}
 use Rattle.std.specs.Prelude.{◌||◌, filter, fold, not}
+use Rattle.std.specs.List.{position_from}
+use Rattle.std.specs.Option.{option_or}
 use Rattle.std.specs.Str.{bytes_eq}
 use Rattle.std.proofs.lemmas.List.{get_or-set_other, get_or-set_same, map-append, take_more}
 use Rattle.std.proofs.lemmas.List.Concat.{flat_map-append}
@@ -10,13 +12,43 @@ use Rattle.lin_cluster.proofs.NamesFound.{any-within, one-text, same-text, text-
 use Rattle.lin_parts.specs.declared.description.Signal.{Signal}
 use Rattle.lin_sections.specs.NewNames.{alone, is_among}
 use Rattle.lin_sections.specs.Renames.{signal_key}
-use Rattle.lin_sections.specs.SignalPlaces.{number_among, places_under, with_place}
+use Rattle.lin_sections.specs.Numbering.{ArePlaces}
+use Rattle.lin_sections.specs.SignalPlaces.{number_among, places_under, with_place, without_places, ArePlacesOf}
+use Rattle.lin_sections.specs.declared.diff.signals.Places.{Places}
+use Rattle.lin_sections.proofs.Found.{mapped-length}
 use Rattle.lin_sections.specs.SortedTexts.{insert_text}
 
-pub no-places : (k n : ℕ) → get_or {A = List (List ℕ)} (replicate k []) n [] ≡ []
-no-places zero n = refl
-no-places (suc k) zero = refl
-no-places (suc k) (suc n) = no-places k n
+no-places : (names : List (List ℕ)) (n : ℕ) → get_or (without_places names) n [] ≡ []
+no-places [] n = refl
+no-places (t ∷ names) zero = refl
+no-places (t ∷ names) (suc n) = no-places names n
+
+pub all-without : (names : List (List ℕ)) (p : Places) → ArePlaces names p.numbers.map → p.all.items ≡ without_places names → ArePlacesOf names (λ q. []) p
+all-without names p numbers all = record {
+  numbers = numbers;
+  size = ap (λ ps. length ps) all ∙ mapped-length (λ (n : List ℕ). []) names;
+  each = λ q among. ap (λ ps. get_or ps (number_among names q) []) all ∙ no-places names (number_among names q);
+}
+
+-- without names, each place is one of theirs
+pub of-none : (names : List (List ℕ)) (places more : List ℕ → List (List ℕ)) (p : Places) → length p.all.items ≡ 0 → ArePlacesOf names places p → ArePlacesOf names more p
+of-none [] places more p none are = record {
+  numbers = are.numbers;
+  size = are.size;
+  each = λ q among. absurd cc;
+}
+of-none (n ∷ names) places more p none are = absurd (omega (arith, are.size))
+
+-- a name more has the next number
+pub number-behind : (names : List (List ℕ)) (k : ℕ) (name q : List ℕ)
+    → position_from (λ t. bytes_eq t q) k (names ++ name ∷ [])
+    ≡ option_or (position_from (λ t. bytes_eq t q) k names) (cond (bytes_eq name q) (Some (k + length names)) None)
+number-behind [] k name q = ap (λ n. cond (bytes_eq name q) (Some n) None) (omega arith)
+number-behind (t ∷ names) k name q =
+    elim (bytes_eq t q) as (λ b. cond b (Some k) (position_from (λ u. bytes_eq u q) (k + 1) (names ++ name ∷ [])) ≡ option_or (cond b (Some k) (position_from (λ u. bytes_eq u q) (k + 1) names)) (cond (bytes_eq name q) (Some (k + suc (length names))) None)) [
+      | true ↦ refl
+      | false ↦ number-behind names (k + 1) name q ∙ ap (λ n. option_or (position_from (λ u. bytes_eq u q) (k + 1) names) (cond (bytes_eq name q) (Some n) None)) (omega arith)
+    ]
 
 -- a place more of a signal that has a number
 pub place-added : (names : List (List ℕ)) (all : List (List (List ℕ))) (places : List ℕ → List (List ℕ)) (signal place : List ℕ) (n : ℕ)

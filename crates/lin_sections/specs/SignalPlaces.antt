@@ -1,5 +1,5 @@
 -- What the code keeps of the places of signals.
-use Rattle.std.specs.Prelude.{◌≡◌, ℕ, List, [], false, filter, fold, if◌then◌else◌, length, not, slice_index_or, true}
+use Rattle.std.specs.Prelude.{◌≡◌, ◌++◌, ℕ, List, [], false, filter, fold, if◌then◌else◌, length, map, not, slice_index_or, true}
 use Rattle.std.specs.List.{position_or_len}
 use Rattle.std.specs.Str.{bytes_eq}
 use Rattle.lin_parts.specs.declared.description.Frame.{Frame}
@@ -23,6 +23,20 @@ pub record ArePlacesOf (names : List (List ℕ)) (places : List ℕ → List (Li
   pub numbers : ArePlaces names p.numbers.map
   pub size : length p.all.items ≡ length names
   pub each : (q : List ℕ) → is_among names q ≡ true → places_under names p.all.items q ≡ places q
+
+-- the names that aren't among other names
+abbrev pub alone_names : KnownNames → List (List ℕ) → List (List ℕ)
+alone_names others names = filter (λ n. not (has_in others.map n)) names
+
+-- of each name, no places
+abbrev pub without_places : List (List ℕ) → List (List (List ℕ))
+without_places names = map (λ n. []) names
+
+-- names were numbered behind the names of all places
+abbrev pub NumbersAlone : Places → Places → List (List ℕ) → Type 0
+NumbersAlone before after more =
+    (names : List (List ℕ)) → length before.all.items ≡ length names
+    → ArePlaces names before.numbers.map → ArePlaces (names ++ more) after.numbers.map
 
 -- one place more, of a signal
 abbrev pub with_place : (List ℕ → List (List ℕ)) → List ℕ → List ℕ → List ℕ → List (List ℕ)
@@ -54,4 +68,4 @@ WithPlaces p others signal holds =
 -- the places of the signals of an LDF that aren't among other names
 abbrev pub ArePlacesIn : ComparedData → KnownNames → RenamesData → Places → Type 0
 ArePlacesIn d others r p =
-    ArePlacesOf (filter (λ n. not (has_in others.map n)) (all_signal_names d)) (all_places d r) p
+    ArePlacesOf (alone_names others (all_signal_names d)) (all_places d r) p

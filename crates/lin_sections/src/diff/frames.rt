@@ -10,7 +10,7 @@ ghost use Rattle.lin_sections.specs.Renames.{all_event_names, all_frame_names, a
 ghost use Rattle.lin_sections.specs.Renames.{event_keys, frame_keys, number_key, sporadic_keys, sporadic_key};
 ghost use Rattle.lin_sections.specs.SortedTexts.{sorted_texts};
 ghost use Rattle.lin_sections.specs.Things.{bits_in, signal_bits, compared_data, event_thing, frame_thing, id_fact};
-ghost use Rattle.lin_sections.specs.Things.{frame_things, is_event_member, is_in_an_event, member_names, model_text, own_facts, place_fact};
+ghost use Rattle.lin_sections.specs.Things.{frame_things, is_event_member, member_names, model_text, own_facts, place_fact};
 ghost use Rattle.lin_sections.specs.Things.{place_of_first, placed_fact, sporadic_thing, table_facts, taken_bits};
 ghost use Rattle.lin_sections.specs.NewNames.{AddsKeys};
 ghost use Rattle.lin_sections.specs.Renames.{AreKeys};

@@ -1,6 +1,6 @@
 //! An index of things, facts or entries.
 
-ghost use Rattle.std.specs.Prelude.{◌≡◌, ℕ, IfOk, List, find, map};
+ghost use Rattle.std.specs.Prelude.{◌≡◌, ℕ, IfOk, List, [], find, map};
 ghost use Rattle.std.specs.List.{position_from};
 ghost use Rattle.std.specs.Option.{option_copied};
 ghost use Rattle.std.specs.Str.{bytes_eq};
@@ -47,17 +47,13 @@ impl<'k> Index<'k> {
         Ok(index)
     }
 
-    /// Makes the index of identifiers.
-    pub(crate) fn of_ids(alloc: Global, ids: &[&'k [u8]]) -> Result<Index<'k>, AllocError>
-        ensures { IfOk result (λ index. ArePlaces (map (λ i. i.now) ids.now) index.map) }
+    /// Makes an empty index.
+    pub(crate) fn new(alloc: Global) -> Result<Index<'k>, AllocError>
+        ensures { IfOk result (λ index. ArePlaces [] index.map) }
     {
-        let mut index = Index {
-            map: IndexMap::with_capacity(alloc, ids.len())?,
-        };
-        for place in 0..ids.len() {
-            put_first(&mut index.map, ids[place], place)?;
-        }
-        Ok(index)
+        Ok(Index {
+            map: IndexMap::with_capacity(alloc, 0)?,
+        })
     }
 
     /// Returns the place of the first one with an identifier.

@@ -6,7 +6,7 @@ ghost use Rattle.std.specs.List.{list_any};
 ghost use Rattle.lin_sections.specs.NewNames.{alone, has_in, is_among, keyed_name, renames_data};
 ghost use Rattle.lin_sections.specs.Numbering.{ArePlaces};
 ghost use Rattle.lin_sections.specs.Renames.{all_places, place_text, signal_key, signal_keys, all_signal_names};
-ghost use Rattle.lin_sections.specs.SignalPlaces.{number_among, with_places_in, with_place, ArePlacesOf};
+ghost use Rattle.lin_sections.specs.SignalPlaces.{alone_names, number_among, with_places_in, with_place, without_places, ArePlacesOf, NumbersAlone};
 ghost use Rattle.lin_sections.specs.SortedTexts.{insert_text};
 ghost use Rattle.lin_sections.specs.Things.{array_text, compared_data, encoding_facts, encoding_of};
 ghost use Rattle.lin_sections.specs.Things.{initial_fact, is_subscriber, signal_thing, size_text};
@@ -26,7 +26,7 @@ use crate::diff::renames::Renames;
 use crate::diff::sorted::{insert_sorted, joined};
 use lin_parts::description::{Frame, Init, Name, Number, PlacedSignal, Signal};
 use lin_text::Many;
-use lin_values::CodingType;
+use lin_values::{CodingType, put_first};
 use std::alloc::{AllocError, Global};
 
 /// Returns the size of a signal in bits, after `array` if it is an array.
@@ -214,38 +214,6 @@ struct Places<'a> {
     all: Vec<Many<FactText<'a>>>,
 }
 
-/// Adds a name if it isn't among `others`.
-#[tactic(auto, using(crate::proofs::StatementSteps::nothing_more))]
-fn add_alone<'a>(
-    names: &mut Vec<&'a [u8]>,
-    name: &'a [u8],
-    others: &KnownNames<'_>,
-) -> Result<(), AllocError>
-    ensures { OnOk result (map (λ n. n.now) names.new.items ≡ map (λ n. n.now) names.old.items
-        ++ filter (λ n. not (has_in others.now.map n)) (name.now ∷ [])) }
-{
-    if !others.has(name) {
-        names.push(name)?;
-    }
-    Ok(())
-}
-
-/// Returns the names of the signals whose names aren't among `others`.
-fn alone<'a>(
-    alloc: Global,
-    signals: &'a [Signal],
-    others: &KnownNames<'_>,
-) -> Result<Vec<&'a [u8]>, AllocError>
-    ensures { IfOk result (λ v. map (λ n. n.now) v.items
-        ≡ filter (λ n. not (has_in others.now.map n)) (map (λ s. s.name.text) signals.now)) }
-{
-    let mut names = Vec::new(alloc);
-    for signal in signals {
-        add_alone(&mut names, signal.name.text.as_slice(), others)?;
-    }
-    Ok(names)
-}
-
 /// Returns a place in a frame: the name of the frame and the offset.
 #[tactic(auto, using(crate::proofs::FactSteps::word_goes_on))]
 fn place_text<'a>(
@@ -262,18 +230,42 @@ fn place_text<'a>(
 }
 
 impl<'a> Places<'a> {
-    /// Makes an empty collection for the signals with these names.
-    fn new(alloc: Global, names: &[&'a [u8]]) -> Result<Places<'a>, AllocError>
-        ensures { IfOk result (λ p. ArePlacesOf (map (λ n. n.now) names.now) (λ q. []) p) }
+    /// Adds a signal without places if its name isn't among `others`.
+    fn add_alone(
+        &mut self,
+        alloc: Global,
+        name: &'a [u8],
+        others: &KnownNames<'_>,
+    ) -> Result<(), AllocError>
+        ensures numbers { OnOk result (NumbersAlone self.old self.new (alone_names others.now (name.now ∷ []))) }
+        ensures all { OnOk result (self.new.all.items
+            ≡ self.old.all.items ++ without_places (alone_names others.now (name.now ∷ []))) }
     {
-        let mut all = Vec::new(alloc);
-        for _name in names {
-            all.push(Many::new(Vec::new(alloc)))?;
+        if others.has(name) {
+            return Ok(());
         }
-        Ok(Places {
-            numbers: Index::of_ids(alloc, names)?,
-            all,
-        })
+        put_first(&mut self.numbers.map, name, self.all.len())?;
+        self.all.push(Many::new(Vec::new(alloc)))?;
+        Ok(())
+    }
+
+    /// Makes a collection without places for the signals whose names aren't among `others`.
+    fn new(
+        alloc: Global,
+        signals: &'a [Signal],
+        others: &KnownNames<'_>,
+    ) -> Result<Places<'a>, AllocError>
+        ensures { IfOk result (λ p. ArePlacesOf
+            (alone_names others.now (map (λ s. s.name.text) signals.now)) (λ q. []) p) }
+    {
+        let mut places = Places {
+            numbers: Index::new(alloc)?,
+            all: Vec::new(alloc),
+        };
+        for signal in signals {
+            places.add_alone(alloc, signal.name.text.as_slice(), others)?;
+        }
+        Ok(places)
     }
 
     /// Returns the number of a signal, or the number of all signals if it isn't among them.
@@ -340,9 +332,8 @@ fn placed_in_frames<'a>(
     ensures { IfOk result
         (λ p. ArePlacesIn (compared_data facts.now.ldf) others.now (renames_data renames.now) p) }
 {
-    let names = alone(alloc, facts.ldf.description.signals(), others)?;
-    let mut places = Places::new(alloc, names.as_slice())?;
-    if names.is_empty() {
+    let mut places = Places::new(alloc, facts.ldf.description.signals(), others)?;
+    if places.all.is_empty() {
         return Ok(places);
     }
     for frame in facts.ldf.description.frames() {

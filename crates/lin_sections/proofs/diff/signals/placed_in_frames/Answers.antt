@@ -1,13 +1,15 @@
-use Rattle.std.proofs.Common.{◌≡◌, ◌∙◌, ◌<◌, ℕ, List, length, get_or, flat_map, take, ap, subst}
+use Rattle.std.proofs.Common.{◌≡◌, ◌∙◌, ◌<◌, ℕ, List, [], length, get_or, flat_map, map, take, ap, arith, subst, sym}
 use Rattle.std.specs.Prelude.{filter, fold, not}
 use Rattle.std.proofs.Math.Path.{fun_ext}
+use Rattle.std.proofs.lemmas.Bool.{eqb-true}
 use Rattle.lin_parts.specs.declared.description.Frame.{Frame}
+use Rattle.lin_parts.specs.declared.description.Signal.{Signal}
 use Rattle.lin_sections.specs.NewNames.{has_in, renames_data, RenamesData}
-use Rattle.lin_sections.specs.Renames.{places_in, all_signal_names}
-use Rattle.lin_sections.specs.SignalPlaces.{ArePlacesOf}
+use Rattle.lin_sections.specs.Renames.{all_places, all_signal_names, places_in}
+use Rattle.lin_sections.specs.SignalPlaces.{alone_names, ArePlacesOf}
 use Rattle.lin_sections.specs.SortedTexts.{insert_text, sorted_texts}
-use Rattle.lin_sections.specs.Things.{compared_data}
-use Rattle.lin_sections.proofs.PlacesOfSignals.{frame-placed}
+use Rattle.lin_sections.specs.Things.{compared_data, ComparedData}
+use Rattle.lin_sections.proofs.PlacesOfSignals.{frame-placed, of-none}
 use Rattle.lin_sections.proofs.diff.signals.placed_in_frames.Goals as goal
 
 pub loop-frame-preserved : goal.loop-frame-preserved
@@ -23,3 +25,11 @@ loop-frame-preserved c =
     subst (λ (f : List ℕ → List (List ℕ)). ArePlacesOf names f c.add_frame.new.self)
     (fun_ext (λ q. ap (λ (f : Frame). fold insert_text (before q) (places_in r q f)) is ∙ frame-placed (places_in r q) xs i x lt))
     (c.in_ok-add_frame.ensures names before c.loop-frame.invariant)
+
+pub returns-then-is_empty : goal.returns-then-is_empty
+returns-then-is_empty c =
+    let d : ComparedData = compared_data c.args.facts.now.ldf in
+    let end : c.in_ok-places.places.all.len ≡ 0 = eqb-true c.in_ok-places.places.all.len 0 (sym c.is_empty.ensures ∙ c.if-is_empty.true) in
+    let none : length c.in_ok-places.places.all.items ≡ 0 = omega (arith, end) in
+    of-none (alone_names c.args.others.now (all_signal_names d)) (λ q. []) (all_places d (renames_data c.args.renames.now)) c.in_ok-places.places none
+    (subst (λ (ss : List Signal). ArePlacesOf (alone_names c.args.others.now (map (λ s. s.name.text) ss)) (λ q. []) c.in_ok-places.places) c.signals.ensures c.in_ok-places.ensures)
