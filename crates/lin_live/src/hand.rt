@@ -311,7 +311,7 @@ impl Hand {
         self.pass(writer, buffer)
     }
 
-    /// Returns what a line says; none stands for one that is too long.
+    /// Parses a line. `None` is a line that is too long.
     fn listen(&mut self, alloc: Global, line: Option<&[u8]>) -> Result<Option<Heard>, LineFault>
         ensures heard { Gives result (heard_as self.old.cluster self.old.coded
             (without_byte_order_mark self.old (option_map (λ l. l.now) line.entry))) }

@@ -40,19 +40,19 @@ use std::alloc::{AllocError, Global};
 use std::io::Write;
 use std::marker::Model;
 
-/// A bench that answers lines: those of bench scripts, each by the entries that it makes and by what
-/// it came to, and questions. Contracts see how it tells entries, the cluster, what the core was
-/// opened with, what signals mean and whether that is told, the log, what expectations took, whether
-/// there was a line, and whether one was bad or an expectation not met.
+/// An interactive session without its marks: a bench that answers lines of scripts and questions. Contracts
+/// see the format of its answers, the cluster, what the core was opened with, the encodings and whether
+/// answers have physical values, the log, consumed events, whether there was a line, and whether one was
+/// bad or an expectation failed.
 #[derive(Drop)]
 pub(crate) struct HeldBench {
     bench: Bench,
     format: AnswerFormat,
-    /// What signals mean, where that is known.
+    /// The encodings of the signals, if they are known.
     coded: Option<Coded>,
-    /// Whether values are told as what they mean, too.
+    /// Whether answers also have physical values.
     is_physical: bool,
-    /// What is kept of the log for telling further entries with names, where it is at hand.
+    /// The state for writing further entries with names, if it is kept.
     track: Option<Track>,
     /// The same for objects, in a box: it has 1 KiB, and each line moves it.
     objects: Option<Box<ObjectTrack>>,
@@ -111,7 +111,7 @@ fn without_its_mark(line: Option<&[u8]>) -> Option<&[u8]>
     Some(without_mark(line?))
 }
 
-/// What signals mean, where values are told as that.
+/// Returns the encodings, if answers have physical values.
 fn told_coding(coded: Option<&Coded>, is_physical: bool) -> Option<&Coded>
     ensures { option_map (λ k. k.now) result
         ≡ (if is_physical then option_map (λ k. k.now) coded.entry else None) }
@@ -122,9 +122,8 @@ fn told_coding(coded: Option<&Coded>, is_physical: bool) -> Option<&Coded>
 impl HeldBench {
     ghost use Rattle.lin_live.specs.Held.{new_hand};
 
-    /// A bench over a core with an empty log, on which no line was made, and which tells entries so.
-    /// Where what signals mean is known, lines may say values in words, and where `is_physical`
-    /// values are told as that, too.
+    /// Returns a session over a core with an empty log, whose answers have this format. With
+    /// encodings, lines may have physical values; with `is_physical`, answers also have them.
     pub(crate) fn new(
         alloc: Global,
         core: Core,
@@ -182,7 +181,7 @@ impl HeldBench {
         }
     }
 
-    /// What a line says; none stands for one that is too long.
+    /// Parses a line without a byte order mark. `None` is a line that is too long.
     fn hear(&self, alloc: Global, line: Option<&[u8]>) -> Result<Option<Heard>, LineFault>
         ensures heard { Gives result
             (heard_as self.now.cluster self.now.coded (option_map (λ l. l.now) line.entry)) }
@@ -199,7 +198,7 @@ impl HeldBench {
         }
     }
 
-    /// Returns what a line says; none stands for one that is too long.
+    /// Parses a line. `None` is a line that is too long.
     pub(crate) fn listen(
         &mut self,
         alloc: Global,
