@@ -13,7 +13,7 @@ use Rattle.std.proofs.lemmas.Slice.Eq.{bytes_eq-Decides}
 use Rattle.lin_frame.specs.declared.value.Value.{Value}
 use Rattle.lin_frame.specs.declared.value.Value.TheVariants.{Scalar, Bytes}
 use Rattle.lin_values.specs.Coded.{all_codings, item_for, or_else, signal_at, CodedData, SignalCoding}
-use Rattle.lin_values.specs.Meaning.{as_digits, bcd_digits, by_item, bytes_of_scalar, digits_meaning, first_some, fours, letter, letters_of, meaning, meaning_by, meaning_in, named_or_number, numeric_meaning, value_bytes, without_front_zeros}
+use Rattle.lin_values.specs.Meaning.{as_digits, bcd_digits, by_item, bytes_of_scalar, digits_meaning, first_some, fours, letter, letters_of, meaning, meaning_by, meaning_in, named_or_number, value_bytes, wide_number, without_front_zeros}
 use Rattle.lin_values.specs.Meant.{Meant, Named, Number, Physical, Digits, Letters}
 use Rattle.lin_values.specs.Raws.{coded_raws, value_has_text, is_coded, is_plain_from, is_value, is_printable, same_value}
 use Rattle.lin_values.specs.Spelled.{character_array, byte_of, in_quotes, bcd_after, pairs, character_scalar, scalar_within, IsHeld}
@@ -104,7 +104,12 @@ from-item g ps v raw None = from-codings g v (all_codings ps)
 
 from-in : (g : SignalCoding) (ps : List PlacedItem) (v : Value) → IsFromAny g v (meaning_in g ps v)
 from-in g ps (Scalar raw) = from-item g ps (Scalar raw) raw (item_for ps raw)
-from-in g ps (Bytes bs) = from-codings g (Bytes bs) (all_codings ps)
+from-in g ps (Bytes bs) =
+    let raw : ℕ = wide_number bs in
+    elim g.is_wide as (λ w. IsFromAny g (Bytes bs) (cond w (by_item g ps (Bytes bs) raw (item_for ps raw)) (first_some (meaning_by g (Bytes bs)) (all_codings ps)))) [
+      | true ↦ from-item g ps (Bytes bs) raw (item_for ps raw)
+      | false ↦ from-codings g (Bytes bs) (all_codings ps)
+    ]
 
 from-encoding : (g : SignalCoding) (v : Value) (o : Option CodingType) → IsFromAny g v (option_and_then (λ t. meaning_in g t.items v) o)
 from-encoding g v None = tt
@@ -261,10 +266,11 @@ is-array k s bs e =
     let long : Bool = length bs == (signal_at k s).bits / 8 in
     let few : Bool = nat_le (length bs) 8 in
     let bytes : Bool = list_all (λ b. nat_lt b 256) bs in
-    let more : long && (few && bytes) ≡ true = rest-small (signal_at k s).is_array (long && (few && bytes)) e in
+    let narrow : Bool = not (signal_at k s).is_wide in
+    let more : long && (few && bytes) ≡ true = rest-small narrow (long && (few && bytes)) (rest-small (signal_at k s).is_array (narrow && (long && (few && bytes))) e) in
     let last : few && bytes ≡ true = rest-small long (few && bytes) more in
     record {
-      array = first-small (signal_at k s).is_array (long && (few && bytes)) e;
+      array = first-small (signal_at k s).is_array (narrow && (long && (few && bytes))) e;
       long = eqb-true (length bs) ((signal_at k s).bits / 8) (first-small long (few && bytes) more);
       few = at-most (length bs) 8 (first-small few bytes last);
       bytes = rest-small few bytes last;
@@ -461,24 +467,41 @@ bytes-small g text o h bs is held (Letters t) from c e =
     ap all-bytes split.2 ∙ filled-small split.0 split.1 split.3
 
 held-value : (k : CodedData) (s : ℕ) (text : List ℕ) (o : Option Value) → IsSpelled (signal_at k s).bits (signal_at k s).is_array text o → (v : Value) → o ≡ Some v → IsHeld (signal_at k s).bits (signal_at k s).is_array v
-    → (m : Meant) → IsFrom (signal_at k s) v m → is_coded m ≡ true → text ≡ shown m → is_value k s v ≡ true
-held-value k s text o h (Scalar n) is held m from c e =
+    → (m : Meant) → IsFrom (signal_at k s) v m → is_coded m ≡ true → text ≡ shown m → ((signal_at k s).is_array ≡ true → (signal_at k s).is_wide ≡ false) → is_value k s v ≡ true
+held-value k s text o h (Scalar n) is held m from c e narrow =
     let le : n ≤ greatest_raw (signal_at k s).bits = held.1 in
     both-true (not (signal_at k s).is_array) (nat_le n (greatest_raw (signal_at k s).bits)) (ap not held.0) (grind (arith, nat_tests))
-held-value k s text o h (Bytes bs) is held m from c e =
+held-value k s text o h (Bytes bs) is held m from c e narrow =
     let long : Bool = length bs == (signal_at k s).bits / 8 in
     let le : length bs ≤ 8 = held.2 in
     let small : nat_le (length bs) 8 ≡ true = grind (arith, nat_tests) in
-    both-true (signal_at k s).is_array (long && (nat_le (length bs) 8 && all-bytes bs)) held.0 (both-true long (nat_le (length bs) 8 && all-bytes bs) (eq-eqb (length bs) ((signal_at k s).bits / 8) held.1) (both-true (nat_le (length bs) 8) (all-bytes bs) small (bytes-small (signal_at k s) text o h bs is held m from c e)))
+    both-true (signal_at k s).is_array (not (signal_at k s).is_wide && (long && (nat_le (length bs) 8 && all-bytes bs))) held.0 (both-true (not (signal_at k s).is_wide) (long && (nat_le (length bs) 8 && all-bytes bs)) (ap not (narrow held.0)) (both-true long (nat_le (length bs) 8 && all-bytes bs) (eq-eqb (length bs) ((signal_at k s).bits / 8) held.1) (both-true (nat_le (length bs) 8) (all-bytes bs) small (bytes-small (signal_at k s) text o h bs is held m from c e))))
 
 pub spelled-has : (k : CodedData) (s : ℕ) (text : List ℕ) (o : Option Value) → IsSpelled (signal_at k s).bits (signal_at k s).is_array text o → (v : Value) → o ≡ Some v → IsHeld (signal_at k s).bits (signal_at k s).is_array v
-    → (m : Meant) → meaning k s v ≡ Some m → is_coded m ≡ true → text ≡ shown m → coded_raws k s text v ≡ true
-spelled-has k s text o h v is held m e c same =
+    → (m : Meant) → meaning k s v ≡ Some m → is_coded m ≡ true → text ≡ shown m → ((signal_at k s).is_array ≡ true → (signal_at k s).is_wide ≡ false) → coded_raws k s text v ≡ true
+spelled-has k s text o h v is held m e c same narrow =
     let from : IsFrom (signal_at k s) v m = subst (IsFromAny (signal_at k s) v) e (from-meaning k s v) in
-    both-true (is_value k s v) (option_map_or (λ m. is_coded m && value_has_text k s text v m) (meaning k s v) false) (held-value k s text o h v is held m from c same)
+    both-true (is_value k s v) (option_map_or (λ m. is_coded m && value_has_text k s text v m) (meaning k s v) false) (held-value k s text o h v is held m from c same narrow)
     (ap (λ o. option_map_or (λ m. is_coded m && value_has_text k s text v m) o false) e ∙ text-here k s text o h v is held (few-bytes (signal_at k s) v held) m from c same)
 
 -- ---- what is found
+
+fails-both : (a : Bool) → a && false ≡ false
+fails-both true = refl
+fails-both false = refl
+
+pub narrow-by : (array wide : Bool) → array ≡ true → array && wide ≡ false → wide ≡ false
+narrow-by true wide e f = f
+narrow-by false wide e f = absurd (let no : false ≡ true = e in cc)
+
+-- of a wide signal nothing is
+pub wide-found : (k : CodedData) (s : ℕ) (text : List ℕ) → (signal_at k s).is_array ≡ true → (signal_at k s).is_wide ≡ true → (v : Value) → false ≡ coded_raws k s text v
+wide-found k s text array wide (Scalar n) =
+    ap (λ a. (not a && nat_le n (greatest_raw (signal_at k s).bits)) && option_map_or (λ m. is_coded m && value_has_text k s text (Scalar n) m) (meaning k s (Scalar n)) false) (sym array)
+wide-found k s text array wide (Bytes bs) =
+    ap (λ b. b && option_map_or (λ m. is_coded m && value_has_text k s text (Bytes bs) m) (meaning k s (Bytes bs)) false)
+    (sym (fails-both (signal_at k s).is_array)
+    ∙ ap (λ w. (signal_at k s).is_array && (not w && (length bs == (signal_at k s).bits / 8 && (nat_le (length bs) 8 && list_all (λ b. nat_lt b 256) bs)))) (sym wide))
 
 pub for-signal : (bits own : ℕ) (array one : Bool) (text : List ℕ) (o : Option Value) → bits ≡ own → array ≡ one → IsSpelled bits array text o → IsSpelled own one text o
 for-signal bits own array one text o e f h = subst (λ b. IsSpelled b one text o) e (subst (λ a. IsSpelled bits a text o) f h)
@@ -507,10 +530,6 @@ one-found k s text o h w is here v = elim (same_value w v) as (λ a. same_value 
     | false ↦ λ f. refl
   ] refl
 ] refl
-
-fails-both : (a : Bool) → a && false ≡ false
-fails-both true = refl
-fails-both false = refl
 
 not-by : (k : CodedData) (s : ℕ) (text : List ℕ) (v : Value) (o : Option Meant) → option_map_or is_coded o false ≡ false → option_map_or (λ m. is_coded m && value_has_text k s text v m) o false ≡ false
 not-by k s text v None e = refl

@@ -1,6 +1,6 @@
 -- Digits and characters in the order of the items: the first that means something is the first of
 -- all, or else the first of the other kind.
-use Rattle.std.proofs.Common.{◌≡◌, ℕ, ap, sym, ◌∙◌, refl, subst, Option, Some, None, Bool, true, false, List, [], ◌∷◌, not, filter, is_some, option_map}
+use Rattle.std.proofs.Common.{◌≡◌, refl, Option, Some, None, List, [], ◌∷◌, not, filter}
 use Rattle.std.specs.Prelude.{option_and_then}
 use Rattle.lin_values.specs.Coded.{first_of, or_else, same_coding}
 use Rattle.lin_values.specs.Meaning.{first_some}

@@ -181,6 +181,14 @@ common-by s m t false e f = cc
 pub common-some : (s : Span) (m : ℕ) (t : Span) → common_span s (up_to m) ≡ Some t → (t.from ≡ max s.from 0) × (t.to ≡ min s.to m) × (t.from ≤ t.to)
 common-some s m t e = common-by s m t (nat_le (max s.from 0) (min s.to m)) refl e
 
+none-common-by : (s t : Span) (m n : ℕ) (b : Bool) → nat_le (max s.from 0) (min s.to m) ≡ b → (if b then Some t else None) ≡ None → in_span s n ≡ true → nat_le n m ≡ false
+none-common-by s t m n true e f i = cc
+none-common-by s t m n false e f i = grind (arith, common_steps)
+
+-- no number of a span is up to one, if they have none in common
+pub none-common : (s : Span) (m n : ℕ) → common_span s (up_to m) ≡ None → in_span s n ≡ true → nat_le n m ≡ false
+none-common s m n e i = none-common-by s (record { from = max s.from 0; to = min s.to m }) m n (nat_le (max s.from 0) (min s.to m)) refl e i
+
 sub-by : (s t : Span) (m n : ℕ) → t.from ≡ max s.from 0 → t.to ≡ min s.to m → in_span t n ≡ true → (in_span s n ≡ true) × (nat_le n m ≡ true)
 sub-by s t m n e f i =
     let a : t.from ≤ n = inside-from t n i in

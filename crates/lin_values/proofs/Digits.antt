@@ -1,5 +1,5 @@
 -- Digits of four bits, one after the other.
-use Rattle.std.proofs.Common.{◌≡◌, ℕ, zero, suc, ◌+◌, ◌-◌, ◌*◌, ◌/◌, ◌%◌, ◌^◌, ◌<◌, ◌≤◌, ap, sym, ◌∙◌, subst, arith, refl, Option, Some, None, Bool, true, false, List, [], ◌∷◌, ◌++◌, length, map, nat_lt, option_map, append_assoc, add-one, drop, get_or, drop-cons, flat_map, ◌&&◌, if◌then◌else◌}
+use Rattle.std.proofs.Common.{◌≡◌, ℕ, zero, suc, ◌+◌, ◌-◌, ◌*◌, ◌/◌, ◌%◌, ◌^◌, ◌<◌, ◌≤◌, ap, sym, ◌∙◌, subst, arith, refl, Option, Some, None, Bool, true, false, List, [], ◌∷◌, ◌++◌, nat_lt, option_map, append_assoc}
 use Rattle.std.specs.List.{list_all}
 use Rattle.std.proofs.lemmas.Grind.{common_steps}
 use Rattle.std.proofs.lemmas.List.{append-nil}

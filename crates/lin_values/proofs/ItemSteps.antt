@@ -12,6 +12,7 @@ use Rattle.lin_cluster.specs.declared.finding.Finding.{Finding}
 use Rattle.lin_cluster.specs.declared.finding.FindingKind.TheVariants as finding
 use Rattle.lin_values.proofs.Layered.{range-any, range-none}
 use Rattle.lin_values.specs.Coded.{all_items, has_value, in_range}
+use Rattle.lin_values.specs.Value.{fits}
 use Rattle.lin_values.specs.ItemNumbers.{range_at, range_told, item_with_value, value_told}
 use Rattle.lin_values.specs.Layers.{item_in, numbers_of}
 use Rattle.lin_values.specs.Warnings.{meets_range, range_warning, range_warnings, told_by, value_warning, value_warnings}
@@ -95,9 +96,15 @@ ranges-meet from to min' max' full =
       | inr unmet ↦ range-none (λ m. nat_le min' m && nat_le m max') from (to + 1 - from) (λ n low up. let high : n ≤ to = omega arith in grind (arith, nat_tests)) ∙ sym unmet
     ]
 
+any-if : (b : Bool) (p : ℕ → Bool) (ns : List ℕ) → list_any (λ n. b && p n) ns ≡ (b && list_any p ns)
+any-if true p ns = refl
+any-if false p ns = none-any ns
+
 meets-one : (from to : ℕ) (i : Item) → from ≤ to → list_any (λ n. in_range n i) (numbers_of (record { from = from; to = to })) ≡ meets_range from to i
 meets-one from to (Logical v text) full = none-any (numbers_of (record { from = from; to = to }))
-meets-one from to (Physical min' max' scale offset unit) full = ranges-meet from to min' max' full
+meets-one from to (Physical min' max' scale offset unit) full =
+    any-if (fits max' scale offset) (λ n. nat_le min' n && nat_le n max') (numbers_of (record { from = from; to = to }))
+    ∙ ap (λ b. fits max' scale offset && b) (ranges-meet from to min' max' full)
 meets-one from to Bcd full = none-any (numbers_of (record { from = from; to = to }))
 meets-one from to Ascii full = none-any (numbers_of (record { from = from; to = to }))
 
@@ -121,10 +128,12 @@ range-same ls before p (Physical from to scale offset unit) same =
     let ends = when (nat_lt to from) (at_place finding.MinAboveMax p.place) in
     let over = λ (b : Bool). when (nat_le from to && b) (at_place finding.RangesOverlap p.place) in
     let flat = when (scale.digits == 0) (at_place finding.ZeroScale p.place) in
-    append_assoc ends (over (list_any (λ n. is_some (item_in ls n)) (numbers_of (record { from = from; to = to })))) flat
+    let bad = at_place finding.BadEncoding p.place ∷ [] in
+    ap (λ fs. cond (fits to scale offset) fs bad)
+    (append_assoc ends (over (list_any (λ n. is_some (item_in ls n)) (numbers_of (record { from = from; to = to })))) flat
     ∙ ap (λ b. ends ++ (when b (at_place finding.RangesOverlap p.place) ++ flat)) (and-same (nat_le from to) (list_any (λ n. is_some (item_in ls n)) (numbers_of (record { from = from; to = to }))) (list_any (meets_range from to) (all_items before)) (λ le.
     any-same (λ n. is_some (item_in ls n)) (λ n. list_any (in_range n) (all_items before)) (numbers_of (record { from = from; to = to })) (λ n. ap is_some (same n) ∙ some-from (λ (q : PlacedItem). in_range n q.item) 0 before ∙ any-of (in_range n) before)
-    ∙ meets-any from to (all_items before) (leb-true from to le)))
+    ∙ meets-any from to (all_items before) (leb-true from to le))))
 range-same ls before p Bcd same = refl
 range-same ls before p Ascii same = refl
 

@@ -9,7 +9,8 @@ use Rattle.std.proofs.lemmas.List.Elements.{filter-append, filter_passes, All-he
 use Rattle.std.proofs.lemmas.List.Folds.{list_any-append}
 use Rattle.std.proofs.lemmas.Grind.{fold-append}
 use Rattle.lin_values.specs.Coded.{all_codings, all_ends, all_items, codings_of, ends_of, first_coding, first_of, greatest_end, is_numeric, is_range, same_coding, second_coding}
-use Rattle.lin_values.specs.Traits.{coded_behind, with_coding, with_traits}
+use Rattle.lin_values.specs.Traits.{coded_behind, with_coding, with_number, with_traits}
+use Rattle.lin_values.specs.Value.{fits}
 use Rattle.lin_values.specs.declared.encoding.Coding.{Coding}
 use Rattle.lin_values.specs.declared.encoding.Coding.TheVariants as codings
 use Rattle.lin_values.specs.declared.encoding.Traits.{Traits}
@@ -123,6 +124,33 @@ behind-keeps t (Some f) c =
 coding-keeps : (t : Traits) (c : Coding) → ((with_coding t c).is_numeric ≡ t.is_numeric) × ((with_coding t c).has_range ≡ t.has_range) × ((with_coding t c).greatest ≡ t.greatest)
 coding-keeps t c = behind-keeps t t.first c
 
+-- a range more, if it fits
+abbrev with_range : Bool → Traits → ℕ → Traits
+with_range b t to = cond b (record (with_number t to) { has_range = true }) t
+
+record IsRangeMore (t : Traits) (ends : List ℕ) (cs : List Coding) (is : List Item) (to : ℕ) (b : Bool) : Type 0 where
+  pub numeric : (with_range b t to).is_numeric ≡ nat_lt 0 (length (ends ++ cond b (to ∷ []) []))
+  pub range : (with_range b t to).has_range ≡ (list_any is_range is || (b || false))
+  pub greatest : (with_range b t to).greatest ≡ fold max 0 (ends ++ cond b (to ∷ []) [])
+  pub first : (with_range b t to).first ≡ first_of cs
+  pub second : (with_range b t to).second ≡ second_of cs
+
+range-more : (t : Traits) (ends : List ℕ) (cs : List Coding) (is : List Item) (to : ℕ) (b : Bool) → AreGathered t ends cs is → IsRangeMore t ends cs is to b
+range-more t ends cs is to true have = record {
+  numeric = number-more to ends;
+  range = or-true (list_any is_range is);
+  greatest = ap (λ n. max n to) have.greatest ∙ sym (fold-append max 0 ends (to ∷ []));
+  first = have.first;
+  second = have.second;
+}
+range-more t ends cs is to false have = record {
+  numeric = have.numeric ∙ ap (λ es. nat_lt 0 (length es)) (sym (append-nil ends));
+  range = have.range ∙ or-false (list_any is_range is);
+  greatest = have.greatest ∙ ap (fold max 0) (sym (append-nil ends));
+  first = have.first;
+  second = have.second;
+}
+
 item-more : (t : Traits) (ends : List ℕ) (cs : List Coding) (is : List Item) (i : Item) → AreGathered t ends cs is → AreGathered (with_traits t i) (ends ++ ends_of i) (cs ++ codings_of i) (is ++ i ∷ [])
 item-more t ends cs is (Logical v text) have = record {
   numeric = number-more v ends;
@@ -131,13 +159,15 @@ item-more t ends cs is (Logical v text) have = record {
   first = have.first ∙ ap first_of (sym (append-nil cs));
   second = have.second ∙ ap second_of (sym (append-nil cs));
 }
-item-more t ends cs is (Physical from to scale offset unit) have = record {
-  numeric = number-more to ends;
-  range = or-true (list_any is_range is) ∙ sym (list_any-append is_range is (Physical from to scale offset unit ∷ []));
-  greatest = ap (λ n. max n to) have.greatest ∙ sym (fold-append max 0 ends (to ∷ []));
-  first = have.first ∙ ap first_of (sym (append-nil cs));
-  second = have.second ∙ ap second_of (sym (append-nil cs));
-}
+item-more t ends cs is (Physical from to scale offset unit) have =
+    let more = range-more t ends cs is to (fits to scale offset) have in
+    record {
+      numeric = more.numeric;
+      range = more.range ∙ sym (list_any-append is_range is (Physical from to scale offset unit ∷ []));
+      greatest = more.greatest;
+      first = more.first ∙ ap first_of (sym (append-nil cs));
+      second = more.second ∙ ap second_of (sym (append-nil cs));
+    }
 item-more t ends cs is Bcd have =
     let more = coding-more t codings.Bcd cs have.first have.second in
     let kept = coding-keeps t codings.Bcd in

@@ -1,8 +1,7 @@
 -- Characters up to zeros at the end.
-use Rattle.std.proofs.Common.{◌≡◌, ℕ, ◌+◌, ◌<◌, ◌≤◌, ◌==◌, ap, sym, ◌∙◌, arith, refl, Bool, true, false, List, [], ◌∷◌, ◌++◌, length, reverse, map, take, get_or, length-take, if◌then◌else◌, add-one}
-use Rattle.std.proofs.lemmas.List.{length-reverse, map_push}
-use Rattle.std.proofs.Math.Seq.{take-suc}
-use Rattle.lin_values.specs.Meaning.{without_front_zeros, letter}
+use Rattle.std.proofs.Common.{ℕ, ◌≤◌, ◌==◌, arith, true, false, List, [], ◌∷◌, length, reverse, if◌then◌else◌}
+use Rattle.std.proofs.lemmas.List.{length-reverse}
+use Rattle.lin_values.specs.Meaning.{without_front_zeros}
 
 fewer : (bs : List ℕ) → length (without_front_zeros bs) ≤ length bs
 fewer [] = omega arith

@@ -5,6 +5,7 @@ pub mod CodingOrder
 pub mod DecimalParts
 pub mod Digits
 pub mod EncodedItems
+pub mod Fitting
 pub mod ItemSteps
 pub mod ItemTraits
 pub mod JoinedSpans
@@ -15,6 +16,7 @@ pub mod Letters
 pub mod Multiples
 pub mod NamedLines
 pub mod NextTo
+pub mod NumberedMeanings
 pub mod OnlyRaw
 pub mod Parts
 pub mod PartsInOrder
@@ -33,3 +35,4 @@ pub mod SpelledValues
 pub mod UnusedEncodings
 pub mod WaysBack
 pub mod Wide
+pub mod WideNumbers

@@ -1,8 +1,7 @@
 -- Whole numbers n with n * step from one number to another.
-use Rattle.std.proofs.Common.{◌≡◌, ℕ, zero, suc, ◌+◌, ◌*◌, ◌/◌, ◌%◌, ◌<◌, ◌≤◌, ap, sym, ◌∙◌, arith, refl, Bool, true, false, nat_lt, nat_le, min, not, ◌&&◌}
+use Rattle.std.proofs.Common.{◌≡◌, ℕ, ◌+◌, ◌*◌, ◌/◌, ◌%◌, ◌<◌, ◌≤◌, sym, ◌∙◌, arith, refl, Bool, true, false, nat_lt, nat_le, min, not}
 use Rattle.std.proofs.Math.Nat.{mul-le-mul_right}
 use Rattle.std.proofs.lemmas.Grind.{common_steps, div_ceil_times}
-use Rattle.std.proofs.lemmas.Bool.Decides.{nat_tests}
 
 below-is : (a b : ℕ) → a < b → nat_lt a b ≡ true
 below-is a b h = grind (arith, common_steps)

@@ -20,7 +20,7 @@ use Rattle.lin_values.proofs.ItemTraits.{AreTraits, other, same-itself, second_o
 use Rattle.lin_values.specs.Coded.{all_codings, first_of, is_named, named_in, same_coding, type_named}
 use Rattle.lin_values.specs.Gathered.{kind_told, line_told, lines_of, lines_told, name_told, names_of, told_of_kind, type_at, type_number, signal_without_coding}
 use Rattle.lin_values.specs.Traits.{has_coding, is_coding}
-use Rattle.lin_values.specs.Warnings.{known_warnings, representation_warnings, greatest_raw, name_warnings, signal_by_name, told_by, type_warning}
+use Rattle.lin_values.specs.Warnings.{greatest_number, has_numbers, known_warnings, representation_warnings, name_warnings, signal_by_name, told_by, type_warning}
 use Rattle.lin_values.specs.declared.coded.CodedSignal.{CodedSignal}
 use Rattle.lin_values.specs.declared.encoding.Coding.{Coding}
 use Rattle.lin_values.specs.declared.encoding.Coding.TheVariants as codings
@@ -85,8 +85,8 @@ kind-same t o r s n is are =
     let bcd = has-any r (all_codings t.items) codings.Bcd are.first are.second in
     let ascii = has-any r (all_codings t.items) codings.Ascii are.first are.second in
     (λ i.
-    when (not s.is_array && (are.numeric i && nat_lt (greatest_raw s.bits) (are.greatest i))) (at_name finding.ValueOutside n)
-    ++ when (cond s.is_array (are.numeric i) ((bcd i && not (s.bits % 4 == 0)) || (ascii i && not (s.bits % 8 == 0)))) (at_name finding.KindOfSignal n))
+    when (has_numbers s.is_array s.is_wide && (are.numeric i && nat_lt (greatest_number s.bits s.is_wide) (are.greatest i))) (at_name finding.ValueOutside n)
+    ++ when (cond (s.is_array && not s.is_wide) (are.numeric i) ((bcd i && not (s.bits % 4 == 0)) || (ascii i && not (s.bits % 8 == 0)))) (at_name finding.KindOfSignal n))
     ∙ ap (λ p. kind_told p s n) is
 
 -- ---- types whose name an earlier one has
@@ -146,6 +146,10 @@ item-found p (x ∷ xs) =
       | false ↦ next-at x xs xs p 0 ∙ item-found p xs
     ]
 
+-- whether a map from names to numbers has a name
+pub is-among : (wide : List Name) (q : List ℕ) → is_some (position_from (λ (n : Name). bytes_eq n.text q) 0 wide) ≡ list_any (λ (n : Name). bytes_eq n.text q) wide
+is-among wide q = some-from (λ (n : Name). bytes_eq n.text q) 0 wide
+
 pub some-number : {X : Type 0} (p : X → Bool) (xs : List X) → is_some (position p xs) ≡ is_some (find p xs)
 some-number p xs = ap is_some (position_from-zero p xs) ∙ some-from p 0 xs ∙ sym (some-found p xs)
 
@@ -160,49 +164,49 @@ turned : {A : Type 0} (b : Bool) (x y : A) → cond (not b) x y ≡ cond b y x
 turned true x y = refl
 turned false x y = refl
 
-pub known-same : (k : Codings) (n : Name) (o : Option CodingType) (s : Signal) → kind_told o (signal_without_coding s) n ≡ known_warnings k n o s
+pub known-same : (k : Codings) (n : Name) (o : Option CodingType) (s : Signal) → kind_told o (signal_without_coding k.wide s) n ≡ known_warnings k n o s
 known-same k n None s = refl
 known-same k n (Some t) s = refl
 
 -- what is told of a name by those before it
-tell-same : (c : Parts) (ts : List CodingType) (before : List (Name × Name)) (p : Name × Name) (o : Option Signal) (t : Option CodingType) (is_first : Bool) → is_first ≡ not (list_any (is_named p.0.text) before) → t ≡ type_named ts p.1 → name_told is_first t p.0 o ≡ option_map_or (λ s. cond (list_any (is_named p.0.text) before) (at_name finding.RepresentedTwice p.0 ∷ []) (kind_told (type_named ts p.1) (signal_without_coding s) p.0)) o (at_name finding.UnknownSignal p.0 ∷ [])
-tell-same c ts before p None t is_first is of = refl
-tell-same c ts before p (Some s) t is_first is of =
-    (λ i. cond (is i) (kind_told (of i) (signal_without_coding s) p.0) (at_name finding.RepresentedTwice p.0 ∷ []))
-    ∙ turned (list_any (is_named p.0.text) before) (kind_told (type_named ts p.1) (signal_without_coding s) p.0) (at_name finding.RepresentedTwice p.0 ∷ [])
+tell-same : (c : Parts) (wide : List Name) (ts : List CodingType) (before : List (Name × Name)) (p : Name × Name) (o : Option Signal) (t : Option CodingType) (is_first : Bool) → is_first ≡ not (list_any (is_named p.0.text) before) → t ≡ type_named ts p.1 → name_told wide is_first t p.0 o ≡ option_map_or (λ s. cond (list_any (is_named p.0.text) before) (at_name finding.RepresentedTwice p.0 ∷ []) (kind_told (type_named ts p.1) (signal_without_coding wide s) p.0)) o (at_name finding.UnknownSignal p.0 ∷ [])
+tell-same c wide ts before p None t is_first is of = refl
+tell-same c wide ts before p (Some s) t is_first is of =
+    (λ i. cond (is i) (kind_told (of i) (signal_without_coding wide s) p.0) (at_name finding.RepresentedTwice p.0 ∷ []))
+    ∙ turned (list_any (is_named p.0.text) before) (kind_told (type_named ts p.1) (signal_without_coding wide s) p.0) (at_name finding.RepresentedTwice p.0 ∷ [])
 
-pub name-same : (c : Parts) (ts : List CodingType) (before : List (Name × Name)) (p : Name × Name) (t : Option CodingType) (is_first : Bool) → is_first ≡ not (list_any (is_named p.0.text) before) → t ≡ type_named ts p.1 → name_told is_first t p.0 (signal_by_name c p.0) ≡ name_warnings c (lines_of ts []) before p
-name-same c ts before p t is_first is of =
-    tell-same c ts before p (signal_by_name c p.0) t is_first is of
-    ∙ ap (λ (f : Signal → List Finding). option_map_or f (signal_by_name c p.0) (at_name finding.UnknownSignal p.0 ∷ [])) (λ i s. cond (list_any (is_named p.0.text) before) (at_name finding.RepresentedTwice p.0 ∷ []) (known-same (lines_of ts []) p.0 (type_named ts p.1) s i))
+pub name-same : (c : Parts) (wide : List Name) (ts : List CodingType) (before : List (Name × Name)) (p : Name × Name) (t : Option CodingType) (is_first : Bool) → is_first ≡ not (list_any (is_named p.0.text) before) → t ≡ type_named ts p.1 → name_told wide is_first t p.0 (signal_by_name c p.0) ≡ name_warnings c (lines_of wide ts []) before p
+name-same c wide ts before p t is_first is of =
+    tell-same c wide ts before p (signal_by_name c p.0) t is_first is of
+    ∙ ap (λ (f : Signal → List Finding). option_map_or f (signal_by_name c p.0) (at_name finding.UnknownSignal p.0 ∷ [])) (λ i s. cond (list_any (is_named p.0.text) before) (at_name finding.RepresentedTwice p.0 ∷ []) (known-same (lines_of wide ts []) p.0 (type_named ts p.1) s i))
 
 -- one name more
-pub name-step : (c : Parts) (ts : List CodingType) (before done : List (Name × Name)) (p : Name × Name) (number : Option ℕ) (is_first : Bool) (there : Option (Option ℕ)) (head first old now : List Finding) → number ≡ type_number ts p.1 → is_first ≡ not (is_some there) → there ≡ option_map (λ q. type_number ts q.1) (find (is_named p.0.text) (before ++ done)) → old ≡ first ++ (head ++ told_by (name_warnings c (lines_of ts [])) before done) → now ≡ old ++ name_told is_first (type_at ts number) p.0 (signal_by_name c p.0) → now ≡ first ++ (head ++ told_by (name_warnings c (lines_of ts [])) before (done ++ p ∷ []))
-name-step c ts before done p number is_first there head first old now is is-first found so here =
+pub name-step : (c : Parts) (wide : List Name) (ts : List CodingType) (before done : List (Name × Name)) (p : Name × Name) (number : Option ℕ) (is_first : Bool) (there : Option (Option ℕ)) (head first old now : List Finding) → number ≡ type_number ts p.1 → is_first ≡ not (is_some there) → there ≡ option_map (λ q. type_number ts q.1) (find (is_named p.0.text) (before ++ done)) → old ≡ first ++ (head ++ told_by (name_warnings c (lines_of wide ts [])) before done) → now ≡ old ++ name_told wide is_first (type_at ts number) p.0 (signal_by_name c p.0) → now ≡ first ++ (head ++ told_by (name_warnings c (lines_of wide ts [])) before (done ++ p ∷ []))
+name-step c wide ts before done p number is_first there head first old now is is-first found so here =
     let seen : is_first ≡ not (list_any (is_named p.0.text) (before ++ done)) = is-first ∙ ap (λ o. not (is_some o)) found ∙ ap not (map-some (λ (q : Name × Name). type_number ts q.1) (find (is_named p.0.text) (before ++ done)) ∙ some-found (is_named p.0.text) (before ++ done)) in
-    let told = name-same c ts (before ++ done) p (type_at ts number) is_first seen (ap (type_at ts) is ∙ named-found ts p.1) in
+    let told = name-same c wide ts (before ++ done) p (type_at ts number) is_first seen (ap (type_at ts) is ∙ named-found ts p.1) in
     here ∙ (λ i. so i ++ told i)
-    ∙ append_assoc first (head ++ told_by (name_warnings c (lines_of ts [])) before done) (name_warnings c (lines_of ts []) (before ++ done) p)
-    ∙ ap (λ fs. first ++ fs) (append_assoc head (told_by (name_warnings c (lines_of ts [])) before done) (name_warnings c (lines_of ts []) (before ++ done) p)
-    ∙ ap (λ fs. head ++ fs) (sym (told-more (name_warnings c (lines_of ts [])) before done p)))
+    ∙ append_assoc first (head ++ told_by (name_warnings c (lines_of wide ts [])) before done) (name_warnings c (lines_of wide ts []) (before ++ done) p)
+    ∙ ap (λ fs. first ++ fs) (append_assoc head (told_by (name_warnings c (lines_of wide ts [])) before done) (name_warnings c (lines_of wide ts []) (before ++ done) p)
+    ∙ ap (λ fs. head ++ fs) (sym (told-more (name_warnings c (lines_of wide ts [])) before done p)))
 
 -- one line more
-lines-more : (c : Parts) (ts : List CodingType) (before : List (Name × Name)) (ls : List CodedLine) (l : CodedLine) → lines_told c ts before (ls ++ l ∷ []) ≡ lines_told c ts before ls ++ line_told c ts (before ++ named_in ls) l
-lines-more c ts before [] l = append-nil (line_told c ts before l) ∙ ap (λ b. line_told c ts b l) (sym (append-nil before))
-lines-more c ts before (x ∷ xs) l =
-    ap (λ fs. line_told c ts before x ++ fs) (lines-more c ts (before ++ names_of x) xs l ∙ ap (λ b. lines_told c ts (before ++ names_of x) xs ++ line_told c ts b l) (append_assoc before (names_of x) (named_in xs)))
-    ∙ sym (append_assoc (line_told c ts before x) (lines_told c ts (before ++ names_of x) xs) (line_told c ts (before ++ named_in (x ∷ xs)) l))
+lines-more : (c : Parts) (wide : List Name) (ts : List CodingType) (before : List (Name × Name)) (ls : List CodedLine) (l : CodedLine) → lines_told c wide ts before (ls ++ l ∷ []) ≡ lines_told c wide ts before ls ++ line_told c wide ts (before ++ named_in ls) l
+lines-more c wide ts before [] l = append-nil (line_told c wide ts before l) ∙ ap (λ b. line_told c wide ts b l) (sym (append-nil before))
+lines-more c wide ts before (x ∷ xs) l =
+    ap (λ fs. line_told c wide ts before x ++ fs) (lines-more c wide ts (before ++ names_of x) xs l ∙ ap (λ b. lines_told c wide ts (before ++ names_of x) xs ++ line_told c wide ts b l) (append_assoc before (names_of x) (named_in xs)))
+    ∙ sym (append_assoc (line_told c wide ts before x) (lines_told c wide ts (before ++ names_of x) xs) (line_told c wide ts (before ++ named_in (x ∷ xs)) l))
 
 pub names-more : (ls : List CodedLine) (i : ℕ) (l : CodedLine) → i < length ls → l ≡ get_or ls i l → named_in (take (i + 1) ls) ≡ named_in (take i ls) ++ names_of l
 names-more ls i l lt is =
     ap named_in (take_more ls i l lt ∙ ap (λ x. take i ls ++ x ∷ []) (sym is))
     ∙ flat_map-append names_of (take i ls) (l ∷ []) ∙ ap (λ ns. named_in (take i ls) ++ ns) (append-nil (names_of l))
 
-pub line-step : (c : Parts) (ts : List CodingType) (ls : List CodedLine) (i : ℕ) (l : CodedLine) (first old now : List Finding) → i < length ls → l ≡ get_or ls i l → old ≡ first ++ lines_told c ts [] (take i ls) → now ≡ old ++ line_told c ts (named_in (take i ls)) l → now ≡ first ++ lines_told c ts [] (take (i + 1) ls)
-line-step c ts ls i l first old now lt is so here =
-    here ∙ ap (λ fs. fs ++ line_told c ts (named_in (take i ls)) l) so
-    ∙ append_assoc first (lines_told c ts [] (take i ls)) (line_told c ts (named_in (take i ls)) l)
-    ∙ ap (λ fs. first ++ fs) (sym (lines-more c ts [] (take i ls) l) ∙ ap (lines_told c ts []) (ap (λ x. take i ls ++ x ∷ []) is ∙ sym (take_more ls i l lt)))
+pub line-step : (c : Parts) (wide : List Name) (ts : List CodingType) (ls : List CodedLine) (i : ℕ) (l : CodedLine) (first old now : List Finding) → i < length ls → l ≡ get_or ls i l → old ≡ first ++ lines_told c wide ts [] (take i ls) → now ≡ old ++ line_told c wide ts (named_in (take i ls)) l → now ≡ first ++ lines_told c wide ts [] (take (i + 1) ls)
+line-step c wide ts ls i l first old now lt is so here =
+    here ∙ ap (λ fs. fs ++ line_told c wide ts (named_in (take i ls)) l) so
+    ∙ append_assoc first (lines_told c wide ts [] (take i ls)) (line_told c wide ts (named_in (take i ls)) l)
+    ∙ ap (λ fs. first ++ fs) (sym (lines-more c wide ts [] (take i ls) l) ∙ ap (lines_told c wide ts []) (ap (λ x. take i ls ++ x ∷ []) is ∙ sym (take_more ls i l lt)))
 
 -- ---- the names of a line, one after the other
 
@@ -225,18 +229,18 @@ named-step ts before l lent i n number text q old new same lt is of at so here =
     found-push of-name (is_named q) (before ++ take i (names_of l)) (n, l.encoding) number (bytes_eq text q) old new of (ap (λ t. bytes_eq t q) at) so here
     ∙ ap (λ ns. option_map of-name (find (is_named q) ns)) (append_assoc before (take i (names_of l)) ((n, l.encoding) ∷ []) ∙ ap (λ ns. before ++ ns) (sym (names-step l lent i n same lt is)))
 
-pub warned-step : (c : Parts) (ts : List CodingType) (before : List (Name × Name)) (l : CodedLine) (lent : List Name) (i : ℕ) (n : Name) (number : Option ℕ) (text : List ℕ) (is_first : Bool) (there : Option (Option ℕ)) (head first old now : List Finding) → lent ≡ l.signals → i < length lent → n ≡ get_or lent i n → number ≡ type_number ts l.encoding → text ≡ n.text → is_first ≡ not (is_some there) → there ≡ option_map (λ p. type_number ts p.1) (find (is_named text) (before ++ take i (names_of l))) → old ≡ first ++ (head ++ told_by (name_warnings c (lines_of ts [])) before (take i (names_of l))) → now ≡ old ++ name_told is_first (type_at ts number) n (signal_by_name c n) → now ≡ first ++ (head ++ told_by (name_warnings c (lines_of ts [])) before (take (i + 1) (names_of l)))
-warned-step c ts before l lent i n number text is_first there head first old now same lt is of at is-first found so here =
-    name-step c ts before (take i (names_of l)) (n, l.encoding) number is_first there head first old now of is-first
+pub warned-step : (c : Parts) (wide : List Name) (ts : List CodingType) (before : List (Name × Name)) (l : CodedLine) (lent : List Name) (i : ℕ) (n : Name) (number : Option ℕ) (text : List ℕ) (is_first : Bool) (there : Option (Option ℕ)) (head first old now : List Finding) → lent ≡ l.signals → i < length lent → n ≡ get_or lent i n → number ≡ type_number ts l.encoding → text ≡ n.text → is_first ≡ not (is_some there) → there ≡ option_map (λ p. type_number ts p.1) (find (is_named text) (before ++ take i (names_of l))) → old ≡ first ++ (head ++ told_by (name_warnings c (lines_of wide ts [])) before (take i (names_of l))) → now ≡ old ++ name_told wide is_first (type_at ts number) n (signal_by_name c n) → now ≡ first ++ (head ++ told_by (name_warnings c (lines_of wide ts [])) before (take (i + 1) (names_of l)))
+warned-step c wide ts before l lent i n number text is_first there head first old now same lt is of at is-first found so here =
+    name-step c wide ts before (take i (names_of l)) (n, l.encoding) number is_first there head first old now of is-first
     (found ∙ ap (λ t. option_map (λ (p : Name × Name). type_number ts p.1) (find (is_named t) (before ++ take i (names_of l)))) at) so here
-    ∙ ap (λ ns. first ++ (head ++ told_by (name_warnings c (lines_of ts [])) before ns)) (sym (names-step l lent i n same lt is))
+    ∙ ap (λ ns. first ++ (head ++ told_by (name_warnings c (lines_of wide ts [])) before ns)) (sym (names-step l lent i n same lt is))
 
 flipped : (a b : Bool) → a ≡ not b → b ≡ not a
 flipped a true e = ap not (sym e)
 flipped a false e = ap not (sym e)
 
-pub line-warned : (ts : List CodingType) (l : CodedLine) (number : Option ℕ) (is_none : Bool) (f : Finding) → number ≡ type_number ts l.encoding → is_some number ≡ not is_none → f ≡ at_name finding.UnknownEncoding l.encoding → when is_none f ≡ representation_warnings (lines_of ts []) l
-line-warned ts l number is_none f of none is =
+pub line-warned : (wide : List Name) (ts : List CodingType) (l : CodedLine) (number : Option ℕ) (is_none : Bool) (f : Finding) → number ≡ type_number ts l.encoding → is_some number ≡ not is_none → f ≡ at_name finding.UnknownEncoding l.encoding → when is_none f ≡ representation_warnings (lines_of wide ts []) l
+line-warned wide ts l number is_none f of none is =
     (λ i. when (flipped (is_some number) is_none none i) (is i))
     ∙ ap (λ o. when (not (is_some o)) (at_name finding.UnknownEncoding l.encoding)) of
     ∙ ap (λ b. when (not b) (at_name finding.UnknownEncoding l.encoding)) (some-number (λ (t : CodingType). same_name t.name l.encoding) ts)

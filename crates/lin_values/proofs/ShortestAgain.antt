@@ -4,10 +4,10 @@ use Rattle.std.specs.Int.{is_negative}
 use Rattle.std.proofs.Math.Nat.{one-le-pow}
 use Rattle.std.proofs.lemmas.Grind.{common_steps}
 use Rattle.std.proofs.lemmas.Int.{ints}
-use Rattle.lin_values.specs.Value.{decimal_of, shortest_at, with_sign, scaled_value, without_zeros, IsReadable, IsShortest}
+use Rattle.lin_values.specs.Value.{decimal_of, with_sign, scaled_value, without_zeros, IsShortest}
 use Rattle.lin_values.specs.declared.decimals.Decimal.{Decimal}
 use Rattle.lin_values.proofs.Powers.{ten-more}
-use Rattle.lin_values.proofs.ShortestDecimals.{last-kept, none-left}
+use Rattle.lin_values.proofs.ShortestDecimals.{last-kept}
 
 more : (d k : ℕ) → d * 10 ^ suc k ≡ (d * 10 ^ k) * 10
 more d k = let e : suc k ≡ k + 1 = omega arith in omega (arith, ap (λ x. d * x) (ap (λ i. 10 ^ i) e ∙ ten-more k))
@@ -39,10 +39,10 @@ minus-kept true n h = let s : 0 < n = h refl in grind (arith, common_steps)
 some-left : (d k : ℕ) → 0 < d → 0 < d * 10 ^ k
 some-left d k h = grind (arith, one-le-pow k 10 (omega arith))
 
-pub decimal-again : (d : Decimal) → IsReadable d → IsShortest d → decimal_of (scaled_value d) ≡ d
+pub decimal-again : (d : Decimal) → d.places ≤ 24 → IsShortest d → decimal_of (scaled_value d) ≡ d
 decimal-again d r s =
     let n = d.digits * 10 ^ (24 - d.places) in
-    let whole : (24 - d.places) + d.places ≡ 24 = omega (arith, r.0) in
+    let whole : (24 - d.places) + d.places ≡ 24 = omega (arith, r) in
     let e : without_zeros (d.digits * 10 ^ (24 - d.places)) 24 ≡ (d.digits, d.places) = ap (λ k. without_zeros (d.digits * 10 ^ (24 - d.places)) k) (sym whole) ∙ zeros-behind (24 - d.places) d.places d.digits s.0 in
     rw (minus-of d.negative n, size-of d.negative n, e)
     (ap (λ b. let x : Decimal = record { negative = b; digits = d.digits; places = d.places } in x) (minus-kept d.negative n (λ m. some-left d.digits (24 - d.places) (s.1 m))))

@@ -1,16 +1,16 @@
 -- The numbers of parts in order that are sought.
-use Rattle.std.proofs.Common.{◌≡◌, ◌<◌, ◌≤◌, ◌+◌, ℕ, suc, Bool, true, false, cond, ◌&&◌, ◌||◌, List, [], ◌∷◌, ◌++◌, length, take, drop, get_or, refl, sym, subst, ap, ◌∙◌, inl, inr, arith, not}
-use Rattle.std.specs.Prelude.{ℤ, Option, Some, None, find, nat_le, nat_lt, All, AllPairs, option_and_then}
+use Rattle.std.proofs.Common.{◌≡◌, ◌<◌, ◌≤◌, ◌+◌, ℕ, Bool, true, false, cond, ◌&&◌, ◌||◌, List, [], ◌∷◌, ◌++◌, length, take, get_or, refl, sym, ap, ◌∙◌, arith}
+use Rattle.std.specs.Prelude.{ℤ, Option, Some, None, find, nat_le, All, AllPairs, option_and_then}
 use Rattle.std.specs.List.{list_any}
 use Rattle.std.specs.Option.{option_map, option_map_or}
 use Rattle.std.proofs.lemmas.Bool.Decides.{nat_tests}
 use Rattle.std.proofs.lemmas.List.{get_or_default}
-use Rattle.std.proofs.lemmas.List.Elements.{All-append, All-cons, All-head, All-nil, All-tail, All-weaker}
+use Rattle.std.proofs.lemmas.List.Elements.{All-append, All-cons, All-nil, All-weaker}
 use Rattle.std.proofs.lemmas.List.Folds.{list_any_more, list_any_none, list_any-append}
 use Rattle.lin_parts.proofs.Pairs.{pairs-append, pairs-back, pairs-cons, pairs-first, pairs-none}
 use Rattle.lin_values.specs.Coded.{item_by, item_for}
 use Rattle.lin_values.specs.Layers.{in_span, item_in, AreInOrder, IsBefore, IsSomeSpan}
-use Rattle.lin_values.specs.Raws.{in_option_span, sought_item, sought_part, sought_raw}
+use Rattle.lin_values.specs.Raws.{sought_item, sought_part, sought_raw}
 use Rattle.lin_values.specs.Warnings.{greatest_raw}
 use Rattle.lin_values.specs.declared.codings.Item.{Item}
 use Rattle.lin_values.specs.declared.codings.PlacedItem.{PlacedItem}

@@ -1,7 +1,7 @@
 -- The raw values that are looked for, and those of the ways back.
-use Rattle.std.proofs.Common.{◌≡◌, ◌⊎◌, ◌<◌, ◌≤◌, ◌+◌, ◌-◌, ◌*◌, ◌^◌, ◌==◌, ℕ, suc, Bool, true, false, cond, not, ◌&&◌, ◌||◌, List, [], ◌∷◌, refl, sym, subst, ap, ◌∙◌, inl, inr, arith}
-use Rattle.std.specs.Prelude.{ℤ, ◌-ℤ◌, Option, Some, None, find, is_some, min, nat_le, nat_lt, unsigned_abs, All, option_and_then}
-use Rattle.std.specs.List.{list_any}
+use Rattle.std.proofs.Common.{◌≡◌, ◌⊎◌, ◌<◌, ◌≤◌, ◌-◌, ◌*◌, ◌/◌, ◌^◌, ◌==◌, ℕ, Bool, true, false, cond, not, ◌&&◌, ◌||◌, List, [], ◌∷◌, length, refl, sym, ap, ◌∙◌, inl, inr, arith}
+use Rattle.std.specs.Prelude.{ℤ, ◌-ℤ◌, Option, Some, None, find, min, nat_le, nat_lt, unsigned_abs, All, option_and_then}
+use Rattle.std.specs.List.{list_all, list_any}
 use Rattle.std.specs.Option.{option_map, option_map_or}
 use Rattle.std.specs.Str.{bytes_eq}
 use lib.IntN.{pos, negsuc, ◌+ℤ◌, ◌*ℤ◌}
@@ -9,7 +9,7 @@ use mir.Syntax.{w128}
 use mir.Val.{SFits, of_z, to_z}
 use Rattle.std.proofs.lemmas.Int.{ints, to_z-of_z}
 use Rattle.std.proofs.Math.Pow.{pow_mono}
-use Rattle.std.proofs.lemmas.Bool.{cases_lt, eq-eqb, eqb-true}
+use Rattle.std.proofs.lemmas.Bool.{cases_Bool, cases_lt, eq-eqb, eqb-true}
 use Rattle.std.proofs.lemmas.Bool.Decides.{nat_tests}
 use Rattle.std.proofs.lemmas.List.Elements.{All-weaker}
 use Rattle.std.proofs.lemmas.List.Folds.{list_any_none}
@@ -17,9 +17,9 @@ use Rattle.lin_frame.specs.declared.value.Value.{Value}
 use Rattle.lin_frame.specs.declared.value.Value.TheVariants.{Scalar, Bytes}
 use Rattle.lin_values.specs.Coded.{all_codings, all_items, has_value, in_range, item_for, or_else, signal_at, CodedData, SignalCoding}
 use Rattle.lin_values.specs.Layers.{in_span, IsSomeSpan}
-use Rattle.lin_values.specs.Meaning.{bcd_digits, by_item, coded_meaning, digits_meaning, first_some, meaning, meaning_by, meaning_in, named_or_number, numeric_meaning}
+use Rattle.lin_values.specs.Meaning.{bcd_digits, by_item, coded_meaning, digits_meaning, first_some, meaning, meaning_by, meaning_in, named_or_number, numeric_meaning, wide_number}
 use Rattle.lin_values.specs.Meant.{Meant, Named, Number, Physical, Digits, Letters}
-use Rattle.lin_values.specs.Raws.{coded_raws, decimals_of, value_has_text, in_spans, is_coded, is_decimal_within, is_exactly, is_number_without_unit, is_this, is_value, lies_within, has_raw, has_unit, means_text, raws_of, raws_within, sought_item, sought_of, sought_range, sought_raw, sought_value, unit_behind}
+use Rattle.lin_values.specs.Raws.{coded_raws, decimals_of, value_has_text, in_spans, is_coded, is_decimal_within, is_exactly, is_number_without_unit, is_this, is_value, lies_within, has_raw, has_unit, raws_of, raws_within, sought_item, sought_of, sought_value, unit_behind}
 use Rattle.lin_values.specs.Read.{number_and_unit}
 use Rattle.lin_values.specs.Value.{scaled_value, IsReadable}
 use Rattle.lin_values.specs.declared.decimals.Decimal.{Decimal}
@@ -82,11 +82,19 @@ range-counts n (items.Physical from to scale offset unit) e = tt
 range-counts n items.Bcd e = tt
 range-counts n items.Ascii e = tt
 
+-- the item that counts for a number has it
+pub may-count : (ps : List PlacedItem) (n : ℕ) (i : Item) → item_for ps n ≡ Some i → (has_value n i ≡ true) ⊎ (in_range n i ≡ true)
+may-count ps n i e =
+    elim (either-passes (find (has_value n) (all_items ps)) (find (in_range n) (all_items ps)) i e) [
+      | inl h ↦ inl (find-passes (has_value n) (all_items ps) i h)
+      | inr h ↦ inr (find-passes (in_range n) (all_items ps) i h)
+    ]
+
 item-counts : (ps : List PlacedItem) (n : ℕ) (i : Item) → item_for ps n ≡ Some i → CountsFor n i
 item-counts ps n i e =
-    elim (either-passes (find (has_value n) (all_items ps)) (find (in_range n) (all_items ps)) i e) [
-      | inl h ↦ value-counts n i (find-passes (has_value n) (all_items ps) i h)
-      | inr h ↦ range-counts n i (find-passes (in_range n) (all_items ps) i h)
+    elim (may-count ps n i e) [
+      | inl h ↦ value-counts n i h
+      | inr h ↦ range-counts n i h
     ]
 
 -- ---- what is looked for, by a test of meanings that no digits or characters pass
@@ -126,12 +134,21 @@ sought-is test text decimals unit numeric agrees k s n =
     ∙ and-grouped (not (signal_at k s).is_array) (nat_le n (greatest_raw (signal_at k s).bits)) (option_map_or test (meaning k s (Scalar n)) false)
 
 -- of arrays there are none
-array-by : (test : Meant → Bool) → IsNumeric test → (g : SignalCoding) (bs : List ℕ) (o : Option CodingType) → option_map_or test (option_and_then (λ t. meaning_in g t.items (Bytes bs)) o) false ≡ false
-array-by test numeric g bs None = refl
-array-by test numeric g bs (Some t) = codings-fail test numeric g (Bytes bs) (all_codings t.items)
+array-by : (test : Meant → Bool) → IsNumeric test → (g : SignalCoding) (bs : List ℕ) → g.is_wide ≡ false → (o : Option CodingType) → option_map_or test (option_and_then (λ t. meaning_in g t.items (Bytes bs)) o) false ≡ false
+array-by test numeric g bs narrow None = refl
+array-by test numeric g bs narrow (Some t) =
+    ap (λ w. option_map_or test (cond w (by_item g t.items (Bytes bs) (wide_number bs) (item_for t.items (wide_number bs))) (coded_meaning g t.items (Bytes bs))) false) narrow
+    ∙ codings-fail test numeric g (Bytes bs) (all_codings t.items)
 
-pub array-fails : (test : Meant → Bool) → IsNumeric test → (k : CodedData) (s : ℕ) (bs : List ℕ) → option_map_or test (meaning k s (Bytes bs)) false ≡ false
-array-fails test numeric k s bs = array-by test numeric (signal_at k s) bs (signal_at k s).encoding
+-- no array that isn't wide passes, and texts stand for none of a wide one
+pub array-fails : (test : Meant → Bool) → IsNumeric test → (k : CodedData) (s : ℕ) (bs : List ℕ) → is_value k s (Bytes bs) && option_map_or test (meaning k s (Bytes bs)) false ≡ false
+array-fails test numeric k s bs =
+    let found : Bool = option_map_or test (meaning k s (Bytes bs)) false in
+    let sized : Bool = length bs == (signal_at k s).bits / 8 && (nat_le (length bs) 8 && list_all (λ b. nat_lt b 256) bs) in
+    elim (cases_Bool (signal_at k s).is_wide) [
+      | inl wide ↦ ap (λ w. ((signal_at k s).is_array && (not w && sized)) && found) wide ∙ ap (λ b. b && found) (and-none (signal_at k s).is_array)
+      | inr narrow ↦ ap (λ b. is_value k s (Bytes bs) && b) (array-by test numeric (signal_at k s) bs narrow (signal_at k s).encoding) ∙ and-none (is_value k s (Bytes bs))
+    ]
 
 -- ---- numbers of spans
 
@@ -181,7 +198,7 @@ pub within-is : (spans : List Span) (k : CodedData) (s : ℕ) (low high : ℤ) (
 within-is spans k s low high unit some found (Scalar n) =
     scalars-are spans k s (λ n. option_map_or (is_decimal_within low high unit) (meaning k s (Scalar n)) false) some (λ n lt. found n lt ∙ sought-is (is_decimal_within low high unit) None (Some (low, high)) unit (decimal-numeric low high unit) (decimal-agrees low high unit) k s n) n
 within-is spans k s low high unit some found (Bytes bs) =
-    sym (and-none (is_value k s (Bytes bs))) ∙ ap (λ b. is_value k s (Bytes bs) && b) (sym (array-fails (is_decimal_within low high unit) (decimal-numeric low high unit) k s bs))
+    sym (array-fails (is_decimal_within low high unit) (decimal-numeric low high unit) k s bs)
 
 -- ---- a text
 
@@ -263,7 +280,7 @@ named-in spans k s text some found (Scalar n) =
     let test : Meant → Bool = names text (number_and_unit text) in
     scalars-are spans k s (λ n. option_map_or test (meaning k s (Scalar n)) false) some (λ n lt. found n lt ∙ sought-is test (Some text) (decimals_of text) (unit_behind text) (names-numeric text (number_and_unit text)) (names-agrees text (number_and_unit text)) k s n) n
 named-in spans k s text some found (Bytes bs) =
-    sym (and-none (is_value k s (Bytes bs))) ∙ ap (λ b. is_value k s (Bytes bs) && b) (sym (array-fails (names text (number_and_unit text)) (names-numeric text (number_and_unit text)) k s bs))
+    sym (array-fails (names text (number_and_unit text)) (names-numeric text (number_and_unit text)) k s bs)
 
 pub text-is : (spans : List Span) (coded : Option Value) (k : CodedData) (s : ℕ) (text : List ℕ) → All IsSomeSpan spans
     → ((n : ℕ) → n < 65536 → list_any (λ z. in_span z n) spans ≡ sought_of k s (Some text) (decimals_of text) (unit_behind text) n)

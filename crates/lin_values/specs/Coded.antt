@@ -1,5 +1,5 @@
 -- The encodings of the signals of a cluster.
-use Rattle.std.specs.Prelude.{◌≡◌, ℕ, ◌<◌, ◌==◌, ◌&&◌, not, Bool, true, false, List, [], ◌∷◌, map, filter}
+use Rattle.std.specs.Prelude.{◌≡◌, ℕ, ◌<◌, ◌^◌, ◌==◌, ◌&&◌, not, Bool, true, false, List, [], ◌∷◌, map, filter}
 use Rattle.std.specs.Prelude.{find, flat_map, fold, max, length, Option, Some, None, nat_lt, nat_le}
 use Rattle.std.specs.Prelude.{option_and_then, slice_index_or, if◌then◌else◌}
 use Rattle.std.specs.List.{list_any, list_all}
@@ -11,6 +11,7 @@ use Rattle.lin_parts.specs.declared.parts.Parts.{Parts}
 use Rattle.lin_parts.specs.declared.parts.Signal.{Signal}
 use Rattle.lin_parts.specs.declared.description.Name.{Name}
 use Rattle.lin_values.specs.Layers.{item_in, AreInOrder}
+use Rattle.lin_values.specs.Value.{fits}
 use Rattle.lin_values.specs.declared.encoding.Coding.{Coding}
 use Rattle.lin_values.specs.declared.encoding.Coding.TheVariants as codings
 use Rattle.lin_values.specs.declared.decimals.Decimal.{Decimal}
@@ -34,7 +35,8 @@ has_value raw Ascii = false
 
 abbrev pub in_range : ℕ → Item → Bool
 in_range raw (Logical v text) = false
-in_range raw (Physical from to scale offset unit) = nat_le from raw && nat_le raw to
+in_range raw (Physical from to scale offset unit) =
+    fits to scale offset && (nat_le from raw && nat_le raw to)
 in_range raw Bcd = false
 in_range raw Ascii = false
 
@@ -45,7 +47,7 @@ abbrev pub or_else : {A : Type 0} → Option A → Option A → Option A
 or_else (Some x) y = Some x
 or_else None y = y
 
--- the item that counts for a raw value of a scalar: the first value, and else the first range
+-- the item that counts for a number: the first value, and else the first range that fits
 abbrev pub item_for : List PlacedItem → ℕ → Option Item
 item_for ps raw =
     or_else (find (has_value raw) (all_items ps)) (find (in_range raw) (all_items ps))
@@ -75,14 +77,14 @@ range_in Ascii = None
 
 abbrev pub is_range : Item → Bool
 is_range (Logical v text) = false
-is_range (Physical from to scale offset unit) = true
+is_range (Physical from to scale offset unit) = fits to scale offset
 is_range Bcd = false
 is_range Ascii = false
 
--- the value, or the end of the range
+-- the value, or the end of the range that fits
 abbrev pub ends_of : Item → List ℕ
 ends_of (Logical v text) = v ∷ []
-ends_of (Physical from to scale offset unit) = to ∷ []
+ends_of (Physical from to scale offset unit) = if fits to scale offset then to ∷ [] else []
 ends_of Bcd = []
 ends_of Ascii = []
 
@@ -130,15 +132,17 @@ pub record IsIndexed (c : CodingType) (t : Traits) (parts : List RangePart) : Ty
   pub first : t.first ≡ first_coding c.items
   pub second : t.second ≡ second_coding c.items
   pub ordered : AreInOrder parts
-  pub found : (raw : ℕ) → raw < 65536
+  pub found : (raw : ℕ) → raw < 2 ^ 64
       → option_and_then (item_by c.items) (item_in parts raw) ≡ item_for c.items raw
 
 -- ---- signals
 
--- a signal, as far as its values go, and its encoding
+-- a signal, as far as its values go, and its encoding; the values of a wide one are numbers, though it is
+-- an array
 pub record SignalCoding : Type 0 where
   pub bits : ℕ
   pub is_array : Bool
+  pub is_wide : Bool
   pub encoding : Option CodingType
 
 pub record CodedData : Type 0 where
@@ -159,16 +163,25 @@ abbrev pub encoding_by : Codings → Signal → Option CodingType
 encoding_by k s =
     option_and_then (λ p. type_named k.types p.1) (find (is_named s.name) (named_in k.lines))
 
+-- whether a signal is one of those whose values are numbers, though it is an array
+abbrev pub is_wide_in : List Name → Signal → Bool
+is_wide_in wide s = is_array s.initial && list_any (λ n. bytes_eq n.text s.name) wide
+
 abbrev pub signal_coding : Codings → Signal → SignalCoding
-signal_coding k s =
-    record { bits = s.size; is_array = is_array s.initial; encoding = encoding_by k s }
+signal_coding k s = record {
+  bits = s.size;
+  is_array = is_array s.initial;
+  is_wide = is_wide_in k.wide s;
+  encoding = encoding_by k s;
+}
 
 abbrev pub coded_signals : Parts → Codings → CodedData
 coded_signals c k = record { signals = map (signal_coding k) c.signals }
 
 -- out of range: a signal of one bit without an encoding
 abbrev pub signal_at : CodedData → ℕ → SignalCoding
-signal_at k s = slice_index_or k.signals s (record { bits = 1; is_array = false; encoding = None })
+signal_at k s =
+    slice_index_or k.signals s (record { bits = 1; is_array = false; is_wide = false; encoding = None })
 
 abbrev pub encoding_of : CodedData → ℕ → Option CodingType
 encoding_of k s = (signal_at k s).encoding

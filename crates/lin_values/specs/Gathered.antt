@@ -13,9 +13,9 @@ use Rattle.lin_parts.specs.Rules.{is_array}
 use Rattle.lin_parts.specs.declared.parts.Parts.{Parts}
 use Rattle.lin_parts.specs.declared.parts.Signal.{Signal}
 use Rattle.lin_parts.specs.declared.description.Name.{Name}
-use Rattle.lin_values.specs.Coded.{is_named}
+use Rattle.lin_values.specs.Coded.{is_named, is_wide_in}
 use Rattle.lin_values.specs.Traits.{has_coding}
-use Rattle.lin_values.specs.Warnings.{kind_warnings, representation_warnings, greatest_raw, name_warnings, told_by}
+use Rattle.lin_values.specs.Warnings.{kind_warnings, representation_warnings, greatest_number, has_numbers, name_warnings, told_by}
 use Rattle.lin_values.specs.Warnings.{type_warning}
 use Rattle.lin_values.specs.declared.coded.CodedSignal.{CodedSignal}
 use Rattle.lin_values.specs.declared.encoding.Coding.TheVariants.{Bcd, Ascii}
@@ -27,31 +27,38 @@ use denote.Ref.{Bor}
 
 -- ---- signals
 
-abbrev pub signal_without_coding : Signal → CodedSignal
-signal_without_coding s = record { bits = s.size; is_array = is_array s.initial; encoding = None }
+abbrev pub signal_without_coding : List Name → Signal → CodedSignal
+signal_without_coding wide s = record {
+  bits = s.size;
+  is_array = is_array s.initial;
+  is_wide = is_wide_in wide s;
+  encoding = None;
+}
 
 -- the first signal with each name
-abbrev pub AreSignalsByName : {S : Type 0} → Parts → IndexMap (Bor (List ℕ)) CodedSignal S → Type 0
-AreSignalsByName c m =
+abbrev pub AreSignalsByName : {S : Type 0} → List Name → Parts → IndexMap (Bor (List ℕ)) CodedSignal S
+    → Type 0
+AreSignalsByName wide c m =
     (q : List ℕ)
     → get_by (λ k. bytes_eq q k.now) m
-    ≡ option_map signal_without_coding (find (λ s. bytes_eq s.name q) c.signals)
+    ≡ option_map (signal_without_coding wide) (find (λ s. bytes_eq s.name q) c.signals)
 
 -- the number of the encoding that a name has
 abbrev pub encoding_in : {S : Type 0} → IndexMap (Bor (List ℕ)) (Option ℕ) S → List ℕ → Option ℕ
 encoding_in m name = option_and_then (λ e. e) (get_by (λ k. bytes_eq name k.now) m)
 
-abbrev pub signal_in : {S : Type 0} → IndexMap (Bor (List ℕ)) (Option ℕ) S → Signal → CodedSignal
-signal_in m s = record (signal_without_coding s) { encoding = encoding_in m s.name }
+abbrev pub signal_in : {S : Type 0} → List Name → IndexMap (Bor (List ℕ)) (Option ℕ) S → Signal
+    → CodedSignal
+signal_in wide m s = record (signal_without_coding wide s) { encoding = encoding_in m s.name }
 
 abbrev pub is_other_kind : Traits → CodedSignal → Bool
 is_other_kind t s =
-    if s.is_array then t.is_numeric
+    if s.is_array && not s.is_wide then t.is_numeric
     else has_coding t Bcd && not (s.bits % 4 == 0) || (has_coding t Ascii && not (s.bits % 8 == 0))
 
 abbrev pub told_of_kind : Traits → CodedSignal → Name → List Finding
 told_of_kind t s n =
-    when (not s.is_array && (t.is_numeric && nat_lt (greatest_raw s.bits) t.greatest))
+    when (has_numbers s.is_array s.is_wide && (t.is_numeric && nat_lt (greatest_number s.bits s.is_wide) t.greatest))
     (at_name finding.ValueOutside n)
     ++ when (is_other_kind t s) (at_name finding.KindOfSignal n)
 
@@ -68,12 +75,13 @@ type_at ts number = option_and_then (λ n. slice_index_or (map (λ t. Some t) ts
 pub record DeclaredData : Type 0 where
   pub types : List CodingType
   pub parts : Parts
+  pub wide : List Name
 
-pub record IsDeclared {S R : Type 0} (c : Parts) (ts : List CodingType)
+pub record IsDeclared {S R : Type 0} (c : Parts) (wide : List Name) (ts : List CodingType)
     (by_name : IndexMap (Bor (List ℕ)) ℕ S) (named : IndexMap (Bor (List ℕ)) CodedSignal R)
     : Type 0 where
   pub types : NumbersFirst (λ t. t.name) ts by_name
-  pub signals : AreSignalsByName c named
+  pub signals : AreSignalsByName wide c named
 
 -- ---- lines
 
@@ -88,31 +96,32 @@ AreNamed ts named m =
     → get_by (λ k. bytes_eq q k.now) m
     ≡ option_map (λ p. type_number ts p.1) (find (is_named q) named)
 
-abbrev pub lines_of : List CodingType → List CodedLine → Codings
-lines_of ts ls = record { types = ts; lines = ls; bad = [] }
+abbrev pub lines_of : List Name → List CodingType → List CodedLine → Codings
+lines_of wide ts ls = record { types = ts; lines = ls; bad = []; wide = wide }
 
 abbrev pub kind_told : Option CodingType → CodedSignal → Name → List Finding
 kind_told None s n = []
 kind_told (Some t) s n =
-    kind_warnings n (record { bits = s.bits; is_array = s.is_array; encoding = None }) t
+    kind_warnings n (record { bits = s.bits; is_array = s.is_array; is_wide = s.is_wide; encoding = None }) t
 
 -- what is told of a name of this encoding, which is the first of its kind or not
-abbrev pub name_told : Bool → Option CodingType → Name → Option Signal → List Finding
-name_told is_first t n None = at_name finding.UnknownSignal n ∷ []
-name_told is_first t n (Some s) =
-    if is_first then kind_told t (signal_without_coding s) n else at_name finding.RepresentedTwice n ∷ []
+abbrev pub name_told : List Name → Bool → Option CodingType → Name → Option Signal → List Finding
+name_told wide is_first t n None = at_name finding.UnknownSignal n ∷ []
+name_told wide is_first t n (Some s) =
+    if is_first then kind_told t (signal_without_coding wide s) n else at_name finding.RepresentedTwice n ∷ []
 
-abbrev pub line_told : Parts → List CodingType → List (Name × Name) → CodedLine → List Finding
-line_told c ts before l =
-    representation_warnings (lines_of ts []) l
-    ++ told_by (name_warnings c (lines_of ts [])) before (names_of l)
-
-abbrev pub lines_told : Parts → List CodingType → List (Name × Name) → List CodedLine
+abbrev pub line_told : Parts → List Name → List CodingType → List (Name × Name) → CodedLine
     → List Finding
-lines_told c ts before [] = []
-lines_told c ts before (l ∷ ls) =
-    line_told c ts before l ++ lines_told c ts (before ++ names_of l) ls
+line_told c wide ts before l =
+    representation_warnings (lines_of wide ts []) l
+    ++ told_by (name_warnings c (lines_of wide ts [])) before (names_of l)
+
+abbrev pub lines_told : Parts → List Name → List CodingType → List (Name × Name) → List CodedLine
+    → List Finding
+lines_told c wide ts before [] = []
+lines_told c wide ts before (l ∷ ls) =
+    line_told c wide ts before l ++ lines_told c wide ts (before ++ names_of l) ls
 
 -- what is wrong with names: of types, of encodings of lines, and of signals
-abbrev pub gathered_warnings : Parts → List CodingType → List CodedLine → List Finding
-gathered_warnings c ts ls = told_by type_warning [] ts ++ lines_told c ts [] ls
+abbrev pub gathered_warnings : Parts → List Name → List CodingType → List CodedLine → List Finding
+gathered_warnings c wide ts ls = told_by type_warning [] ts ++ lines_told c wide ts [] ls

@@ -1,12 +1,14 @@
 -- The numbers of the items that count for raw values, and what is told of an item by the ranges that
 -- were added before it.
-use Rattle.std.specs.Prelude.{ℕ, ◌==◌, ◌&&◌, ◌++◌, List, [], Option, is_some, nat_le, nat_lt}
+use Rattle.std.specs.Prelude.{ℕ, ◌==◌, ◌&&◌, ◌++◌, List, [], ◌∷◌, Option, if◌then◌else◌, is_some, nat_le}
+use Rattle.std.specs.Prelude.{nat_lt}
 use Rattle.std.specs.List.{list_any, position_from}
 use Rattle.lin_cluster.specs.FindingsNames.{at_place, when}
 use Rattle.lin_cluster.specs.declared.finding.Finding.{Finding}
 use Rattle.lin_cluster.specs.declared.finding.FindingKind.TheVariants as finding
 use Rattle.lin_values.specs.Coded.{has_value, in_range}
 use Rattle.lin_values.specs.Layers.{item_in, numbers_of}
+use Rattle.lin_values.specs.Value.{fits}
 use Rattle.lin_values.specs.declared.codings.Item.{Item}
 use Rattle.lin_values.specs.declared.codings.Item.TheVariants.{Logical, Physical, Bcd, Ascii}
 use Rattle.lin_values.specs.declared.codings.PlacedItem.{PlacedItem}
@@ -37,7 +39,9 @@ span_told ls s p =
 abbrev pub range_told : List RangePart → PlacedItem → Item → List Finding
 range_told ls p (Logical v text) = []
 range_told ls p (Physical from to scale offset unit) =
-    span_told ls (record { from = from; to = to }) p
+    if fits to scale offset
+    then span_told ls (record { from = from; to = to }) p
     ++ when (scale.digits == 0) (at_place finding.ZeroScale p.place)
+    else at_place finding.BadEncoding p.place ∷ []
 range_told ls p Bcd = []
 range_told ls p Ascii = []

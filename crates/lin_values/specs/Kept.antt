@@ -9,6 +9,7 @@ abbrev pub kept_signal : List CodingType → CodedSignal → SignalCoding
 kept_signal ts s = record {
   bits = s.bits;
   is_array = s.is_array;
+  is_wide = s.is_wide;
   encoding =
       option_and_then (λ n. slice_index_or (map (λ t. Some t) ts) n None) s.encoding;
 }

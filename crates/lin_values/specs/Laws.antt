@@ -1,5 +1,5 @@
 -- What holds of meanings, texts and raw values.
-use Rattle.std.specs.Prelude.{◌≡◌, ◌<◌, ◌≤◌, ◌⊎◌, ℕ, ℤ, Contains, List, Option, Some, true}
+use Rattle.std.specs.Prelude.{◌≡◌, ◌<◌, ◌≤◌, ◌⊎◌, ℕ, ℤ, Contains, List, Some, true}
 use Rattle.lin_frame.specs.declared.value.Value.{Value}
 use Rattle.lin_values.specs.Coded.{signal_at, CodedData}
 use Rattle.lin_values.specs.Meaning.{meaning, value_bytes}

@@ -1,12 +1,12 @@
 -- What a raw value of a signal means, the first that holds (LIN 2.2A, section 9.2.6.1).
-use Rattle.std.specs.Prelude.{ℕ, zero, suc, ◌+◌, ◌-◌, ◌*◌, ◌/◌, ◌%◌, ◌^◌, ◌==◌, ◌&&◌, Bool, List, [], ◌∷◌}
-use Rattle.std.specs.Prelude.{◌++◌, map, flat_map, filter, reverse, Option, Some, None, nat_le, nat_lt, min}
-use Rattle.std.specs.Prelude.{if◌then◌else◌, option_and_then}
+use Rattle.std.specs.Prelude.{ℕ, zero, suc, ◌+◌, ◌*◌, ◌/◌, ◌%◌, ◌^◌, ◌==◌, ◌&&◌, Bool, List, [], ◌∷◌}
+use Rattle.std.specs.Prelude.{map, flat_map, reverse, Option, Some, None, nat_le, nat_lt, min}
+use Rattle.std.specs.Prelude.{◌≡◌, ◌⊎◌, true, if◌then◌else◌, option_and_then}
 use Rattle.std.specs.List.{list_all}
 use lib.IntN.{pos, ◌+ℤ◌, ◌*ℤ◌}
 use Rattle.lin_frame.specs.declared.value.Value.{Value}
 use Rattle.lin_frame.specs.declared.value.Value.TheVariants.{Scalar, Bytes}
-use Rattle.lin_values.specs.Coded.{all_codings, item_for, or_else, signal_at, CodedData, SignalCoding}
+use Rattle.lin_values.specs.Coded.{all_codings, has_value, in_range, item_for, or_else, signal_at, CodedData, SignalCoding}
 use Rattle.lin_values.specs.Meant.{Meant, Named, Number, Physical, Digits, Letters}
 use Rattle.lin_values.specs.Value.{scaled_value}
 use Rattle.lin_values.specs.declared.coded.CodedSignal.{CodedSignal}
@@ -28,9 +28,15 @@ meant (meanings.Letters letters) = Letters letters.items
 
 -- a signal as code has it, without its encoding
 abbrev pub plain_signal : CodedSignal → SignalCoding
-plain_signal s = record { bits = s.bits; is_array = s.is_array; encoding = None }
+plain_signal s =
+    record { bits = s.bits; is_array = s.is_array; is_wide = s.is_wide; encoding = None }
 
--- ---- 1 and 2: of scalars
+-- ---- 1 and 2: of scalars and of wide signals
+
+-- the number of a wide signal: the sum of its bytes times 256 ^ k
+abbrev pub wide_number : List ℕ → ℕ
+wide_number [] = 0
+wide_number (b ∷ bs) = b + 256 * wide_number bs
 
 abbrev pub named_or_number : ℕ → List ℕ → Meant
 named_or_number raw [] = Number raw
@@ -42,6 +48,10 @@ numeric_meaning (items.Physical from to scale offset unit) raw =
     Some (Physical (pos raw *ℤ scaled_value scale +ℤ scaled_value offset) unit)
 numeric_meaning items.Bcd raw = None
 numeric_meaning items.Ascii raw = None
+
+-- an item that may count for a number: a value or a range that has it
+abbrev pub CountsFor : ℕ → Item → Type 0
+CountsFor n i = (has_value n i ≡ true) ⊎ (in_range n i ≡ true)
 
 -- ---- 3: digits and characters
 
@@ -98,13 +108,20 @@ coded_meaning s ps v = first_some (meaning_by s v) (all_codings ps)
 
 -- ---- all
 
+-- the number of a scalar, or of a wide signal
+abbrev pub number_of : Bool → Value → Option ℕ
+number_of is_wide (Scalar raw) = Some raw
+number_of is_wide (Bytes bs) = if is_wide then Some (wide_number bs) else None
+
 abbrev pub by_item : SignalCoding → List PlacedItem → Value → ℕ → Option Item → Option Meant
 by_item s ps v raw (Some i) = numeric_meaning i raw
 by_item s ps v raw None = coded_meaning s ps v
 
 abbrev pub meaning_in : SignalCoding → List PlacedItem → Value → Option Meant
 meaning_in s ps (Scalar raw) = by_item s ps (Scalar raw) raw (item_for ps raw)
-meaning_in s ps (Bytes bs) = coded_meaning s ps (Bytes bs)
+meaning_in s ps (Bytes bs) =
+    if s.is_wide then by_item s ps (Bytes bs) (wide_number bs) (item_for ps (wide_number bs))
+    else coded_meaning s ps (Bytes bs)
 
 abbrev pub meaning_of : SignalCoding → Value → Option Meant
 meaning_of s v = option_and_then (λ t. meaning_in s t.items v) s.encoding

@@ -2,7 +2,7 @@
 use Rattle.std.specs.Prelude.{◌≡◌, ℕ, ◌+◌, ◌-◌, ◌*◌, ◌^◌, ◌≤◌, ◌==◌, ◌&&◌, ◌||◌, Bool, true, false, ℤ}
 use Rattle.std.specs.Prelude.{replicate, ◌/◌, List, [], ◌∷◌, ◌++◌, drop, filter, flat_map, fold, length, map}
 use Rattle.std.specs.Prelude.{slice_index, sum_by, All, AllPairs, take, Option, Some, None, is_some, nat_le, nat_lt}
-use Rattle.std.specs.Prelude.{if◌then◌else◌, ◌⊎◌, unsigned_abs, option_and_then, int_lt, not, ◌-ℤ◌, ◌≤ℤ◌, ◌<ℤ◌}
+use Rattle.std.specs.Prelude.{if◌then◌else◌, unsigned_abs, option_and_then, int_lt, not, ◌-ℤ◌}
 use Rattle.std.specs.List.{list_all, list_any, range_with_len}
 use Rattle.std.specs.Option.{option_map, option_map_or}
 use Rattle.std.specs.Str.{bytes_eq}
@@ -25,14 +25,15 @@ use Rattle.lin_values.specs.declared.codings.PlacedItem.{PlacedItem}
 use Rattle.lin_values.specs.declared.layers.RangePart.{RangePart}
 use Rattle.lin_values.specs.declared.layers.Span.{Span}
 
--- ---- values that signals can have
+-- ---- values that signals can have, and that texts stand for: those of scalars and of arrays that aren't
+-- wide
 
 abbrev pub is_value : CodedData → ℕ → Value → Bool
 is_value k s (Scalar raw) = not (signal_at k s).is_array && nat_le raw (greatest_raw (signal_at k s).bits)
 is_value k s (Bytes bs) =
     (signal_at k s).is_array
-    && (length bs == (signal_at k s).bits / 8
-    && (nat_le (length bs) 8 && list_all (λ b. nat_lt b 256) bs))
+    && (not (signal_at k s).is_wide && (length bs == (signal_at k s).bits / 8
+    && (nat_le (length bs) 8 && list_all (λ b. nat_lt b 256) bs)))
 
 -- ---- a decimal and a unit, which may be left out
 

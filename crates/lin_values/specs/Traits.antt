@@ -1,6 +1,7 @@
 -- What is kept of items, one after the other.
 use Rattle.std.specs.Prelude.{ℕ, ◌||◌, Bool, true, false, max, Option, Some, None, if◌then◌else◌}
 use Rattle.lin_values.specs.Coded.{same_coding}
+use Rattle.lin_values.specs.Value.{fits}
 use Rattle.lin_values.specs.declared.encoding.Coding.{Coding}
 use Rattle.lin_values.specs.declared.encoding.Coding.TheVariants as codings
 use Rattle.lin_values.specs.declared.encoding.Traits.{Traits}
@@ -27,6 +28,6 @@ with_coding t c = coded_behind t t.first c
 abbrev pub with_traits : Traits → Item → Traits
 with_traits t (Logical v text) = with_number t v
 with_traits t (Physical from to scale offset unit) =
-    record (with_number t to) { has_range = true }
+    if fits to scale offset then record (with_number t to) { has_range = true } else t
 with_traits t Bcd = with_coding t codings.Bcd
 with_traits t Ascii = with_coding t codings.Ascii

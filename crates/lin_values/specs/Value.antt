@@ -1,6 +1,6 @@
 -- What a decimal is worth.
 use Rattle.std.specs.Prelude.{ℕ, zero, suc, ◌≡◌, ◌*◌, ◌/◌, ◌^◌, ◌-◌, ◌+◌, ◌<◌, ◌≤◌, ◌%◌, ◌==◌, ◌&&◌}
-use Rattle.std.specs.Prelude.{Bool, true, false, ℤ, nat_lt, unsigned_abs, if◌then◌else◌}
+use Rattle.std.specs.Prelude.{Bool, true, false, ℤ, max, nat_lt, unsigned_abs, if◌then◌else◌}
 use Rattle.std.specs.Int.{is_negative}
 use lib.IntN.{pos, neg_ℤ}
 use Rattle.lin_values.specs.declared.decimals.Decimal.{Decimal}
@@ -20,7 +20,22 @@ IsInLimits d = (d.places ≤ 24) × (d.digits < 10 ^ (9 + d.places))
 abbrev pub is_small : ℤ → Bool
 is_small units = nat_lt (unsigned_abs units) (10 ^ 33)
 
--- below 10 ^ 14 in size, as all physical values are
+-- the greatest size of `number * scale + offset`, in units of the finer decimal of the two
+abbrev pub greatest_size : ℕ → Decimal → Decimal → ℕ
+greatest_size number scale offset =
+    let places = max scale.places offset.places
+    in number * (scale.digits * 10 ^ (places - scale.places))
+    + offset.digits * 10 ^ (places - offset.places)
+
+-- whether `number * scale + offset` is told exactly: below 2 ^ 127 in size, in these units
+abbrev pub fits : ℕ → Decimal → Decimal → Bool
+fits number scale offset = nat_lt (greatest_size number scale offset) (2 ^ 127)
+
+-- with at most 24 places, as all physical values are
+abbrev pub IsExact : Decimal → Type 0
+IsExact d = (d.places ≤ 24) × (d.digits < 2 ^ 127)
+
+-- below 10 ^ 14 in size, as the physical values of scalars are
 abbrev pub IsReadable : Decimal → Type 0
 IsReadable d = (d.places ≤ 24) × (d.digits < 10 ^ (14 + d.places))
 

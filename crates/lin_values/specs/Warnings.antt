@@ -13,6 +13,7 @@ use Rattle.lin_parts.specs.declared.parts.Signal.{Signal}
 use Rattle.lin_parts.specs.declared.description.Name.{Name}
 use Rattle.lin_values.specs.Coded.{all_codings, all_items, greatest_end, is_named, is_numeric, named_in}
 use Rattle.lin_values.specs.Coded.{same_coding, type_named, has_value, signal_coding, SignalCoding}
+use Rattle.lin_values.specs.Value.{fits}
 use Rattle.lin_values.specs.declared.encoding.Coding.TheVariants as codings
 use Rattle.lin_values.specs.declared.codings.CodedLine.{CodedLine}
 use Rattle.lin_values.specs.declared.codings.CodingType.{CodingType}
@@ -39,22 +40,25 @@ value_warning before p Ascii = []
 abbrev pub value_warnings : List PlacedItem → List Finding
 value_warnings ps = told_by (λ before p. value_warning before p p.item) [] ps
 
--- whether a range and this one have a number in common
+-- whether a range and this one, which fits, have a number in common
 abbrev pub meets_range : ℕ → ℕ → Item → Bool
 meets_range from to (Logical v text) = false
 meets_range from to (Physical min max scale offset unit) =
-    nat_le min max && (nat_le from max && nat_le min to)
+    fits max scale offset && (nat_le min max && (nat_le from max && nat_le min to))
 meets_range from to Bcd = false
 meets_range from to Ascii = false
 
--- 36: the first number is above the last; 37: an earlier range has a number of it; 40: the scale is 0
+-- 31: it doesn't fit. Else 36: the first number is above the last; 37: an earlier range has a number of
+-- it; 40: the scale is 0
 abbrev pub range_warning : List PlacedItem → PlacedItem → Item → List Finding
 range_warning before p (Logical v text) = []
 range_warning before p (Physical from to scale offset unit) =
-    when (nat_lt to from) (at_place finding.MinAboveMax p.place)
+    if fits to scale offset
+    then when (nat_lt to from) (at_place finding.MinAboveMax p.place)
     ++ (when (nat_le from to && list_any (meets_range from to) (all_items before))
     (at_place finding.RangesOverlap p.place)
     ++ when (scale.digits == 0) (at_place finding.ZeroScale p.place))
+    else at_place finding.BadEncoding p.place ∷ []
 range_warning before p Bcd = []
 range_warning before p Ascii = []
 
@@ -82,6 +86,14 @@ signal_by_name c n = find (λ s. bytes_eq s.name n.text) c.signals
 abbrev pub greatest_raw : ℕ → ℕ
 greatest_raw bits = 2 ^ (min bits 16) - 1
 
+-- the greatest number of a signal of so many bits
+abbrev pub greatest_number : ℕ → Bool → ℕ
+greatest_number bits is_wide = if is_wide then 2 ^ (min bits 64) - 1 else greatest_raw bits
+
+-- scalars and wide signals
+abbrev pub has_numbers : Bool → Bool → Bool
+has_numbers is_array is_wide = not is_array || is_wide
+
 -- digits of four bits, or characters of eight, of which so many bits aren't whole ones
 abbrev pub is_broken : ℕ → List PlacedItem → Bool
 is_broken bits ps =
@@ -91,9 +103,11 @@ is_broken bits ps =
 -- 39: a value or an end that the signal can't hold; 41: items of another kind than the signal
 abbrev pub kind_warnings : Name → SignalCoding → CodingType → List Finding
 kind_warnings n s t =
-    when (not s.is_array && (is_numeric t.items && nat_lt (greatest_raw s.bits) (greatest_end t.items)))
+    when
+    (has_numbers s.is_array s.is_wide
+    && (is_numeric t.items && nat_lt (greatest_number s.bits s.is_wide) (greatest_end t.items)))
     (at_name finding.ValueOutside n)
-    ++ when (if s.is_array then is_numeric t.items else is_broken s.bits t.items)
+    ++ when (if s.is_array && not s.is_wide then is_numeric t.items else is_broken s.bits t.items)
     (at_name finding.KindOfSignal n)
 
 abbrev pub known_warnings : Codings → Name → Option CodingType → Signal → List Finding

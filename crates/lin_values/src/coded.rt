@@ -1,6 +1,6 @@
 //! The encodings of signals: which one each has, and what is wrong with what the sections say.
 
-ghost use Rattle.std.specs.Prelude.{◌≡◌, ◌++◌, ◌<◌, [], ℕ, List, flat_map, length, map, IfOk};
+ghost use Rattle.std.specs.Prelude.{◌≡◌, ◌&&◌, ◌++◌, ◌<◌, [], ℕ, List, flat_map, length, map, IfOk};
 ghost use Rattle.std.specs.Prelude.{MatchOption, OnOk, Some, None, is_some, not, option_map};
 ghost use Rattle.std.specs.Prelude.{if◌then◌else◌, IsPermutation, IsSorted};
 ghost use Rattle.std.specs.Option.{option_or};
@@ -9,6 +9,7 @@ ghost use Rattle.indexmap.specs.IndexMap.{get_by};
 ghost use Rattle.lin_cluster.specs.Findings.{finding_cmp};
 ghost use Rattle.lin_cluster.specs.FindingsNames.{at_place};
 ghost use Rattle.lin_cluster.specs.declared.finding.FindingKind.TheVariants.{BadEncoding};
+ghost use Rattle.lin_cluster.specs.Names.{NumbersFirst};
 ghost use Rattle.lin_parts.specs.Cluster.{signal_of};
 ghost use Rattle.lin_parts.specs.declared.description.Name.{Name};
 ghost use Rattle.lin_values.specs.Coded.{coded_signals, encoding_of, named_in, signal_at, signal_coding};
@@ -17,7 +18,7 @@ ghost use Rattle.lin_values.specs.Gathered.{lines_of, lines_told, name_told, nam
 ghost use Rattle.lin_values.specs.Gathered.{told_of_kind, type_at, type_number, signal_without_coding};
 ghost use Rattle.lin_values.specs.Gathered.{AreNamed, AreSignalsByName};
 ghost use Rattle.lin_values.specs.Kept.{kept_signal};
-ghost use Rattle.lin_values.specs.Warnings.{item_warnings, greatest_raw, signal_by_name, told_by};
+ghost use Rattle.lin_values.specs.Warnings.{item_warnings, greatest_number, greatest_raw, signal_by_name, told_by};
 ghost use Rattle.lin_values.specs.Warnings.{type_warning, encoding_warnings};
 
 use crate::codings::{CodedLine, CodingType, Codings};
@@ -41,12 +42,23 @@ impl Named for Encoding {
     }
 }
 
-/// A signal: how many bits it has, whether it is an array, and the number of its encoding.
+/// A signal: how many bits it has, whether it is an array, whether that is a wide signal, whose values
+/// are numbers, and the number of its encoding.
 #[derive(Clone, Copy, Debug)]
 pub struct CodedSignal {
     pub bits: u8,
     pub is_array: bool,
+    pub is_wide: bool,
     encoding: Option<usize>,
+}
+
+impl CodedSignal {
+    /// Whether the signal is an array whose values are numbers.
+    pub(crate) fn is_wide_array(self) -> bool
+        ensures { result ≡ (self.is_array && self.is_wide) }
+    {
+        self.is_array && self.is_wide
+    }
 }
 
 /// What the signals of a cluster mean. Contracts see the encodings, and that of each signal.
@@ -116,10 +128,11 @@ pub fn put_first<'a, V: Copy>(
     Ok(true)
 }
 
-/// A signal of a cluster, without an encoding.
-fn uncoded(cluster: &Cluster, signal: u16) -> CodedSignal
+/// A signal of a cluster, without an encoding. `wide` are the names of wide signals.
+fn uncoded(cluster: &Cluster, signal: u16, wide: &Numbers<'_>) -> CodedSignal
     requires { signal < length cluster.now.signals }
-    ensures { result ≡ signal_without_coding (signal_of cluster.now signal) }
+    ensures { (names : List Name) → NumbersFirst (λ n. n) names wide.now.map
+        → result ≡ signal_without_coding names (signal_of cluster.now signal) }
 {
     let is_array = match cluster.initial(signal) {
         Value::Scalar(_) => false,
@@ -128,42 +141,48 @@ fn uncoded(cluster: &Cluster, signal: u16) -> CodedSignal
     CodedSignal {
         bits: cluster.signal_size(signal),
         is_array,
+        is_wide: is_array && wide.map.contains_key(&cluster.signal_name(signal)),
         encoding: None,
     }
 }
 
-/// The signals of a cluster by their names.
-fn signals_by_name(
+/// The signals of a cluster by their names. `wide` are the names of wide signals.
+fn signals_by_name<'a>(
     alloc: Global,
-    cluster: &Cluster,
-) -> Result<IndexMap<&[u8], CodedSignal>, AllocError>
-    ensures { IfOk result (λ m. AreSignalsByName cluster.now m) }
+    cluster: &'a Cluster,
+    wide: &Numbers<'_>,
+) -> Result<IndexMap<&'a [u8], CodedSignal>, AllocError>
+    ensures { IfOk result (λ m. (names : List Name) → NumbersFirst (λ n. n) names wide.now.map
+        → AreSignalsByName names cluster.now m) }
 {
     let mut signals = IndexMap::with_capacity(alloc, cluster.signals())?;
     for signal in 0..cluster.signals() as u16 {
         put_first(
             &mut signals,
             cluster.signal_name(signal),
-            uncoded(cluster, signal),
+            uncoded(cluster, signal, wide),
         )?;
     }
     Ok(signals)
 }
 
-/// The signals of a cluster, each with the encoding that its name has.
+/// The signals of a cluster, each with the encoding that its name has. `wide` are the names of wide
+/// signals.
 fn all_signals(
     alloc: Global,
     cluster: &Cluster,
+    wide: &Numbers<'_>,
     named: &NamedSignals<'_>,
 ) -> Result<Vec<CodedSignal>, AllocError>
-    ensures { IfOk result (λ v. v.items ≡ map (signal_in named.now.map) cluster.now.signals) }
+    ensures { IfOk result (λ v. (names : List Name) → NumbersFirst (λ n. n) names wide.now.map
+        → v.items ≡ map (signal_in names named.now.map) cluster.now.signals) }
 {
     let mut signals = Vec::with_capacity(alloc, cluster.signals())?;
     for signal in 0..cluster.signals() as u16 {
         let encoding = named.encoding_of(cluster.signal_name(signal));
         signals.push(CodedSignal {
             encoding,
-            ..uncoded(cluster, signal)
+            ..uncoded(cluster, signal, wide)
         })?;
     }
     Ok(signals)
@@ -180,12 +199,23 @@ pub(crate) fn most_of(bits: u8) -> u16
     }
 }
 
-/// Whether an encoding's items are of another kind than a signal: numbers for an array, digits or
-/// characters for a scalar that isn't whole ones.
+/// The greatest number of a scalar or a wide signal.
+fn greatest_number(signal: CodedSignal) -> u64
+    ensures { result ≡ greatest_number signal.bits signal.is_wide }
+{
+    if signal.is_wide {
+        ((1u128 << signal.bits.min(64)) - 1) as u64
+    } else {
+        u64::from(most_of(signal.bits))
+    }
+}
+
+/// Whether an encoding's items are of another kind than a signal: numbers for an array that isn't wide,
+/// digits or characters for a number that isn't whole ones.
 fn is_other_kind(traits: Traits, signal: CodedSignal) -> bool
     ensures { result ≡ is_other_kind traits signal }
 {
-    if signal.is_array {
+    if signal.is_array && !signal.is_wide {
         return traits.is_numeric;
     }
     traits.breaks(signal.bits)
@@ -201,7 +231,8 @@ fn add_signal_warnings(
     ensures { OnOk result
         (warned.new.items ≡ warned.old.items ++ told_of_kind traits signal name.now) }
 {
-    if !signal.is_array && traits.is_numeric && traits.greatest > most_of(signal.bits) {
+    let has_numbers = !signal.is_array || signal.is_wide;
+    if has_numbers && traits.is_numeric && traits.greatest > greatest_number(signal) {
         warned.push(at_name(FindingKind::ValueOutside, name))?;
     }
     if is_other_kind(traits, signal) {
@@ -210,10 +241,11 @@ fn add_signal_warnings(
     Ok(())
 }
 
-/// The encodings and the signals of a cluster, found by their names. Contracts see the types and the
-/// cluster's parts.
+/// The encodings and the signals of a cluster, found by their names. Contracts see the types, the cluster's
+/// parts and the names of wide signals.
 struct Declared<'a> {
     cluster: &'a Cluster,
+    wide: &'a [Name],
     encodings: &'a [Encoding],
     numbers: Numbers<'a>,
     signals: IndexMap<&'a [u8], CodedSignal>,
@@ -224,9 +256,9 @@ impl<'a> Model for Declared<'a> {
 
     ghost Value = { DeclaredData };
 
-    ghost view = { λ d. record { types = d.encodings.now; parts = d.cluster.now } };
+    ghost view = { λ d. record { types = d.encodings.now; parts = d.cluster.now; wide = d.wide.now } };
 
-    ghost invariant = { λ d. IsDeclared d.cluster.now d.encodings.now d.numbers.map d.signals };
+    ghost invariant = { λ d. IsDeclared d.cluster.now d.wide.now d.encodings.now d.numbers.map d.signals };
 }
 
 // (written out, so that an owner has one call)
@@ -234,6 +266,7 @@ impl<'a> Drop for Declared<'a> {
     fn drop(self) {
         let Declared {
             cluster: _,
+            wide: _,
             encodings: _,
             numbers: _numbers,
             signals: _signals,
@@ -246,14 +279,18 @@ impl<'a> Declared<'a> {
         alloc: Global,
         encodings: &'a [Encoding],
         cluster: &'a Cluster,
+        wide: &'a [Name],
     ) -> Result<Declared<'a>, AllocError>
         ensures types { IfOk result (λ d. d.types ≡ encodings.now) }
         ensures parts { IfOk result (λ d. d.parts ≡ cluster.now) }
+        ensures wide { IfOk result (λ d. d.wide ≡ wide.now) }
     {
         let numbers = numbers_of(alloc, encodings)?;
-        let signals = signals_by_name(alloc, cluster)?;
+        let names = numbers_of(alloc, wide)?;
+        let signals = signals_by_name(alloc, cluster, &names)?;
         Ok(Declared {
             cluster,
+            wide,
             encodings,
             numbers,
             signals,
@@ -284,7 +321,8 @@ impl<'a> Declared<'a> {
 
     /// The signal that has a name.
     fn signal_named(&self, name: &Name) -> Option<CodedSignal>
-        ensures { result ≡ option_map signal_without_coding (signal_by_name self.now.parts name.now) }
+        ensures { result
+            ≡ option_map (signal_without_coding self.now.wide) (signal_by_name self.now.parts name.now) }
     {
         self.signals.get(&name.text.as_slice()).copied()
     }
@@ -315,7 +353,7 @@ impl<'a> Declared<'a> {
         warned: &mut Vec<Finding>,
     ) -> Result<(), AllocError>
         ensures { OnOk result (warned.new.items ≡ warned.old.items
-            ++ name_told is_first (type_at self.now.types encoding) name.now
+            ++ name_told self.now.wide is_first (type_at self.now.types encoding) name.now
             (signal_by_name self.now.parts name.now)) }
     {
         match self.signal_named(name) {
@@ -339,7 +377,7 @@ impl<'a> Declared<'a> {
         ensures warned { OnOk result ((before : List (Name × Name))
             → AreNamed self.now.types before named.old.map
             → warned.new.items ≡ warned.old.items
-            ++ line_told self.now.parts self.now.types before line.now) }
+            ++ line_told self.now.parts self.now.wide self.now.types before line.now) }
     {
         let encoding = self.encoding_named(&line.encoding);
         push_when(
@@ -364,7 +402,7 @@ impl<'a> Declared<'a> {
         ensures named { IfOk result
             (λ n. AreNamed self.now.types (named_in lines.now) n.map) }
         ensures warned { OnOk result (warned.new.items ≡ warned.old.items
-            ++ lines_told self.now.parts self.now.types [] lines.now) }
+            ++ lines_told self.now.parts self.now.wide self.now.types [] lines.now) }
     {
         let mut named = NamedSignals {
             map: IndexMap::with_capacity(alloc, 0)?,
@@ -393,23 +431,25 @@ impl<'a> Declared<'a> {
     }
 }
 
-/// The encoding of each signal, and what is wrong with the lines.
+/// The encoding of each signal, and what is wrong with the lines. `wide` are the names of wide signals.
 fn coded_signals(
     alloc: Global,
     cluster: &Cluster,
+    wide: &[Name],
     encodings: &[Encoding],
     lines: &[CodedLine],
     warned: &mut Vec<Finding>,
 ) -> Result<Vec<CodedSignal>, AllocError>
     ensures signals { IfOk result (λ v. map (kept_signal encodings.now) v.items
-        ≡ map (signal_coding (lines_of encodings.now lines.now)) cluster.now.signals) }
+        ≡ map (signal_coding (lines_of wide.now encodings.now lines.now)) cluster.now.signals) }
     ensures warned { OnOk result (warned.new.items
-        ≡ warned.old.items ++ gathered_warnings cluster.now encodings.now lines.now) }
+        ≡ warned.old.items ++ gathered_warnings cluster.now wide.now encodings.now lines.now) }
 {
-    let declared = Declared::new(alloc, encodings, cluster)?;
+    let declared = Declared::new(alloc, encodings, cluster, wide)?;
     declared.add_twice(warned)?;
     let named = declared.add_lines(alloc, lines, warned)?;
-    let signals = all_signals(alloc, cluster, &named)?;
+    let names = numbers_of(alloc, wide)?;
+    let signals = all_signals(alloc, cluster, &names, &named)?;
     Ok(signals)
 }
 
@@ -454,13 +494,19 @@ pub fn coded_by(
     ensures warnings { IfOk result (λ r. IsPermutation (encoding_warnings cluster.now codings) r.1) }
     ensures ordered { IfOk result (λ r. IsSorted finding_cmp r.1) }
 {
-    let Codings { types, lines, bad } = codings;
+    let Codings {
+        types,
+        lines,
+        bad,
+        wide,
+    } = codings;
     let mut warned = Vec::new(alloc);
     add_bad(&mut warned, bad.as_slice())?;
     let encodings = all_encodings(alloc, types, &mut warned)?;
     let signals = coded_signals(
         alloc,
         cluster,
+        wide.as_slice(),
         encodings.as_slice(),
         lines.as_slice(),
         &mut warned,
@@ -478,9 +524,20 @@ impl Coded {
     pub(crate) fn signal(&self, signal: u16) -> Option<CodedSignal>
         ensures { MatchOption result (encoding_of self.now signal ≡ None)
             (λ s. (s.bits ≡ (signal_at self.now signal).bits)
-            × (s.is_array ≡ (signal_at self.now signal).is_array)) }
+            × (s.is_array ≡ (signal_at self.now signal).is_array)
+            × (s.is_wide ≡ (signal_at self.now signal).is_wide)) }
     {
         self.signals.as_slice().get(usize::from(signal)).copied()
+    }
+
+    /// Whether a signal is wide: an array whose values are numbers.
+    pub fn is_wide(&self, signal: u16) -> bool
+        ensures { result ≡ (signal_at self.now signal).is_wide }
+    {
+        match self.signals.as_slice().get(usize::from(signal)) {
+            Some(known) => known.is_wide,
+            None => false,
+        }
     }
 
     /// The encoding of a signal.

@@ -10,13 +10,13 @@ use lin_text::{Many, OneOrMore, Text};
 pub enum Item {
     /// A value has a text.
     Logical {
-        value: u16,
+        value: u64,
         text: Text,
     },
     /// The values from one to another are `raw * scale + offset` of a unit.
     Physical {
-        min: u16,
-        max: u16,
+        min: u64,
+        max: u64,
         scale: Coefficient,
         offset: Coefficient,
         unit: Text,
@@ -49,10 +49,11 @@ pub struct CodedLine {
 }
 
 /// What the two sections say, in the order of the text, and where items and lines stand that are in
-/// no form.
+/// no form. `wide` are the names of the wide signals: arrays whose values are numbers.
 #[derive(Debug, Drop)]
 pub struct Codings {
     pub types: Many<CodingType>,
     pub lines: Many<CodedLine>,
     pub bad: Many<Location>,
+    pub wide: Many<Name>,
 }

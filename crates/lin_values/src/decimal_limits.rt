@@ -1,9 +1,9 @@
 //! Decimals within limits: scales and offsets of ranges, and physical values (LIN 2.2A, section
 //! 9.2.6.1).
 
-ghost use Rattle.std.specs.Prelude.{◌≡◌, ◌<◌, ◌^◌, unsigned_abs};
+ghost use Rattle.std.specs.Prelude.{◌≡◌, ◌<◌, ◌^◌, true, unsigned_abs};
 ghost use lib.IntN.{◌+ℤ◌, ◌*ℤ◌, pos};
-ghost use Rattle.lin_values.specs.Value.{decimal_of, scaled_value, IsInLimits, IsReadable, IsShortest};
+ghost use Rattle.lin_values.specs.Value.{decimal_of, fits, scaled_value, IsExact, IsInLimits, IsShortest};
 
 use crate::decimals::{Decimal, physical, units};
 use std::marker::Model;
@@ -62,38 +62,32 @@ pub struct PhysicalValue {
 
 impl Model for PhysicalValue {
     ghost use Rattle.std.specs.Prelude.{ℤ};
-    ghost use Rattle.lin_values.specs.Value.{scaled_value, IsReadable, IsShortest};
+    ghost use Rattle.lin_values.specs.Value.{scaled_value, IsExact, IsShortest};
 
     ghost Value = { ℤ };
 
     ghost view = { λ p. scaled_value p.decimal };
 
-    ghost invariant = { λ p. IsReadable p.decimal × IsShortest p.decimal };
+    ghost invariant = { λ p. IsExact p.decimal × IsShortest p.decimal };
 }
 
 impl PhysicalValue {
-    /// `raw * scale + offset`.
-    pub fn new(raw: u16, scale: Coefficient, offset: Coefficient) -> PhysicalValue
-        ensures { result ≡ pos raw *ℤ scaled_value scale +ℤ scaled_value offset }
+    /// `number * scale + offset`.
+    pub fn new(number: u64, scale: Coefficient, offset: Coefficient) -> PhysicalValue
+        requires { fits number scale offset ≡ true }
+        ensures { result ≡ pos number *ℤ scaled_value scale +ℤ scaled_value offset }
     {
         PhysicalValue {
-            decimal: physical(raw, scale.decimal(), offset.decimal()),
+            decimal: physical(number, scale.decimal(), offset.decimal()),
         }
     }
 
     /// The shortest decimal of this value.
     pub fn decimal(&self) -> Decimal
         ensures same { result ≡ decimal_of self.now }
-        ensures limits { IsReadable result }
+        ensures limits { IsExact result }
         ensures form { IsShortest result }
     {
         self.decimal
-    }
-
-    /// The value in units of 10 ^ -24.
-    pub fn units(&self) -> i128
-        ensures { result ≡ self.now }
-    {
-        units(self.decimal)
     }
 }

@@ -5,7 +5,7 @@ ghost use lib.IntN.{◌+ℤ◌, ◌*ℤ◌, pos};
 ghost use Rattle.lin_text.specs.Written.{Grows};
 ghost use Rattle.lin_values.specs.Shown.{fraction, last_digits, decimal_shown};
 ghost use Rattle.lin_values.specs.Value.{with_sign, shortest_at, scaled_value, IsInLimits, IsReadable};
-ghost use Rattle.lin_values.specs.Value.{is_small, without_zeros, IsShortest};
+ghost use Rattle.lin_values.specs.Value.{fits, is_small, without_zeros, IsExact, IsShortest};
 
 use lin_text::TextWriter;
 use std::io::Write;
@@ -49,7 +49,7 @@ fn digits_at(d: Decimal, places: u8) -> u128
 
 /// The sum of two numbers with signs, where 0 may have either.
 fn sum(minus_a: bool, a: u128, minus_b: bool, b: u128) -> (bool, u128)
-    requires { a + b < 10 ^ 38 }
+    requires { a + b < 2 ^ 127 }
     ensures same { with_sign result.0 result.1 ≡ with_sign minus_a a +ℤ with_sign minus_b b }
     ensures fits { result.1 ≤ a + b }
 {
@@ -100,16 +100,34 @@ pub fn shortest(negative: bool, digits: u128, places: u8) -> Decimal
     }
 }
 
-/// `raw * scale + offset`, exactly.
-pub fn physical(raw: u16, scale: Decimal, offset: Decimal) -> Decimal
+/// Whether `number * scale + offset` is told exactly.
+pub fn fits(number: u64, scale: Decimal, offset: Decimal) -> bool
     requires scale { IsInLimits scale }
     requires offset { IsInLimits offset }
-    ensures same { scaled_value result ≡ pos raw *ℤ scaled_value scale +ℤ scaled_value offset }
-    ensures size { IsReadable result }
+    ensures { result ≡ fits number scale offset }
+{
+    let places = scale.places.max(offset.places);
+    let Some(slope) = u128::from(number).checked_mul(digits_at(scale, places)) else {
+        return false;
+    };
+    match slope.checked_add(digits_at(offset, places)) {
+        Some(size) => size < 1 << 127,
+        None => false,
+    }
+}
+
+/// `number * scale + offset`, exactly.
+pub fn physical(number: u64, scale: Decimal, offset: Decimal) -> Decimal
+    requires scale { IsInLimits scale }
+    requires offset { IsInLimits offset }
+    requires fits { fits number scale offset ≡ true }
+    ensures same { scaled_value result ≡ pos number *ℤ scaled_value scale +ℤ scaled_value offset }
+    ensures size { IsExact result }
+    ensures readable { number < 65536 → IsReadable result }
     ensures form { IsShortest result }
 {
     let places = scale.places.max(offset.places);
-    let slope = u128::from(raw) * digits_at(scale, places);
+    let slope = u128::from(number) * digits_at(scale, places);
     let (negative, digits) = sum(
         scale.negative,
         slope,

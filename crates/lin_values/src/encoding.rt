@@ -1,6 +1,6 @@
 //! A type of encoding, with what is found in it quickly, and what is wrong with its items.
 
-ghost use Rattle.std.specs.Prelude.{◌≡◌, ◌++◌, ◌∷◌, ◌%◌, ◌==◌, ◌&&◌, ◌||◌, ◌<◌, [], ℕ, not, IfOk};
+ghost use Rattle.std.specs.Prelude.{◌≡◌, ◌++◌, ◌∷◌, ◌%◌, ◌==◌, ◌&&◌, ◌||◌, ◌<◌, ◌^◌, [], ℕ, not, IfOk};
 ghost use Rattle.std.specs.Prelude.{OnOk, Some, None, option_and_then, option_map};
 ghost use Rattle.std.specs.Prelude.{if◌then◌else◌};
 ghost use Rattle.std.specs.List.{list_any};
@@ -17,6 +17,7 @@ ghost use Rattle.lin_values.specs.declared.encoding.Coding.TheVariants.{Bcd, Asc
 
 use crate::codings::{CodingType, Item, PlacedItem};
 use crate::decimal_limits::Coefficient;
+use crate::decimals::fits;
 use crate::layers::{Layers, RangePart, Span, item_at};
 use lin_cluster::{Finding, FindingKind};
 use lin_text::Many;
@@ -37,13 +38,13 @@ pub struct Traits {
     pub is_numeric: bool,
     pub has_range: bool,
     /// The greatest value, and end of a range; 0 where there are none.
-    pub greatest: u16,
+    pub greatest: u64,
     pub first: Option<Coding>,
     pub second: Option<Coding>,
 }
 
 impl Traits {
-    fn number(&mut self, value: u16)
+    fn number(&mut self, value: u64)
         ensures { self.new ≡ with_number self.old value }
     {
         self.is_numeric = true;
@@ -66,9 +67,16 @@ impl Traits {
     {
         match item {
             Item::Logical { value, .. } => self.number(*value),
-            Item::Physical { max, .. } => {
-                self.number(*max);
-                self.has_range = true;
+            Item::Physical {
+                max,
+                scale,
+                offset,
+                ..
+            } => {
+                if fits(*max, scale.decimal(), offset.decimal()) {
+                    self.number(*max);
+                    self.has_range = true;
+                }
             }
             Item::Bcd => self.code(Coding::Bcd),
             Item::Ascii => self.code(Coding::Ascii),
@@ -219,7 +227,7 @@ fn add_span(
     Ok(())
 }
 
-/// Adds the range that an item is, if it is one, and tells what is wrong with it.
+/// Adds the range that an item is, if it is one that fits, and tells what is wrong with it.
 fn add_range(
     layers: &mut Layers,
     ranges: &mut Layers,
@@ -240,9 +248,13 @@ fn add_range(
         min,
         max,
         scale,
+        offset,
         ..
     } = &one.item
     {
+        if !fits(*max, scale.decimal(), offset.decimal()) {
+            return push_at(warned, FindingKind::BadEncoding, one);
+        }
         let span = Span {
             from: *min,
             to: *max,
@@ -320,7 +332,7 @@ impl Encoding {
     /// The numbers of raw values for which each item counts, in order.
     pub(crate) fn parts(&self) -> &[RangePart]
         ensures ordered { AreInOrder result.now }
-        ensures found { (raw : ℕ) → raw < 65536
+        ensures found { (raw : ℕ) → raw < 2 ^ 64
             → option_and_then (item_by self.now.items) (item_in result.now raw)
             ≡ item_for self.now.items raw }
     {
@@ -337,9 +349,9 @@ impl Encoding {
         }
     }
 
-    /// The item that counts for a raw value of a scalar: the first value, and else the first range,
-    /// that has it.
-    pub fn item_for(&self, raw: u16) -> Option<&Item>
+    /// The item that counts for a number, which a scalar or a wide signal has: the first value, and else
+    /// the first range, that has it.
+    pub fn item_for(&self, raw: u64) -> Option<&Item>
         ensures { option_map (λ i. i.now) result ≡ item_for self.now.items raw }
     {
         self.item(item_at(self.parts.as_slice(), raw)?)
@@ -349,8 +361,8 @@ impl Encoding {
 /// A range of an encoding: its first and last raw value, its scale, its offset and its unit.
 #[derive(Clone, Copy)]
 pub struct Range<'a> {
-    pub min: u16,
-    pub max: u16,
+    pub min: u64,
+    pub max: u64,
     pub scale: Coefficient,
     pub offset: Coefficient,
     pub unit: &'a [u8],

@@ -1,6 +1,6 @@
 //! Ranges of numbers that lie over each other: the first that has a number counts.
 
-ghost use Rattle.std.specs.Prelude.{◌≡◌, ◌≤◌, [], ℕ, IfOk, OnOk, Some, None, is_some};
+ghost use Rattle.std.specs.Prelude.{◌≡◌, ◌≤◌, ◌^◌, [], ℕ, IfOk, OnOk, Some, None, is_some};
 ghost use Rattle.std.specs.Prelude.{if◌then◌else◌, ◌++◌, ◌∷◌, drop, length, take};
 ghost use Rattle.std.specs.List.{list_any};
 ghost use Rattle.std.specs.Option.{option_or};
@@ -14,13 +14,13 @@ use std::mem::replace;
 /// The numbers from one to another, one at least.
 #[derive(Clone, Copy, Debug, PartialEq, Eq, PartialOrd, Ord)]
 pub struct Span {
-    pub from: u16,
-    pub to: u16,
+    pub from: u64,
+    pub to: u64,
 }
 
 impl Span {
     /// Whether a number is in the span.
-    pub fn has(self, number: u16) -> bool
+    pub fn has(self, number: u64) -> bool
         ensures { result ≡ in_span self number }
     {
         self.from <= number && number <= self.to
@@ -82,14 +82,19 @@ impl Model for Layers {
 }
 
 /// The item counts for the numbers from one to before another, if there are such.
-fn add_part(parts: &mut Vec<RangePart>, from: u32, end: u32, item: usize) -> Result<(), AllocError>
-    requires { end ≤ 65536 }
+fn add_part(
+    parts: &mut Vec<RangePart>,
+    from: u128,
+    end: u128,
+    item: usize,
+) -> Result<(), AllocError>
+    requires { end ≤ 2 ^ 64 }
     ensures { OnOk result (parts.new.items ≡ parts.old.items ++ part_between from end item) }
 {
     if from < end {
         let span = Span {
-            from: from as u16,
-            to: (end - 1) as u16,
+            from: from as u64,
+            to: (end - 1) as u64,
         };
         parts.push(RangePart { span, item })?;
     }
@@ -143,18 +148,18 @@ fn fill(
         (λ r. drop r.0 covered.now ≡ (joined_span span span.to (drop at covered.now)).1) }
 {
     let mut whole = span;
-    let mut next = u32::from(span.from);
+    let mut next = u128::from(span.from);
     let mut end = at;
     while let Some(other) = covered.get(end).copied()
         && other.from <= span.to
     {
-        add_part(parts, next, u32::from(other.from), item)?;
-        next = u32::from(other.to) + 1;
+        add_part(parts, next, u128::from(other.from), item)?;
+        next = u128::from(other.to) + 1;
         whole.from = whole.from.min(other.from);
         whole.to = whole.to.max(other.to);
         end += 1;
     }
-    add_part(parts, next, u32::from(span.to) + 1, item)?;
+    add_part(parts, next, u128::from(span.to) + 1, item)?;
     Ok((end, whole))
 }
 
@@ -211,7 +216,7 @@ impl Layers {
 }
 
 /// The item of the first range that has a number.
-pub fn item_at(parts: &[RangePart], number: u16) -> Option<usize>
+pub fn item_at(parts: &[RangePart], number: u64) -> Option<usize>
     requires { AreInOrder parts.now }
     ensures { result ≡ item_in parts.now number }
 {

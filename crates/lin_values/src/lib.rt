@@ -29,7 +29,7 @@ mod ways_back;
 pub use coded::{Coded, NamedSignals, coded_by, put_first};
 pub use codings::{CodedLine, CodingType, Codings, Item, PlacedItem};
 pub use decimal_limits::{Coefficient, PhysicalValue};
-pub use decimals::{Decimal, is_small, physical, put_decimal, shortest, ten_to, units};
+pub use decimals::{Decimal, fits, is_small, physical, put_decimal, shortest, ten_to, units};
 pub use encoding::{Coding, Encoding, Range, Traits};
 pub use meaning::{Meaning, put_meaning, put_plain, shown};
 pub use raws::Raws;

@@ -3,10 +3,12 @@
 ghost use Rattle.std.specs.Prelude.{◌≡◌, ◌<◌, ◌≤◌, ◌+◌, ◌++◌, ◌∷◌, [], IfOk, MatchBool};
 ghost use Rattle.std.specs.Prelude.{flat_map, length, option_map, reverse};
 ghost use Rattle.lin_text.specs.Written.{Grows};
+ghost use Rattle.lin_values.specs.Coded.{signal_at};
 ghost use Rattle.lin_values.specs.Meaning.{meaning, meaning_in, meant, numeric_meaning, bcd_digits};
 ghost use Rattle.lin_values.specs.Meaning.{letter, letters_of, coded_meaning, digits_of_scalar};
 ghost use Rattle.lin_values.specs.Meaning.{as_digits, bytes_of_scalar, fours, meaning_by};
-ghost use Rattle.lin_values.specs.Meaning.{plain_signal, value_bytes, without_front_zeros};
+ghost use Rattle.lin_values.specs.Meaning.{number_of, plain_signal, value_bytes, wide_number};
+ghost use Rattle.lin_values.specs.Meaning.{without_front_zeros, CountsFor};
 ghost use Rattle.lin_values.specs.Raws.{is_coded};
 ghost use Rattle.lin_values.specs.Shown.{shown, plain_shown};
 
@@ -27,7 +29,7 @@ pub enum Meaning<'a> {
     /// A text of a value.
     Named(&'a [u8]),
     /// A value without a text.
-    Number(u16),
+    Number(u64),
     /// A decimal and its unit, which may be empty.
     Physical(PhysicalValue, &'a [u8]),
     /// Digits, four bits for each.
@@ -56,19 +58,20 @@ impl Meaning<'_> {
     }
 }
 
-/// What the item means that counts for a raw value.
-fn numeric_meaning(item: &Item, raw: u16) -> Option<Meaning<'_>>
-    ensures { option_map meant result ≡ numeric_meaning item.now raw }
+/// What the item means that counts for a number.
+fn numeric_meaning(item: &Item, number: u64) -> Option<Meaning<'_>>
+    requires { CountsFor number item.now }
+    ensures { option_map meant result ≡ numeric_meaning item.now number }
 {
     match item {
-        Item::Logical { text, .. } if text.as_slice().is_empty() => Some(Meaning::Number(raw)),
+        Item::Logical { text, .. } if text.as_slice().is_empty() => Some(Meaning::Number(number)),
         Item::Logical { text, .. } => Some(Meaning::Named(text.as_slice())),
         Item::Physical {
             scale,
             offset,
             unit,
             ..
-        } => Some(Meaning::Physical(PhysicalValue::new(raw, *scale, *offset), unit.as_slice())),
+        } => Some(Meaning::Physical(PhysicalValue::new(number, *scale, *offset), unit.as_slice())),
         Item::Bcd | Item::Ascii => None,
     }
 }
@@ -207,23 +210,53 @@ fn coded_meaning<'a>(
     meaning_by(signal, traits.second?, value)
 }
 
-/// What a value means: of a scalar by the item that counts for it, and else by digits or characters.
+/// The number of a wide signal: the sum of its bytes times 256 ^ k.
+fn wide_number(bytes: &[u8]) -> u64
+    requires { length bytes.now ≤ 8 }
+    ensures { result ≡ wide_number bytes.now }
+{
+    let mut number = 0;
+    for place in 0..bytes.len() {
+        number = 256 * number + u64::from(bytes[bytes.len() - 1 - place]);
+    }
+    number
+}
+
+/// The number of a value, if it has one: that of a scalar or of a wide signal.
+fn number_of(is_wide: bool, value: &Value) -> Option<u64>
+    ensures { result ≡ number_of is_wide value.now }
+{
+    match value {
+        Value::Scalar(raw) => Some(u64::from(*raw)),
+        Value::Bytes(bytes) if is_wide => Some(wide_number(bytes.as_slice())),
+        Value::Bytes(_) => None,
+    }
+}
+
+/// What a value means: a number by the item that counts for it, and else digits or characters.
 fn meaning_in<'a>(signal: CodedSignal, encoding: &'a Encoding, value: &Value) -> Option<Meaning<'a>>
     ensures { option_map meant result
         ≡ meaning_in (plain_signal signal) encoding.now.items value.now }
 {
-    if let Value::Scalar(raw) = value
-        && let Some(item) = encoding.item_for(*raw)
+    if let Some(number) = number_of(signal.is_wide, value)
+        && let Some(item) = encoding.item_for(number)
     {
-        return numeric_meaning(item, *raw);
+        return numeric_meaning(item, number);
     }
     coded_meaning(signal, encoding, value)
 }
 
 impl Coded {
+    /// The number of a signal's value, if it has one: that of a scalar or of a wide signal.
+    pub fn number(&self, signal: u16, value: &Value) -> Option<u64>
+        ensures { result ≡ number_of (signal_at self.now signal).is_wide value.now }
+    {
+        number_of(self.is_wide(signal), value)
+    }
+
     /// What a raw value of a signal means, the first that holds: the text of a value, the decimal of
-    /// a range, and in the order of the items digits and characters. Arrays have digits and
-    /// characters alone.
+    /// a range, and in the order of the items digits and characters. Arrays that aren't wide have
+    /// digits and characters alone.
     pub fn meaning(&self, signal: u16, value: &Value) -> Option<Meaning<'_>>
         ensures { option_map meant result ≡ meaning self.now signal value.now }
     {

@@ -1,7 +1,7 @@
 //! The raw values next to a decimal, and the nearest.
 
 ghost use Rattle.std.specs.Prelude.{◌≡◌, ◌≤◌, ◌<◌, ◌^◌, ◌⊎◌, ◌||◌, ◌&&◌, ◌==◌, ℕ, nat_lt, None, Option, option_and_then, option_map, Some, true, unsigned_abs};
-ghost use Rattle.lin_values.specs.Layers.{in_span};
+ghost use Rattle.lin_values.specs.Layers.{in_span, IsSomeSpan};
 ghost use Rattle.lin_values.specs.Nearest.{distance_above, distance_below, near_of, nearer, range_value};
 ghost use Rattle.lin_values.specs.Nearest.{numbered_decimal, raw_decimal, signal_decimal, with_near, with_raw};
 ghost use Rattle.lin_values.specs.Nearest.{IsExtended, IsLeast, IsAtLeastAsNear};
@@ -9,8 +9,7 @@ ghost use Rattle.lin_values.specs.Raws.{above, below, has_unit, nearest};
 ghost use Rattle.lin_values.specs.Value.{scaled_value, IsReadable};
 
 use crate::coded::{Coded, CodedSignal, most_of};
-use crate::decimal_limits::PhysicalValue;
-use crate::decimals::{Decimal, units};
+use crate::decimals::{Decimal, physical, units};
 use crate::encoding::{Encoding, Range};
 use crate::layers::{RangePart, Span};
 use crate::sought::difference;
@@ -37,7 +36,7 @@ fn has_unit(sought: &[u8], unit: &[u8]) -> bool
 
 /// The two raw values of a span between which n * scale is a distance, or the nearest end twice.
 fn around(span: Span, scale: i128, distance: i128) -> (u16, u16)
-    requires { span.from ≤ span.to }
+    requires { IsSomeSpan span }
     ensures first { in_span span result.0 ≡ true }
     ensures second { in_span span result.1 ≡ true }
     ensures order { result.0 ≤ result.1 }
@@ -45,7 +44,7 @@ fn around(span: Span, scale: i128, distance: i128) -> (u16, u16)
         → IsAtLeastAsNear scale distance result.0 n ⊎ IsAtLeastAsNear scale distance result.1 n }
 {
     if scale == 0 || (scale < 0) != (distance < 0) {
-        return (span.from, span.from);
+        return (span.from as u16, span.from as u16);
     }
     let count = distance.unsigned_abs() / scale.unsigned_abs();
     let from = u128::from(span.from);
@@ -117,14 +116,18 @@ impl Neighbours {
             ≡ with_raw (distance_above sought (range_value range.now raw)) raw
             (option_map near_of self.old.above) }
     {
-        let value = PhysicalValue::new(raw, range.scale, range.offset).units();
+        let value = units(physical(
+            u64::from(raw),
+            range.scale.decimal(),
+            range.offset.decimal(),
+        ));
         self.add(sought, raw, value);
     }
 
     /// Adds the raw values of a span of a range that are next to it.
     fn add_range(&mut self, sought: i128, range: &Range<'_>, span: Span)
         requires wide { unsigned_abs sought ≤ 10 ^ 38 }
-        requires some { span.from ≤ span.to }
+        requires some { IsSomeSpan span }
         ensures below { (f g : ℕ → Option ℕ)
             → IsExtended span (λ n. distance_below sought (range_value range.now n)) f g
             → IsLeast f (option_map near_of self.old.below)
@@ -173,7 +176,7 @@ impl Neighbours {
         }
         let all = Span {
             from: 0,
-            to: most_of(signal.bits),
+            to: u64::from(most_of(signal.bits)),
         };
         let Some(span) = part.span.common(all) else {
             return;

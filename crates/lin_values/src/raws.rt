@@ -54,7 +54,7 @@ fn is_coded(coded: Option<Value>, value: &Value) -> bool
 fn spans_have(spans: &[Span], raw: u16) -> bool
     ensures { result ≡ list_any (λ s. in_span s raw) spans.now }
 {
-    spans.iter().any(|span| span.has(raw))
+    spans.iter().any(|span| span.has(u64::from(raw)))
 }
 
 fn in_spans(spans: &[Span], value: &Value) -> bool
@@ -89,7 +89,7 @@ impl Raws {
     {
         let mut count = u64::from(self.coded.is_some());
         for span in self.spans.as_slice() {
-            count += u64::from(span.to - span.from) + 1;
+            count += span.to - span.from + 1;
         }
         count
     }
@@ -106,7 +106,7 @@ impl Raws {
             return None;
         }
         match first {
-            Some(span) => Some(Value::Scalar(span.from)),
+            Some(span) => Some(Value::Scalar(span.from as u16)),
             None => self.coded,
         }
     }

@@ -61,8 +61,8 @@ fn multiples(step: u128, low: i128, high: i128) -> Option<Span>
         return None;
     }
     Some(Span {
-        from: first as u16,
-        to: last as u16,
+        from: first as u64,
+        to: last as u64,
     })
 }
 
@@ -121,7 +121,8 @@ impl Sought<'_> {
     }
 
     /// Whether a value is meant that has this text, or without one as a number.
-    fn is_named(&self, value: u16, text: &[u8]) -> bool
+    fn is_named(&self, value: u64, text: &[u8]) -> bool
+        requires { value < 65536 }
         ensures { result
             ≡ sought_value (option_map (λ t. t.now) self.now.text) self.now.decimals
             self.now.unit.now value text.now }
@@ -162,7 +163,9 @@ impl Sought<'_> {
             self.now.unit.now item.now n ≡ in_option_span result n }
     {
         match item {
-            Item::Logical { value, text } => if self.is_named(*value, text.as_slice()) {
+            Item::Logical { value, text } => if *value <= 65_535
+                && self.is_named(*value, text.as_slice())
+            {
                 Some(Span {
                     from: *value,
                     to: *value,
@@ -195,7 +198,7 @@ fn part_span(
         .common(part.span)?;
     span.common(Span {
         from: 0,
-        to: most_of(signal.bits),
+        to: u64::from(most_of(signal.bits)),
     })
 }
 

@@ -49,6 +49,9 @@ impl Coded {
         let Some(known) = self.signal(signal) else {
             return Ok(None);
         };
+        if known.is_wide_array() {
+            return Ok(None);
+        }
         let Some(value) = coded_value(known, text) else {
             return Ok(None);
         };

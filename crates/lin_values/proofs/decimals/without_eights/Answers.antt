@@ -1,4 +1,4 @@
-use Rattle.std.proofs.Common.{arith, ◌≡◌, ◌*◌, ◌^◌, ◌-◌, ◌∙◌}
+use Rattle.std.proofs.Common.{arith, ◌*◌, ◌^◌, ◌-◌, ◌∙◌}
 use Rattle.lin_values.proofs.Powers.{dropped-eight}
 use Rattle.lin_values.proofs.ShortestDecimals.{eight-dropped, eighth-positive}
 use Rattle.lin_values.proofs.decimals.without_eights.Goals as goal

@@ -3,7 +3,6 @@ use Rattle.std.specs.Prelude.{option_and_then}
 use Rattle.lin_frame.specs.declared.value.Value.{Value}
 use Rattle.lin_values.specs.Coded.{all_codings, first_coding, second_coding, SignalCoding}
 use Rattle.lin_values.specs.Meaning.{coded_meaning, meaning_by, meant, plain_signal}
-use Rattle.lin_values.specs.Meant.{Meant}
 use Rattle.lin_values.specs.declared.encoding.Coding.{Coding}
 use Rattle.lin_values.specs.declared.codings.PlacedItem.{PlacedItem}
 use Rattle.lin_values.specs.declared.meaning.Meaning.{Meaning}

@@ -1,4 +1,4 @@
-use Rattle.std.proofs.Common.{◌≤◌, ◌*◌, ◌≡◌, length, flat_map, drop}
+use Rattle.std.proofs.Common.{◌*◌, ◌≡◌, length, flat_map, drop}
 use Rattle.lin_values.specs.Meaning.{fours}
 use Rattle.lin_values.proofs.Digits.{DigitsSoFar}
 use Rattle.lin_values.proofs.meaning.digits_of_bytes.Given as goal

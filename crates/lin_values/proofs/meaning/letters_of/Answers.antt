@@ -1,4 +1,4 @@
-use Rattle.std.proofs.Common.{arith, ap, length, ℕ, take, ◌<◌, ◌≡◌, ◌∙◌, lit<}
+use Rattle.std.proofs.Common.{arith, ap, length, ◌≡◌, ◌∙◌, lit<}
 use Rattle.std.proofs.lemmas.List.{length-map, length-take-le}
 use Rattle.lin_values.specs.Meaning.{letter}
 use Rattle.lin_values.proofs.Letters.{fewer_at-end}

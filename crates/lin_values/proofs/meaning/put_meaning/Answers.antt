@@ -1,4 +1,4 @@
-use Rattle.std.proofs.Common.{sym, refl, ap, List, ℕ, ◌≡◌, ◌++◌, ◌∷◌, [], ◌==◌, false, length}
+use Rattle.std.proofs.Common.{refl, List, ℕ, ◌≡◌, ◌∷◌, [], ◌==◌, false, length}
 use Rattle.lin_text.proofs.Growing.{grows-more}
 use Rattle.lin_values.specs.Shown.{unit_shown}
 use Rattle.lin_values.proofs.meaning.put_meaning.Goals as goal

@@ -24,10 +24,10 @@ pub returns-clause-below : goal.returns-clause-below
 returns-clause-below c =
     subst (λ (z : ℤ). IsLeast (λ n. option_and_then (distance_below z) (raw_decimal c.args.encoding.now.items c.args.signal.bits c.args.unit.now n)) (option_map near_of c.loop-part.found.below)) (to_z-of_z w128 c.args.sought c.ranges.sought)
     (all-parts (distance_below (to_z w128 (of_z w128 c.args.sought))) c.args.encoding.now.items c.args.signal.bits c.args.unit.now c.parts-part-items.result.now c.loop-part.part-index (option_map near_of c.loop-part.found.below)
-    (omega arith) c.parts-part-items.ensures.found c.loop-part.invariant.below)
+    (omega arith) (λ raw h. c.parts-part-items.ensures.found raw (omega (arith, h))) c.loop-part.invariant.below)
 
 pub returns-clause-above : goal.returns-clause-above
 returns-clause-above c =
     subst (λ (z : ℤ). IsLeast (λ n. option_and_then (distance_above z) (raw_decimal c.args.encoding.now.items c.args.signal.bits c.args.unit.now n)) (option_map near_of c.loop-part.found.above)) (to_z-of_z w128 c.args.sought c.ranges.sought)
     (all-parts (distance_above (to_z w128 (of_z w128 c.args.sought))) c.args.encoding.now.items c.args.signal.bits c.args.unit.now c.parts-part-items.result.now c.loop-part.part-index (option_map near_of c.loop-part.found.above)
-    (omega arith) c.parts-part-items.ensures.found c.loop-part.invariant.above)
+    (omega arith) (λ raw h. c.parts-part-items.ensures.found raw (omega (arith, h))) c.loop-part.invariant.above)

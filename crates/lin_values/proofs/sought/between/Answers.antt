@@ -1,6 +1,4 @@
 use mir.Syntax.{w128}
-use mir.Val.{of_z, to_z}
-use Rattle.std.proofs.Common.{◌≡◌}
 use Rattle.std.proofs.lemmas.Int.{to_z-of_z}
 use Rattle.lin_values.specs.Raws.{in_option_span}
 use Rattle.lin_values.proofs.Solving.{falling-by, level-above, level-below, rising-by}

@@ -1,4 +1,4 @@
-use Rattle.std.proofs.Common.{◌≡◌, ℕ, ◌<◌, ◌*◌, ◌∙◌, nat_lt, of_z, to_z, ap, sym, false, true, pos, negsuc}
+use Rattle.std.proofs.Common.{◌≡◌, ℕ, ◌<◌, ◌*◌, ◌∙◌, nat_lt, of_z, to_z, ap, false, pos, negsuc}
 use Rattle.std.specs.Prelude.{ℤ, int_lt, unsigned_abs, int_le}
 use Rattle.std.proofs.lemmas.Int.{to_z-of_z}
 use Rattle.std.specs.Int.{div_ceil, w128}

@@ -1,9 +1,8 @@
-use Rattle.std.proofs.Common.{◌≡◌, ℕ, ◌<◌, ◌≤◌, ◌*◌, ◌∙◌, ◌&&◌, nat_lt, nat_le, not, Bool, of_z, to_z, ap, sym, false, true, pos, arith, refl}
+use Rattle.std.proofs.Common.{◌≡◌, ℕ, ◌<◌, ◌*◌, ◌∙◌, ◌&&◌, nat_lt, nat_le, of_z, to_z, false, pos, arith, refl}
 use Rattle.std.specs.Prelude.{ℤ, int_lt}
 use Rattle.std.specs.Int.{w128}
 use Rattle.std.proofs.lemmas.Int.{to_z-of_z}
 use Rattle.std.proofs.lemmas.Grind.{common_steps}
-use Rattle.lin_values.specs.Layers.{in_span}
 use Rattle.lin_values.specs.Raws.{lies_within}
 use Rattle.lin_values.proofs.Multiples.{not-below}
 use Rattle.lin_values.proofs.sought.multiples.Goals as goal

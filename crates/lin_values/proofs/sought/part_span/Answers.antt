@@ -1,4 +1,4 @@
-use Rattle.std.proofs.Common.{◌≡◌, ℕ, ap, sym, ◌∙◌, option_map}
+use Rattle.std.proofs.Common.{ℕ, ap, sym, ◌∙◌, option_map}
 use Rattle.lin_values.specs.Layers.{common_span, in_span}
 use Rattle.lin_values.specs.Raws.{in_option_span}
 use Rattle.lin_values.specs.Warnings.{greatest_raw}
@@ -21,5 +21,5 @@ returns-clause-found c = λ n h.
     part-sought c.args.encoding.now.items c.args.signal.bits (option_map (λ t. t.now) c.args.sought.now.text) c.args.sought.now.decimals c.args.sought.now.unit.now c.args.part.now n c.in_ok-item.field-0.now (in_span s n)
     (sym c.in_ok-item.ensures) (c.in_ok-span_of.ensures.found n h)
     ∙ part-found s c.args.part.now.span c.in_ok-span.span n (greatest_raw c.args.signal.bits) (sym c.in_ok-span.ensures)
-    ∙ ap (λ k. in_option_span (common_span c.in_ok-span.span (all k)) n) (sym c.most_of.ensures)
+    ∙ ap (λ k. in_option_span (common_span c.in_ok-span.span (all k)) n) (sym (c.from.ensures ∙ c.most_of.ensures))
     ∙ ap (λ o. in_option_span o n) (sym c.common-2.ensures)

@@ -1,11 +1,9 @@
-use Rattle.std.proofs.Common.{take_all, ◌≡◌, ◌+◌, ◌++◌, ◌∷◌, [], ℕ, Bool, ap, sym, ◌∙◌, not, ◌&&◌, option_map, subst, List}
-use Rattle.std.specs.Prelude.{All, AllPairs, false}
+use Rattle.std.proofs.Common.{arith, take_all, ◌≡◌, ◌+◌, ◌++◌, ◌∷◌, [], ℕ, Bool, ap, sym, ◌∙◌, not, ◌&&◌, option_map, subst}
+use Rattle.std.specs.Prelude.{All, AllPairs}
 use Rattle.std.specs.List.{list_any}
-use Rattle.lin_values.specs.Coded.{item_by}
 use Rattle.lin_values.specs.Layers.{in_span, IsBefore, IsSomeSpan}
-use Rattle.lin_values.specs.Raws.{in_option_span, sought_part, sought_raw}
+use Rattle.lin_values.specs.Raws.{sought_part, sought_raw}
 use Rattle.lin_values.specs.declared.layers.RangePart.{RangePart}
-use Rattle.lin_values.specs.declared.layers.Span.{Span}
 use Rattle.lin_values.proofs.SoughtParts.{all-sought, more-ahead, more-apart, more-found, more-some, same-ahead, same-found, AreAhead}
 use Rattle.lin_values.proofs.sought.spans_of.Goals as goal
 use Rattle.lin_values.proofs.sought.spans_of.Goals.{in-Some+in_ok-push, in_default}
@@ -41,5 +39,5 @@ returns-clause-found c = λ n h.
     let q : RangePart → Bool = λ p. sought_part c.args.encoding.now.items c.args.signal.bits (option_map (λ t. t.now) c.args.sought.now.text) c.args.sought.now.decimals c.args.sought.now.unit.now p n in
     c.loop-part.invariant.found n h
     ∙ ap (list_any q) (take_all c.loop-part.part-index ps c.loop-part-test.false)
-    ∙ all-sought c.args.encoding.now.items c.args.signal.bits (option_map (λ t. t.now) c.args.sought.now.text) c.args.sought.now.decimals c.args.sought.now.unit.now ps n c.parts-part-items.ensures.ordered (c.parts-part-items.ensures.found n h)
+    ∙ all-sought c.args.encoding.now.items c.args.signal.bits (option_map (λ t. t.now) c.args.sought.now.text) c.args.sought.now.decimals c.args.sought.now.unit.now ps n c.parts-part-items.ensures.ordered (c.parts-part-items.ensures.found n (omega (arith, h)))
     ∙ ap (λ b. not b && sought_raw c.args.encoding.now.items c.args.signal.bits (option_map (λ t. t.now) c.args.sought.now.text) c.args.sought.now.decimals c.args.sought.now.unit.now n) (sym c.if-signal.false)

@@ -1,4 +1,4 @@
-use Rattle.std.proofs.Common.{List, [], ◌++◌, append-nil, subst, sym}
+use Rattle.std.proofs.Common.{List, ◌++◌, append-nil, subst, sym}
 use Rattle.lin_parts.specs.declared.description.Name.{Name}
 use Rattle.lin_values.proofs.NamedLines.{named-step, names-all}
 use Rattle.lin_values.specs.Gathered.{AreNamed}

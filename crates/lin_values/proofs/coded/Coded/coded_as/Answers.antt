@@ -1,19 +1,23 @@
-use Rattle.std.proofs.Common.{rules, ◌≡◌, ◌<◌, ◌≤◌, ◌^◌, ℕ, IfOk, Some, option_map, unsigned_abs, All, AllPairs, ◌+◌, ◌-◌, ◌*◌, length, ◌/◌, ◌%◌, Bool, true, false, nat_eq, nat_lt, List, [], ◌∷◌, ◌++◌, slice_index_or, slice_set, bit_and, bit_or, Fits, w8, w32, w64, Bor, MutBor}
-use Rattle.std.specs.List.{list_any, list_all}
+use Rattle.std.proofs.Common.{◌≡◌, ◌&&◌, Some, option_map, true, false}
 use Rattle.std.specs.Option.{option_map_or}
 use Rattle.std.specs.Str.{bytes_eq}
-use Rattle.std.proofs.Common.{ap, sym, ◌∙◌, refl, arith, subst}
+use Rattle.std.proofs.Common.{ap, sym, ◌∙◌, subst}
 use Rattle.std.proofs.lemmas.Slice.Eq.{bytes_eq-Decides}
-use Rattle.lin_values.specs.Meaning.{meaning, meant, value_bytes}
+use Rattle.lin_values.specs.Meaning.{meaning, meant}
 use Rattle.lin_values.specs.Shown.{shown}
 use Rattle.lin_values.specs.Spelled.{IsHeld}
 use Rattle.lin_values.proofs.coded.Coded.coded_as.Goals.{then-eq, else-eq, in_default-meaning-via-in-Some-meaning+else-is_coded, in_default-meaning-via-in_default-meaning}
-use Rattle.lin_frame.specs.declared.value.Value.{Value}
 use Rattle.lin_values.specs.Coded.{signal_at}
-use Rattle.lin_values.specs.Layers.{in_span, IsBefore, IsSomeSpan}
-use Rattle.lin_values.specs.Raws.{coded_raws, is_coded, decimals_of, has, is_this, raws_of, raws_within, sought_of, unit_behind, AreWide}
-use Rattle.lin_values.proofs.CodedAgain.{turned, for-signal, none-found, not-coded, one-found, other-found, other-text, spelled-has, IsSpelled}
+use Rattle.lin_values.specs.Raws.{is_coded, is_this}
+use Rattle.lin_values.proofs.CodedAgain.{turned, for-signal, narrow-by, none-found, wide-found, not-coded, one-found, other-found, other-text, spelled-has, IsSpelled}
+use Rattle.lin_values.proofs.SpelledValues.{first-small, rest-small}
 use Rattle.lin_values.proofs.coded.Coded.coded_as.Goals as goal
+
+pub returns-then-is_wide_array : goal.returns-then-is_wide_array
+returns-then-is_wide_array c =
+    let known = c.in-Some.known in
+    let both : known.is_array && known.is_wide ≡ true = sym c.is_wide_array.ensures ∙ c.if-is_wide_array.true in
+    wide-found c.args.self.now c.args.signal c.args.text.now (sym c.in-Some.ensures.1 ∙ first-small known.is_array known.is_wide both) (sym c.in-Some.ensures.2 ∙ rest-small known.is_array known.is_wide both)
 
 -- src/ways_back.rt:53:13
 pub returns-in_default-coded_value : goal.returns-in_default-coded_value
@@ -44,7 +48,8 @@ returns-after-eq c =
       | then-eq w ↦
           let text-is : text ≡ shown m = sym ((bytes_eq-Decides c.as_slice.result.now text).0 (sym c.eq.ensures ∙ w.if-eq.true)) ∙ c.as_slice.ensures.value ∙ same in
           let held : IsHeld (signal_at k signal).bits (signal_at k signal).is_array value = subst (λ b. IsHeld b (signal_at k signal).is_array value) c.in-Some.ensures.0 (subst (λ a. IsHeld known.bits a value) c.in-Some.ensures.1 c.in-Some-coded_value.ensures.held) in
-          let here = spelled-has k signal text o h value c.in-Some-coded_value.is held m found coded text-is in
+          let narrow : (signal_at k signal).is_array ≡ true → (signal_at k signal).is_wide ≡ false = λ array. sym c.in-Some.ensures.2 ∙ narrow-by known.is_array known.is_wide (c.in-Some.ensures.1 ∙ array) (sym c.is_wide_array.ensures ∙ c.if-is_wide_array.false) in
+          let here = spelled-has k signal text o h value c.in-Some-coded_value.is held m found coded text-is narrow in
           λ v. ap (λ r. is_this r v) w.result-is ∙ one-found k signal text o h value c.in-Some-coded_value.is here v
       | else-eq w ↦
           let other : bytes_eq text (shown m) ≡ false = turned text (shown m) ∙ ap (λ xs. bytes_eq xs text) (sym (c.as_slice.ensures.value ∙ same)) ∙ sym c.eq.ensures ∙ w.if-eq.false in

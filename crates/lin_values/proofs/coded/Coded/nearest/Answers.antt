@@ -1,11 +1,11 @@
 use mir.Syntax.{w128}
 use mir.Val.{of_z, to_z}
-use Rattle.std.proofs.Common.{◌≡◌, ◌∙◌, ap, subst, ◌≤◌, ◌^◌}
-use Rattle.std.specs.Prelude.{ℤ, unsigned_abs, option_and_then}
+use Rattle.std.proofs.Common.{◌≡◌, ◌∙◌, subst}
+use Rattle.std.specs.Prelude.{ℤ, option_and_then}
 use Rattle.std.specs.Option.{option_map}
 use Rattle.lin_values.specs.Nearest.{distance_above, distance_below, near_of, signal_decimal, IsLeast}
 use Rattle.lin_values.specs.Value.{scaled_value}
-use Rattle.lin_values.proofs.NextTo.{above-is, below-is, kept, kept-small, nearest-is, readable-small}
+use Rattle.lin_values.proofs.NextTo.{kept, kept-small, nearest-is, readable-small}
 use Rattle.lin_values.proofs.coded.Coded.nearest.Goals as goal
 
 pub next_to-requires : goal.next_to-requires

@@ -1,4 +1,4 @@
-use Rattle.std.proofs.Common.{◌≡◌, ◌∙◌, option_map}
+use Rattle.std.proofs.Common.{◌∙◌, option_map}
 use Rattle.lin_values.proofs.WaysBack.{coded-apart, sought-here, text-is}
 use Rattle.lin_values.proofs.coded.Coded.raws_of.Goals as goal
 

@@ -7,5 +7,5 @@ use Rattle.lin_values.proofs.coded.Declared.add_line.Given as goal
 abbrev pub invariant-loop-name : goal.invariant-loop-name
 invariant-loop-name l = record {
   named : (before : List (Name × Name)) → AreNamed l.self.types before l.fn.named.map → AreNamed l.self.types (before ++ take l.name-index (names_of l.line)) l.named.map;
-  warned : (before : List (Name × Name)) → AreNamed l.self.types before l.fn.named.map → l.warned.items ≡ l.fn.warned.items ++ (representation_warnings (lines_of l.self.types []) l.line ++ told_by (name_warnings l.self.parts (lines_of l.self.types [])) before (take l.name-index (names_of l.line)));
+  warned : (before : List (Name × Name)) → AreNamed l.self.types before l.fn.named.map → l.warned.items ≡ l.fn.warned.items ++ (representation_warnings (lines_of l.self.wide l.self.types []) l.line ++ told_by (name_warnings l.self.parts (lines_of l.self.wide l.self.types [])) before (take l.name-index (names_of l.line)));
 }

@@ -12,7 +12,7 @@ loop-line-preserved c =
     let before : List (Name × Name) = named_in (take c.loop-line.line-index c.args.lines.now) in
     record {
       named = subst (λ (ns : List (Name × Name)). AreNamed c.args.self.now.types ns c.add_line.new.named.map) (sym (names-more c.args.lines.now c.loop-line.line-index c.line-item.result c.loop-line-test.true c.line-item.is)) (c.in_ok-add_line.ensures.named before c.loop-line.invariant.named);
-      warned = line-step c.args.self.now.parts c.args.self.now.types c.args.lines.now c.loop-line.line-index c.line-item.result c.args.warned.now.items c.loop-line.warned.items c.add_line.new.warned.items c.loop-line-test.true c.line-item.is c.loop-line.invariant.warned (c.in_ok-add_line.ensures.warned before c.loop-line.invariant.named);
+      warned = line-step c.args.self.now.parts c.args.self.now.wide c.args.self.now.types c.args.lines.now c.loop-line.line-index c.line-item.result c.args.warned.now.items c.loop-line.warned.items c.add_line.new.warned.items c.loop-line-test.true c.line-item.is c.loop-line.invariant.warned (c.in_ok-add_line.ensures.warned before c.loop-line.invariant.named);
     }
 
 pub returns-clause-named : goal.returns-clause-named
