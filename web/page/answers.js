@@ -117,7 +117,7 @@ function clusterOf(out) {
 	for (const frame of to.frames) for (const place of frame.places) {
 		const signal = named.get(place.name);
 		signal.frames.push(frame);
-		Object.assign(signal, {bits: signal.bits || place.size, raw: signal.raw || place.value, by: frame.by});
+		Object.assign(signal, {bits: signal.bits || place.size, raw: signal.raw || place.value, array: place.value[0] === 'x' && place.value, by: frame.by});
 	}
 	return to;
 }

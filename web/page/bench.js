@@ -126,9 +126,10 @@ class Console {
 // ---- the panel
 const SPEEDS = [['real time', 1], ['10 times faster', 10], ['100 times faster', 100]], TICK = 100, MOST_SLOTS = 50;
 
-// The control of a signal: a list for texts, a slider for a range, both, or a field. Its elements, and a function that shows
+// The control of a signal: a list for texts, a slider for a range, both, or a field, as for the bytes of an array. Its elements, and a function that shows
 // a raw value.
-function signalControl({name, bits, raw, ranges, values}, write) {
+function signalControl({name, bits, raw, ranges, values, array}, write) {
+	if (array) [raw, ranges, values] = [array, [], []];
 	const range = ranges.find(it => it.to > it.from), texts = values.length ? values : bits === 1 && !range ? [[0, '0'], [1, '1']] : [];
 	const parts = [], shows = [];
 	if (range) {

@@ -26,10 +26,10 @@ signal-lent c fs d at lt =
     ap (λ b. is_signal_after c b (get_or fs at d).now) (sym (take-map (λ f. f.now) at fs))
     ∙ ap (is_signal_after c (take at (field_texts fs))) (sym (field-at fs d at lt))
 
-pub why-lent : (c : Parts) (k : CodedData) (fs : List (Bor (List ℕ))) (d : Bor (List ℕ)) (at : ℕ) (ranged : Bool) → at < length fs → ranged ≡ is_expect (field_texts (take at fs)) → why_value k (signal_field c (get_or fs at d).now) ranged (field_texts (take (length fs - (at + 1)) (drop (at + 1) fs))) ≡ why_at c k (field_texts fs) at
+pub why-lent : (c : Parts) (k : CodedData) (fs : List (Bor (List ℕ))) (d : Bor (List ℕ)) (at : ℕ) (ranged : Bool) → at < length fs → ranged ≡ is_expect (field_texts (take at fs)) → why_value k (get_or fs at d).now (signal_field c (get_or fs at d).now) ranged (field_texts (take (length fs - (at + 1)) (drop (at + 1) fs))) ≡ why_at c k (field_texts fs) at
 why-lent c k fs d at ranged lt e =
     let value : List (List ℕ) = field_texts (take (length fs - (at + 1)) (drop (at + 1) fs)) in
-    ap (λ f. why_value k (signal_field c f) ranged value) (sym (field-at fs d at lt))
-    ∙ ap (λ r. why_value k (signal_field c (slice_index_or (field_texts fs) at [])) r value) (e ∙ ap is_expect (sym (take-map (λ f. f.now) at fs)))
-    ∙ ap (why_value k (signal_field c (slice_index_or (field_texts fs) at [])) (is_expect (take at (field_texts fs))))
+    ap (λ f. why_value k f (signal_field c f) ranged value) (sym (field-at fs d at lt))
+    ∙ ap (λ r. why_value k (slice_index_or (field_texts fs) at []) (signal_field c (slice_index_or (field_texts fs) at [])) r value) (e ∙ ap is_expect (sym (take-map (λ f. f.now) at fs)))
+    ∙ ap (why_value k (slice_index_or (field_texts fs) at []) (signal_field c (slice_index_or (field_texts fs) at [])) (is_expect (take at (field_texts fs))))
     (ap field_texts (take_rest fs (at + 1)) ∙ sym (drop-map (λ f. f.now) (at + 1) fs))

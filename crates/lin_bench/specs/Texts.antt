@@ -135,6 +135,7 @@ reason_words (reason.WideErrorSignal signal bits) =
     ∷ Fixed (codes "bits") ∷ []
 reason_words (reason.NoDecimal field) = Said field ∷ Fixed (codes "isn't a number") ∷ []
 reason_words reason.NoWords = Fixed (codes "missing value") ∷ []
+reason_words (reason.WideSignal signal) = Said signal ∷ Fixed (codes "is a wide signal") ∷ []
 reason_words (reason.NoValue text signal h) = no_value_words text signal h
 reason_words (reason.Unmarked fields ranged h) = unmarked_words fields ranged h
 reason_words (reason.SeveralValues count text signal) =

@@ -14,7 +14,7 @@ use Rattle.lin_parts.specs.declared.parts.Parts.{Parts}
 use Rattle.lin_frame.specs.declared.value.Value.{Value}
 use Rattle.lin_frame.specs.declared.value.Value.TheVariants.{Scalar}
 use Rattle.lin_log.specs.Words.{value_word}
-use Rattle.lin_values.specs.Coded.{CodedData, encoding_of}
+use Rattle.lin_values.specs.Coded.{CodedData, encoding_of, signal_at}
 use Rattle.lin_values.specs.Raws.{nearest, values_of}
 use Rattle.lin_values.specs.Read.{number_and_unit, signed_number}
 use Rattle.lin_values.specs.Value.{is_small}
@@ -30,7 +30,7 @@ use Rattle.lin_bench.specs.declared.line.ScriptLine.{ScriptLine}
 use Rattle.lin_bench.specs.declared.line.ScriptLine.TheVariants as lines
 use Rattle.lin_bench.specs.declared.reason.Hint.{Hint}
 use Rattle.lin_bench.specs.declared.reason.Reason.{Reason}
-use Rattle.lin_bench.specs.declared.reason.Reason.TheVariants.{NoDecimal, NoWords, NoValue, SeveralValues, NoRange, Unmarked}
+use Rattle.lin_bench.specs.declared.reason.Reason.TheVariants.{NoDecimal, NoWords, NoValue, SeveralValues, NoRange, Unmarked, WideSignal}
 use Rattle.lin_bench.specs.declared.words.Wish.{Wish}
 use Rattle.lin_bench.specs.declared.words.Wish.TheVariants.{Write, Nearest, Expect}
 
@@ -245,12 +245,19 @@ with_hash k s w l = if names_hash k s then without_comment w l else w
 abbrev pub line_with_signal : Parts → CodedData → WordedLine → Option ScriptLine → ℕ → Result (Option ScriptLine) Reason
 line_with_signal c k w at_zero s = with_words c k w at_zero s w.words
 
+-- values of wide signals aren't said in words
+abbrev pub line_if_narrow : Parts → CodedData → WordedLine → List ℕ → Option ScriptLine → ℕ
+    → Result (Option ScriptLine) Reason
+line_if_narrow c k w l at_zero s =
+    if (signal_at k s).is_wide then Err (WideSignal w.signal)
+    else line_with_signal c k (with_hash k s w l) at_zero s
+
 -- all fields before the words are judged as those of a line with a raw value are, and then the words
 unfoldable pub worded_line : Parts → CodedData → WordedLine → List ℕ → Result (Option ScriptLine) Reason
 worded_line c k w l = do
   at_zero ← read_line c (in_numbers w.before w.signal (Scalar 0))
   s ← signal_field c w.signal
-  line_with_signal c k (with_hash k s w l) at_zero s
+  line_if_narrow c k w l at_zero s
 
 -- ---- lines without words: why one is bad in which `=` is missing
 
@@ -314,17 +321,23 @@ unmarked_reason k s ranged value ps = Unmarked value ranged (missing_hint k s ps
 abbrev pub why_coded : CodedData → ℕ → Bool → List (List ℕ) → Option Reason
 why_coded k s ranged value = option_map (λ t. unmarked_reason k s ranged value t.items) (encoding_of k s)
 
-abbrev pub why_signal : CodedData → Result ℕ Reason → Bool → List (List ℕ) → Option Reason
-why_signal k (Ok s) ranged value = why_coded k s ranged value
-why_signal k (Err other) ranged value = None
+-- of a wide signal, which this field names, that it is one
+abbrev pub why_of_signal : CodedData → List ℕ → ℕ → Bool → List (List ℕ) → Option Reason
+why_of_signal k field s ranged value =
+    if (signal_at k s).is_wide then Some (WideSignal field) else why_coded k s ranged value
 
-abbrev pub why_value : CodedData → Result ℕ Reason → Bool → List (List ℕ) → Option Reason
-why_value k signal ranged value =
-    if is_number_or_range value then None else why_signal k signal ranged value
+abbrev pub why_signal : CodedData → List ℕ → Result ℕ Reason → Bool → List (List ℕ) → Option Reason
+why_signal k field (Ok s) ranged value = why_of_signal k field s ranged value
+why_signal k field (Err other) ranged value = None
+
+abbrev pub why_value : CodedData → List ℕ → Result ℕ Reason → Bool → List (List ℕ) → Option Reason
+why_value k field signal ranged value =
+    if is_number_or_range value then None else why_signal k field signal ranged value
 
 abbrev pub why_at : Parts → CodedData → List (List ℕ) → ℕ → Option Reason
 why_at c k fs i =
-    why_value k (signal_field c (slice_index_or fs i [])) (is_expect (take i fs)) (drop (i + 1) fs)
+    why_value k (slice_index_or fs i []) (signal_field c (slice_index_or fs i [])) (is_expect (take i fs))
+    (drop (i + 1) fs)
 
 abbrev pub why_unmarked : Parts → CodedData → List (List ℕ) → Option Reason
 why_unmarked c k fs = option_and_then (why_at c k fs) (signal_in_fields c fs)

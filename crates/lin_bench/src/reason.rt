@@ -102,6 +102,8 @@ pub enum Reason {
     NoDecimal(Text),
     /// No value behind `=` or `~`.
     NoWords,
+    /// A value in words of a wide signal.
+    WideSignal(Text),
     /// No raw value of a signal has this text, or is in this tolerance or this range.
     NoValue {
         text: Text,

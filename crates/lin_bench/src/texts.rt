@@ -256,6 +256,10 @@ fn reason_line(reason: &Reason) -> WordList<'_>
             Word::Fixed("isn't a number"),
         ]),
         Reason::NoWords => return WordList::of(&[Word::Fixed("missing value")]),
+        Reason::WideSignal(signal) => return WordList::of(&[
+            Word::Said(signal.as_slice()),
+            Word::Fixed("is a wide signal"),
+        ]),
         Reason::NoValue { text, signal, hint } => return hinted_line(
             Word::Said(signal.as_slice()),
             Word::Fixed("has no value"),

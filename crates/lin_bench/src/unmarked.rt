@@ -9,7 +9,7 @@ ghost use Rattle.lin_bench.specs.Read.{Gives, is_bad_line};
 ghost use Rattle.lin_bench.specs.Words.{asks_value, begins_hex, is_array_word, is_hex, is_number_or_range};
 ghost use Rattle.lin_bench.specs.Words.{is_raw, is_signal, is_signal_after, missing_hint, or_this};
 ghost use Rattle.lin_bench.specs.Words.{or_unmarked, reads_zero, signal_in_fields, unmarked_reason, why_at};
-ghost use Rattle.lin_bench.specs.Words.{why_coded, why_unmarked, why_value};
+ghost use Rattle.lin_bench.specs.Words.{why_coded, why_of_signal, why_unmarked, why_value};
 
 use crate::fault::LineFault;
 use crate::fields::{copied_fields, fields, range_ends, signal_field};
@@ -22,6 +22,7 @@ use crate::said_values::joined;
 use crate::words::{in_numbers, is_expect, is_write};
 use lin_frame::Value;
 use lin_parts::Cluster;
+use lin_text::Text;
 use lin_values::{Coded, PlacedItem, number_and_unit};
 use std::alloc::{AllocError, Global};
 
@@ -204,7 +205,26 @@ fn why_coded(
     }
 }
 
-/// That `=` is missing between a signal and these fields, if they aren't a raw value or a range.
+/// Why these fields aren't a value of a signal by its number, which this field names.
+fn why_of_signal(
+    alloc: Global,
+    coded: &Coded,
+    field: &[u8],
+    signal: u16,
+    ranged: bool,
+    value: &[&[u8]],
+) -> Result<Option<Reason>, AllocError>
+    ensures { IfOk result
+        (λ r. r ≡ why_of_signal coded.now field.now signal ranged (field_texts value.now)) }
+{
+    if coded.is_wide(signal) {
+        return Ok(Some(Reason::WideSignal(Text::copied(alloc, field)?)));
+    }
+    why_coded(alloc, coded, signal, ranged, value)
+}
+
+/// That `=` is missing between a signal and these fields, if they aren't a raw value or a range; of a wide
+/// signal that it is one.
 fn why_value(
     alloc: Global,
     cluster: &Cluster,
@@ -213,14 +233,14 @@ fn why_value(
     ranged: bool,
     value: &[&[u8]],
 ) -> Result<Option<Reason>, AllocError>
-    ensures { IfOk result (λ r. r ≡ why_value coded.now
+    ensures { IfOk result (λ r. r ≡ why_value coded.now signal.now
         (signal_field cluster.now signal.now) ranged (field_texts value.now)) }
 {
     if is_numeric(value) {
         return Ok(None);
     }
     match signal_field(alloc, cluster, signal) {
-        Ok(signal) => why_coded(alloc, coded, signal, ranged, value),
+        Ok(number) => why_of_signal(alloc, coded, signal, number, ranged, value),
         Err(LineFault::Bad(_)) => Ok(None),
         Err(LineFault::OutOfMemory) => Err(AllocError),
     }

@@ -367,6 +367,9 @@ fn read_worded(
 {
     let zero = with_value(alloc, cluster, line, &Value::Scalar(0))?;
     let signal = signal_field(alloc, cluster, line.signal)?;
+    if coded.is_wide(signal) {
+        return Err(LineFault::Bad(Reason::WideSignal(Text::copied(alloc, line.signal)?)));
+    }
     if names_hash(coded, signal) {
         return without_comment(alloc, cluster, coded, line, text, zero, signal);
     }

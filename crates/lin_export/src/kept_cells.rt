@@ -39,7 +39,7 @@ fn add_text(text: &mut ShortText, cell: &[u8])
 }
 
 /// A number as a cell.
-fn add_number(text: &mut ShortText, number: u16)
+fn add_number(text: &mut ShortText, number: u64)
     ensures { AddsText text.old text.new (text_cell (decimal number)) }
 {
     text.put_number(number);

@@ -11,7 +11,7 @@ use lin_text::TextWriter;
 use lin_values::{Meaning, put_decimal};
 use std::io::Write;
 
-fn put_number<W: Write>(out: &mut TextWriter<'_, W>, number: u16)
+fn put_number<W: Write>(out: &mut TextWriter<'_, W>, number: u64)
     ensures { Grows W.contents out.old out.new (seen_text (decimal number)) }
 {
     out.put_number(number);

@@ -53,7 +53,7 @@ fn put_text<W: Write>(out: &mut TextWriter<'_, W>, text: &[u8])
 }
 
 /// A number as a cell.
-fn put_number<W: Write>(out: &mut TextWriter<'_, W>, number: u16)
+fn put_number<W: Write>(out: &mut TextWriter<'_, W>, number: u64)
     ensures { Grows W.contents out.old out.new (text_cell (decimal number)) }
 {
     out.put_number(number);

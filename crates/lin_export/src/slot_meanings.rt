@@ -25,7 +25,7 @@ use lin_text::TextWriter;
 use lin_values::{Coded, Meaning, put_decimal};
 use std::io::Write;
 
-fn put_number<W: Write>(out: &mut TextWriter<'_, W>, number: u16)
+fn put_number<W: Write>(out: &mut TextWriter<'_, W>, number: u64)
     ensures { Grows W.contents out.old out.new (escaped_bytes (decimal number)) }
 {
     out.put_number(number);

@@ -1,7 +1,7 @@
 -- Signals of a text of the field: wide scalars are arrays, initial values fit, and subscribers are
 -- nodes (LIN 2.2A, section 9.2.3).
 use Rattle.std.specs.Prelude.{ℕ, zero, suc, ◌/◌, ◌%◌, ◌^◌, ◌==◌, ◌&&◌, ◌||◌, List, [], ◌∷◌, ◌++◌}
-use Rattle.std.specs.Prelude.{Bool, not, nat_le, filter, flat_map, if◌then◌else◌}
+use Rattle.std.specs.Prelude.{Bool, false, not, nat_le, filter, flat_map, map, if◌then◌else◌}
 use Rattle.lin_cluster.specs.FindingsNames.{at_name, at_number, at_place, when}
 use Rattle.lin_cluster.specs.declared.finding.Finding.{Finding}
 use Rattle.lin_cluster.specs.declared.finding.FindingKind.TheVariants.{UnknownName, BadInit}
@@ -52,6 +52,18 @@ settled_init size (loose.Scalar n) =
     if is_wide size then Array n.place (byte_numbers n (size / 8))
     else Scalar (number_with_value n (low_bits n.value (kept_bits size)))
 settled_init size (loose.Array place items) = Array place items
+
+-- whether a signal becomes an array because of its width
+abbrev pub becomes_array : ℕ → LooseInit → Bool
+becomes_array size (loose.Scalar n) = is_wide size
+becomes_array size (loose.Array place items) = false
+
+abbrev pub is_wide_signal : LooseSignal → Bool
+is_wide_signal s = becomes_array s.size.value s.init
+
+-- the names of those that do
+abbrev pub wide_names : List LooseSignal → List Name
+wide_names ss = map (λ s. s.name) (filter is_wide_signal ss)
 
 -- 21 WideSignal at the size, 8 BadInit at a value that is too large
 abbrev pub init_warnings : Number → LooseInit → List Finding

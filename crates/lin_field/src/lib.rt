@@ -36,5 +36,7 @@ pub use loose::{
     LooseSignal, LooseTable, NodeAddress, RoundedDecimal, WideNumber,
 };
 pub use marks::read_over_bytes;
+pub use node_names::copied;
 pub use normalizing::{Normalized, settle};
 pub use plain::write_plain;
+pub use wide::wide_int;

@@ -6,7 +6,7 @@ ghost use Rattle.lin_field.specs.Attributes.{settled_attributes};
 ghost use Rattle.lin_field.specs.Settled.{is_old, old_version, tells_tables, normalized_description, warnings};
 ghost use Rattle.lin_field.specs.Settled.{placed_elsewhere};
 ghost use Rattle.lin_field.specs.Settled.{header_warnings, with_kept_tables, elsewhere_by, node_warnings};
-ghost use Rattle.lin_field.specs.Signals.{settled_signal};
+ghost use Rattle.lin_field.specs.Signals.{settled_signal, wide_names};
 ghost use Rattle.lin_field.specs.Order.{byte_order};
 ghost use Rattle.lin_field.specs.Times.{timing_warnings};
 
@@ -16,7 +16,7 @@ use crate::frames::settle_frames;
 use crate::loose::{Header, Loose, LooseAttributes, LooseNodes, LooseSignal, NodeAddress};
 use crate::node_names::NodeNames;
 use crate::order::byte_order;
-use crate::signals::settle_signals;
+use crate::signals::{settle_signals, wide_names};
 use crate::tables::{keep_tables, settle_events, warn_of_rounding};
 use crate::times::all_tables;
 use lin_cluster::{Finding, FindingKind, at_name, numbers_of};
@@ -26,13 +26,15 @@ use lin_parts::description::{Attributes, Description, Name, Signal, Table};
 use lin_text::Many;
 use std::alloc::{AllocError, Global};
 
-/// A description that a text of the field is settled to, with the text's header; the names of the
-/// signals that the text's diagnostic frames have, which aren't in the description; the warnings; and
-/// where the order of bytes matters and isn't that of LIN. In no order.
+/// A description that a text of the field is settled to, with the text's header; the names of the wide
+/// signals, which are arrays because of their width; the names of the signals that the text's diagnostic
+/// frames have, which aren't in the description; the warnings; and where the order of bytes matters and
+/// isn't that of LIN. In no order.
 #[derive(Drop)]
 pub struct Normalized {
     pub header: Header,
     pub description: Description,
+    pub wide: Many<Name>,
     pub placed_elsewhere: Many<Name>,
     pub warnings: Vec<Finding>,
     pub byte_order: Vec<Finding>,
@@ -159,6 +161,7 @@ fn with_tables(
 /// An error means out of memory.
 pub fn settle(alloc: Global, text: FieldText) -> Result<Normalized, AllocError>
     ensures settled { IfOk result (λ s. s.description ≡ normalized_description text.loose) }
+    ensures wide { IfOk result (λ s. s.wide ≡ wide_names text.loose.signals) }
     ensures elsewhere { IfOk result (λ s. s.placed_elsewhere ≡ placed_elsewhere text.loose) }
     ensures warnings { IfOk result (λ s. s.warnings.items ≡ warnings text) }
     ensures order { IfOk result (λ s. s.byte_order.items ≡ byte_order text.loose) }
@@ -166,6 +169,7 @@ pub fn settle(alloc: Global, text: FieldText) -> Result<Normalized, AllocError>
 {
     let FieldText { loose, marks } = text;
     let byte_order = byte_order(alloc, &loose)?;
+    let wide = wide_names(alloc, loose.signals.as_slice())?;
     let Loose {
         header,
         nodes,
@@ -205,6 +209,7 @@ pub fn settle(alloc: Global, text: FieldText) -> Result<Normalized, AllocError>
     Ok(Normalized {
         header,
         description,
+        wide,
         placed_elsewhere,
         warnings,
         byte_order,

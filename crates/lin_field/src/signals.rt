@@ -6,10 +6,11 @@ ghost use Rattle.std.specs.List.{list_all};
 ghost use Rattle.lin_field.specs.Names.{is_loose_node};
 ghost use Rattle.lin_field.specs.Signals.{is_wide, is_narrow, low_bits, kept_bits, number_with_value};
 ghost use Rattle.lin_field.specs.Signals.{byte_numbers, settled_init, size_warnings};
-ghost use Rattle.lin_field.specs.Signals.{settled_signal, signal_warnings, unknown_loose_node};
+ghost use Rattle.lin_field.specs.Signals.{is_wide_signal, settled_signal, signal_warnings};
+ghost use Rattle.lin_field.specs.Signals.{unknown_loose_node, wide_names};
 
 use crate::loose::{LooseInit, LooseSignal, WideNumber};
-use crate::node_names::NodeNames;
+use crate::node_names::{NodeNames, copied};
 use lin_cluster::{Finding, FindingKind, at_name, at_number, push_when};
 use lin_parts::description::{Init, Name, Number, Signal};
 use lin_text::{Many, OneOrMore};
@@ -95,6 +96,29 @@ fn settled_init(alloc: Global, size: u32, init: LooseInit) -> Result<Init, Alloc
         LooseInit::Scalar(number) => Ok(Init::Scalar(low_number(number, kept_bits(size)))),
         LooseInit::Array(place, items) => Ok(Init::Array(place, items)),
     }
+}
+
+/// Whether a signal becomes an array because of its width.
+fn is_wide_signal(signal: &LooseSignal) -> bool
+    ensures { result ≡ is_wide_signal signal.now }
+{
+    match &signal.init {
+        LooseInit::Scalar(_) => is_wide(signal.size.value),
+        LooseInit::Array(_, _) => false,
+    }
+}
+
+/// Returns the names of the signals that become arrays because of their width.
+pub fn wide_names(alloc: Global, signals: &[LooseSignal]) -> Result<Many<Name>, AllocError>
+    ensures { IfOk result (λ names. names ≡ wide_names signals.now) }
+{
+    let mut names = Vec::new(alloc);
+    for signal in signals {
+        if is_wide_signal(signal) {
+            names.push(copied(alloc, &signal.name)?)?;
+        }
+    }
+    Ok(Many::new(names))
 }
 
 fn warn_of_size(warned: &mut Vec<Finding>, signal: &LooseSignal) -> Result<(), AllocError>

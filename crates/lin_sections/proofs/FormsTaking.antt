@@ -4,14 +4,16 @@ use Rattle.std.specs.Prelude.{nat_le, codes, option_map}
 use Rattle.lin_ldf.specs.Symbols.{Symbol}
 use Rattle.lin_ldf.specs.Forms.{Form, ◌>>=◌, front, tail, mark, keyword, ◌<&◌}
 use Rattle.lin_ldf.specs.Loops.{Shrinks, is_next}
-use Rattle.lin_ldf.specs.Words.{int, word, words, is_word_next}
+use Rattle.lin_ldf.specs.Words.{word, words, is_word_next}
 use Rattle.lin_ldf.specs.Laws.{Lawful, mark_takes, keyword_takes, left_take}
-use Rattle.lin_ldf.specs.GrammarLaws.{int_takes, word_takes, words_lawful, words_end, keyword_before}
+use Rattle.lin_ldf.specs.GrammarLaws.{word_takes, words_lawful, words_end, keyword_before}
 use Rattle.lin_ldf.specs.declared.token.TokenKind.TheVariants as kinds
+use Rattle.lin_field.specs.Grammar.{wide_int}
+use Rattle.lin_field.specs.GrammarLaws.{wide_int_takes}
 use Rattle.lin_sections.specs.Real.{real_units}
 use Rattle.lin_sections.specs.Texts.{shown_text}
 use Rattle.lin_values.specs.Value.{shortest}
-use Rattle.lin_sections.specs.Coding.{between_quotes, small, next_small, is_mark_next, sign, is_part, run_from, run, real, text_of_item, logical, physical, bcd, ascii, item, type_head, coded_line}
+use Rattle.lin_sections.specs.Coding.{between_quotes, raw_value, next_raw_value, is_mark_next, sign, is_part, run_from, run, real, text_of_item, logical, physical, bcd, ascii, item, type_head, coded_line}
 use Rattle.lin_sections.proofs.PassedSteps.{tail-keeps}
 
 -- fewer than n tokens are left behind what is read, if it is read
@@ -39,15 +41,15 @@ after n (Some x) f h more = more x h
 
 -- ---- what takes no more than there is
 
-small-leaves : (n : ℕ) (ts : List Symbol) → length ts < n → Leaves n (small ts)
-small-leaves n ts h =
-    after n (int.read ts) _ (keeping n int_takes.lawful ts h) (λ x less. elim (nat_le x.0.value 65535) as (λ b. Leaves n (cond b (Some (x.0.value, x.1)) None)) [
+value-leaves : (most n : ℕ) (ts : List Symbol) → length ts < n → Leaves n (raw_value most ts)
+value-leaves most n ts h =
+    after n (wide_int.read ts) _ (keeping n wide_int_takes.lawful ts h) (λ x less. elim (nat_le x.0.value most) as (λ b. Leaves n (cond b (Some (x.0.value, x.1)) None)) [
       | true ↦ less
       | false ↦ tt
     ])
 
-next_small-leaves : (n : ℕ) (ts : List Symbol) → length ts < n → Leaves n (next_small ts)
-next_small-leaves n ts h = after n ((mark kinds.Comma).read ts) _ (keeping n (mark_takes kinds.Comma).lawful ts h) (λ u less. small-leaves n u.1 less)
+next_value-leaves : (most n : ℕ) (ts : List Symbol) → length ts < n → Leaves n (next_raw_value most ts)
+next_value-leaves most n ts h = after n ((mark kinds.Comma).read ts) _ (keeping n (mark_takes kinds.Comma).lawful ts h) (λ u less. value-leaves most n u.1 less)
 
 sign-keeps : (ts : List Symbol) → length (sign ts).1 ≤ length ts
 sign-keeps ts =
@@ -92,19 +94,19 @@ text-leaves n ts h =
 
 -- ---- items
 
-logical-leaves : (ts : List Symbol) → Leaves (length ts) (logical ts)
-logical-leaves ts =
+logical-leaves : (most : ℕ) (ts : List Symbol) → Leaves (length ts) (logical most ts)
+logical-leaves most ts =
     let n = length ts in
     after n ((keyword (codes "logical_value")).read ts) _ (taking (keyword (codes "logical_value")).read (keyword_takes (codes "logical_value")).shrinks ts)
-    (λ u h. after n (next_small u.1) _ (next_small-leaves n u.1 h)
+    (λ u h. after n (next_raw_value most u.1) _ (next_value-leaves most n u.1 h)
     (λ v i. after n (text_of_item v.1) _ (text-leaves n v.1 i) (λ t j. j)))
 
-physical-leaves : (ts : List Symbol) → Leaves (length ts) (physical ts)
-physical-leaves ts =
+physical-leaves : (most : ℕ) (ts : List Symbol) → Leaves (length ts) (physical most ts)
+physical-leaves most ts =
     let n = length ts in
     after n ((keyword (codes "physical_value")).read ts) _ (taking (keyword (codes "physical_value")).read (keyword_takes (codes "physical_value")).shrinks ts)
-    (λ u h1. after n (next_small u.1) _ (next_small-leaves n u.1 h1)
-    (λ min h2. after n (next_small min.1) _ (next_small-leaves n min.1 h2)
+    (λ u h1. after n (next_raw_value most u.1) _ (next_value-leaves most n u.1 h1)
+    (λ min h2. after n (next_raw_value most min.1) _ (next_value-leaves most n min.1 h2)
     (λ max h3. after n ((mark kinds.Comma).read max.1) _ (keeping n (mark_takes kinds.Comma).lawful max.1 h3)
     (λ c h4. after n (real c.1) _ (real-leaves n c.1 h4)
     (λ scale h5. after n ((mark kinds.Comma).read scale.1) _ (keeping n (mark_takes kinds.Comma).lawful scale.1 h5)
@@ -119,15 +121,15 @@ ascii-leaves : (ts : List Symbol) → Leaves (length ts) (ascii ts)
 ascii-leaves ts =
     after (length ts) ((keyword (codes "ascii_value") <& mark kinds.Semicolon).read ts) _ (taking (keyword (codes "ascii_value") <& mark kinds.Semicolon).read (keyword_before (codes "ascii_value") kinds.Semicolon).shrinks ts) (λ u h. h)
 
-pub item-leaves : (ts : List Symbol) → Leaves (length ts) (item ts)
-item-leaves ts =
-    let p = logical-leaves ts in
-    let q = physical-leaves ts in
+pub item-leaves : (most : ℕ) (ts : List Symbol) → Leaves (length ts) (item most ts)
+item-leaves most ts =
+    let p = logical-leaves most ts in
+    let q = physical-leaves most ts in
     let r = bcd-leaves ts in
     let s = ascii-leaves ts in
-    elim (is_word_next (codes "logical_value") ts) as (λ b. Leaves (length ts) (cond b (logical ts) (cond (is_word_next (codes "physical_value") ts) (physical ts) (cond (is_word_next (codes "bcd_value") ts) (bcd ts) (ascii ts))))) [
+    elim (is_word_next (codes "logical_value") ts) as (λ b. Leaves (length ts) (cond b (logical most ts) (cond (is_word_next (codes "physical_value") ts) (physical most ts) (cond (is_word_next (codes "bcd_value") ts) (bcd ts) (ascii ts))))) [
       | true ↦ p
-      | false ↦ elim (is_word_next (codes "physical_value") ts) as (λ b. Leaves (length ts) (cond b (physical ts) (cond (is_word_next (codes "bcd_value") ts) (bcd ts) (ascii ts)))) [
+      | false ↦ elim (is_word_next (codes "physical_value") ts) as (λ b. Leaves (length ts) (cond b (physical most ts) (cond (is_word_next (codes "bcd_value") ts) (bcd ts) (ascii ts)))) [
         | true ↦ q
         | false ↦ elim (is_word_next (codes "bcd_value") ts) as (λ b. Leaves (length ts) (cond b (bcd ts) (ascii ts))) [
           | true ↦ r

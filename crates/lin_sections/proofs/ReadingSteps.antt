@@ -49,29 +49,6 @@ module _ {S : Type 0} (line : List Symbol × S → List Symbol × S) (takes : Ta
 
 -- ---- each takes one
 
-pub item-takes : TakesOne with_item
-item-takes x h =
-    let less : length (behind_line 0 x.0) < length x.0 = shorter x.0 h in
-    let leaves : Leaves (length x.0) (item x.0) = item-leaves x.0 in
-    elim (item x.0) as (λ o. Leaves (length x.0) o → length (or_bad_item o x).0 < length x.0) [
-      | None ↦ λ l. less
-      | Some read ↦ λ l. l
-    ] leaves
-
-abbrev pub one_type : List Symbol × Codings → List Symbol × Codings
-one_type x = with_type x.0 x.1
-
-pub type-takes : TakesOne one_type
-type-takes x h =
-    let less : length (behind_block x.0) < length x.0 = block-shorter x.0 h in
-    let leaves : Leaves (length x.0) (type_head x.0) = head-leaves x.0 in
-    elim (type_head x.0) as (λ o. Leaves (length x.0) o → length (or_bad_type o x).0 < length x.0) [
-      | None ↦ λ l. less
-      | Some head ↦ λ l.
-          let p : length (with_items head.1 x.1.bad).0 ≤ length head.1 = repeated-keeps with_item item-takes (head.1, ([], x.1.bad)) in
-          let q : length head.1 < length x.0 = l in omega arith
-    ] leaves
-
 abbrev pub one_line : List Symbol × Codings → List Symbol × Codings
 one_line x = with_coded_line x.0 x.1
 
@@ -84,52 +61,77 @@ line-takes x h =
       | Some read ↦ λ l. l
     ] leaves
 
--- ---- statements
+-- (values up to a limit)
+module _ (most : ℕ) where
+  pub item-takes : TakesOne (with_item most)
+  item-takes x h =
+      let less : length (behind_line 0 x.0) < length x.0 = shorter x.0 h in
+      let leaves : Leaves (length x.0) (item most x.0) = item-leaves most x.0 in
+      elim (item most x.0) as (λ o. Leaves (length x.0) o → length (or_bad_item o x).0 < length x.0) [
+        | None ↦ λ l. less
+        | Some read ↦ λ l. l
+      ] leaves
 
-abbrev pub one_statement : List Symbol × Codings → List Symbol × Codings
-one_statement x = with_statement x.0 x.1
+  abbrev pub one_type : List Symbol × Codings → List Symbol × Codings
+  one_type x = with_type most x.0 x.1
 
-section-keeps : (w : List ℕ) (ts : List Symbol) (f : Codings) → length (with_section w ts f).0 ≤ length ts
-section-keeps w ts f =
-    let r : length (tail ts) ≤ length ts = tail-keeps ts in
-    let p : length (with_types ts f).0 ≤ length (tail ts) = repeated-keeps one_type type-takes (tail ts, f) in
-    let q : length (with_lines ts f).0 ≤ length (tail ts) = repeated-keeps one_line line-takes (tail ts, f) in
-    let g : length (behind_group ts) ≤ length ts = group-keeps ts in
-    elim (bytes_eq w (codes "Signal_encoding_types")) as (λ b. length (cond {A = List Symbol × Codings} b (with_types ts f) (cond (bytes_eq w (codes "Signal_representation")) (with_lines ts f) (behind_group ts, f))).0 ≤ length ts) [
-      | true ↦ omega arith
-      | false ↦ elim (bytes_eq w (codes "Signal_representation")) as (λ b. length (cond {A = List Symbol × Codings} b (with_lines ts f) (behind_group ts, f)).0 ≤ length ts) [
+  pub type-takes : TakesOne one_type
+  type-takes x h =
+      let less : length (behind_block x.0) < length x.0 = block-shorter x.0 h in
+      let leaves : Leaves (length x.0) (type_head x.0) = head-leaves x.0 in
+      elim (type_head x.0) as (λ o. Leaves (length x.0) o → length (or_bad_type most o x).0 < length x.0) [
+        | None ↦ λ l. less
+        | Some head ↦ λ l.
+            let p : length (with_items most head.1 x.1.bad).0 ≤ length head.1 = repeated-keeps (with_item most) item-takes (head.1, ([], x.1.bad)) in
+            let q : length head.1 < length x.0 = l in omega arith
+      ] leaves
+
+  -- ---- statements
+
+  abbrev pub one_statement : List Symbol × Codings → List Symbol × Codings
+  one_statement x = with_statement most x.0 x.1
+
+  section-keeps : (w : List ℕ) (ts : List Symbol) (f : Codings) → length (with_section most w ts f).0 ≤ length ts
+  section-keeps w ts f =
+      let r : length (tail ts) ≤ length ts = tail-keeps ts in
+      let p : length (with_types most ts f).0 ≤ length (tail ts) = repeated-keeps one_type type-takes (tail ts, f) in
+      let q : length (with_lines ts f).0 ≤ length (tail ts) = repeated-keeps one_line line-takes (tail ts, f) in
+      let g : length (behind_group ts) ≤ length ts = group-keeps ts in
+      elim (bytes_eq w (codes "Signal_encoding_types")) as (λ b. length (cond {A = List Symbol × Codings} b (with_types most ts f) (cond (bytes_eq w (codes "Signal_representation")) (with_lines ts f) (behind_group ts, f))).0 ≤ length ts) [
         | true ↦ omega arith
-        | false ↦ g
+        | false ↦ elim (bytes_eq w (codes "Signal_representation")) as (λ b. length (cond {A = List Symbol × Codings} b (with_lines ts f) (behind_group ts, f)).0 ≤ length ts) [
+          | true ↦ omega arith
+          | false ↦ g
+        ]
       ]
-    ]
 
-statement-shrinks : (ts : List Symbol) (f : Codings) → has_front ts ≡ true → length (with_statement ts f).0 < length ts
-statement-shrinks [] f h = absurd cc
-statement-shrinks (t ∷ ts) f h =
-    let p : length (with_section t.text ts f).0 ≤ length ts = section-keeps t.text ts f in
-    let q : length (behind_line 0 ts) ≤ length ts = no-more 0 ts in
-    elim (is_next Word (t ∷ ts)) as (λ b. length (cond {A = List Symbol × Codings} b (cond (is_next OpenBrace ts) (with_section t.text ts f) (behind_line 0 ts, f)) (ts, f)).0 < length (t ∷ ts)) [
-      | true ↦ elim (is_next OpenBrace ts) as (λ b. length (cond {A = List Symbol × Codings} b (with_section t.text ts f) (behind_line 0 ts, f)).0 < length (t ∷ ts)) [
-        | true ↦ omega arith
+  statement-shrinks : (ts : List Symbol) (f : Codings) → has_front ts ≡ true → length (with_statement most ts f).0 < length ts
+  statement-shrinks [] f h = absurd cc
+  statement-shrinks (t ∷ ts) f h =
+      let p : length (with_section most t.text ts f).0 ≤ length ts = section-keeps t.text ts f in
+      let q : length (behind_line 0 ts) ≤ length ts = no-more 0 ts in
+      elim (is_next Word (t ∷ ts)) as (λ b. length (cond {A = List Symbol × Codings} b (cond (is_next OpenBrace ts) (with_section most t.text ts f) (behind_line 0 ts, f)) (ts, f)).0 < length (t ∷ ts)) [
+        | true ↦ elim (is_next OpenBrace ts) as (λ b. length (cond {A = List Symbol × Codings} b (with_section most t.text ts f) (behind_line 0 ts, f)).0 < length (t ∷ ts)) [
+          | true ↦ omega arith
+          | false ↦ omega arith
+        ]
         | false ↦ omega arith
       ]
-      | false ↦ omega arith
-    ]
 
-statement-takes : (x : List Symbol × Codings) → has_front x.0 ≡ true → length (one_statement x).0 < length x.0
-statement-takes x h = statement-shrinks x.0 x.1 h
+  statement-takes : (x : List Symbol × Codings) → has_front x.0 ≡ true → length (one_statement x).0 < length x.0
+  statement-takes x h = statement-shrinks x.0 x.1 h
 
-abbrev pub statements_from : List Symbol × Codings → List Symbol × Codings
-statements_from x = steps_while (length x.0) (λ y. has_front y.0) one_statement x
+  abbrev pub statements_from : List Symbol × Codings → List Symbol × Codings
+  statements_from x = steps_while (length x.0) (λ y. has_front y.0) one_statement x
 
-pub statement-more : (x y total : List Symbol × Codings) → has_front x.0 ≡ true → y ≡ one_statement x → statements_from x ≡ total → statements_from y ≡ total
-statement-more x y total e made so_far = one-step (λ (z : List Symbol × Codings). length z.0) (λ z. has_front z.0) one_statement statement-takes x y total e made so_far
+  pub statement-more : (x y total : List Symbol × Codings) → has_front x.0 ≡ true → y ≡ one_statement x → statements_from x ≡ total → statements_from y ≡ total
+  statement-more x y total e made so_far = one-step (λ (z : List Symbol × Codings). length z.0) (λ z. has_front z.0) one_statement statement-takes x y total e made so_far
 
-pub statement-less : (x y : List Symbol × Codings) → has_front x.0 ≡ true → y ≡ one_statement x → length y.0 < length x.0
-statement-less x y e made = rw made (statement-takes x e)
+  pub statement-less : (x y : List Symbol × Codings) → has_front x.0 ≡ true → y ≡ one_statement x → length y.0 < length x.0
+  statement-less x y e made = rw made (statement-takes x e)
 
-pub statements-done : (x total : List Symbol × Codings) → has_front x.0 ≡ false → statements_from x ≡ total → total ≡ x
-statements-done x total e so_far = no-step (λ (z : List Symbol × Codings). length z.0) (λ z. has_front z.0) one_statement statement-takes x total e so_far
+  pub statements-done : (x total : List Symbol × Codings) → has_front x.0 ≡ false → statements_from x ≡ total → total ≡ x
+  statements-done x total e so_far = no-step (λ (z : List Symbol × Codings). length z.0) (λ z. has_front z.0) one_statement statement-takes x total e so_far
 
 pub is-left : (ts : List Symbol) (o : Option TokenKind) (b : Bool) → o ≡ front_kind ts → b ≡ is_some o → has_front ts ≡ b
 is-left [] o b p q = rw (q, p) refl

@@ -13,7 +13,7 @@ use Rattle.lin_sections.specs.Configured.{with_attribute, listed_names, with_fra
 use Rattle.lin_sections.specs.Configured as configured
 use Rattle.lin_sections.specs.Mentioned.{has_word}
 use Rattle.lin_sections.specs.Passed.{behind_line, behind_group}
-use Rattle.lin_sections.specs.Reading.{with_types, with_lines, nothing_read, codings}
+use Rattle.lin_sections.specs.Reading.{with_types, with_lines, nothing_read, codings_up_to}
 use Rattle.lin_sections.specs.Reading as reading
 use Rattle.lin_values.specs.declared.codings.Codings.{Codings}
 use Rattle.lin_sections.proofs.Repeating.{steps-hold}
@@ -74,17 +74,17 @@ Uncoded ts = (has_word types_word ts ≡ false) × (has_word lines_word ts ≡ f
 behind-uncoded : (ts : List Symbol) → Uncoded ts → Uncoded (tail ts)
 behind-uncoded ts holds = (not-behind types_word ts holds.0, not-behind lines_word ts holds.1)
 
-section-leaves : (t : Symbol) (ts : List Symbol) (f : Codings) → Uncoded (t ∷ ts) → f ≡ nothing_read → Leaves Uncoded nothing_read (reading.with_section t.text ts f)
-section-leaves t ts f holds none =
+section-leaves : (most : ℕ) (t : Symbol) (ts : List Symbol) (f : Codings) → Uncoded (t ∷ ts) → f ≡ nothing_read → Leaves Uncoded nothing_read (reading.with_section most t.text ts f)
+section-leaves most t ts f holds none =
     let group : Leaves Uncoded nothing_read (behind_group ts, f) = (group-holds Uncoded behind-uncoded ts (behind-uncoded (t ∷ ts) holds), none) in
     rw (not-front types_word t ts holds.0, not-front lines_word t ts holds.1) group
 
-statement-leaves : (ts : List Symbol) (f : Codings) → Uncoded ts → f ≡ nothing_read → Leaves Uncoded nothing_read (reading.with_statement ts f)
-statement-leaves [] f holds none = (holds, none)
-statement-leaves (t ∷ ts) f holds none =
+statement-leaves : (most : ℕ) (ts : List Symbol) (f : Codings) → Uncoded ts → f ≡ nothing_read → Leaves Uncoded nothing_read (reading.with_statement most ts f)
+statement-leaves most [] f holds none = (holds, none)
+statement-leaves most (t ∷ ts) f holds none =
     let left : Uncoded ts = behind-uncoded (t ∷ ts) holds in
     let line : Leaves Uncoded nothing_read (behind_line 0 ts, f) = (line-holds Uncoded behind-uncoded 0 ts left, none) in
-    either-leaves Uncoded nothing_read (is_next Word (t ∷ ts)) _ (ts, f) (either-leaves Uncoded nothing_read (is_next OpenBrace ts) (reading.with_section t.text ts f) (behind_line 0 ts, f) (section-leaves t ts f holds none) line) (left, none)
+    either-leaves Uncoded nothing_read (is_next Word (t ∷ ts)) _ (ts, f) (either-leaves Uncoded nothing_read (is_next OpenBrace ts) (reading.with_section most t.text ts f) (behind_line 0 ts, f) (section-leaves most t ts f holds none) line) (left, none)
 
-pub none-coded : (ts : List Symbol) → has_word (codes "Signal_encoding_types") ts ≡ false → has_word (codes "Signal_representation") ts ≡ false → codings ts ≡ nothing_read
-none-coded ts types lines = (steps-hold (Leaves Uncoded nothing_read) (λ x. has_front x.0) (λ x. reading.with_statement x.0 x.1) (λ x holds. statement-leaves x.0 x.1 holds.0 holds.1) (length ts) (ts, nothing_read) ((types, lines), refl)).1
+pub none-coded : (most : ℕ) (ts : List Symbol) → has_word (codes "Signal_encoding_types") ts ≡ false → has_word (codes "Signal_representation") ts ≡ false → codings_up_to most ts ≡ nothing_read
+none-coded most ts types lines = (steps-hold (Leaves Uncoded nothing_read) (λ x. has_front x.0) (λ x. reading.with_statement most x.0 x.1) (λ x holds. statement-leaves most x.0 x.1 holds.0 holds.1) (length ts) (ts, nothing_read) ((types, lines), refl)).1

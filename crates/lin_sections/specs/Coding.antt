@@ -2,11 +2,12 @@
 use Rattle.std.specs.Prelude.{ℕ, ◌+◌, ◌-◌, ◌==◌, ◌&&◌, ◌||◌, List, [], ◌∷◌, ◌++◌, Bool, true, false, nat_le}
 use Rattle.std.specs.Prelude.{length, take, drop, codes, Option, Some, None, if◌then◌else◌, option_map}
 use Rattle.std.specs.Str.{bytes_eq}
+use Rattle.lin_field.specs.Grammar.{wide_int}
 use Rattle.lin_parts.specs.declared.description.Name.{Name}
 use Rattle.lin_ldf.specs.Forms.{◌>>=◌, front, tail, is_front, mark, keyword, ◌<&◌}
 use Rattle.lin_ldf.specs.Loops.{is_next}
 use Rattle.lin_ldf.specs.Symbols.{Symbol, is_kind}
-use Rattle.lin_ldf.specs.Words.{word, int, words, is_word_next}
+use Rattle.lin_ldf.specs.Words.{word, words, is_word_next}
 use Rattle.lin_ldf.specs.declared.token.TokenKind.TheVariants as kinds
 use Rattle.lin_sections.specs.Real.{real_units}
 use Rattle.lin_sections.specs.Texts.{shown_text}
@@ -16,14 +17,14 @@ use Rattle.lin_values.specs.declared.codings.CodedLine.{CodedLine}
 use Rattle.lin_values.specs.declared.codings.Item.{Item}
 use Rattle.lin_values.specs.declared.codings.Item.TheVariants as items
 
--- V = INT up to 65,535
-abbrev pub small : List Symbol → Option (ℕ × List Symbol)
-small ts =
-    int.read ts >>= λ n. if nat_le n.0.value 65535 then Some (n.0.value, n.1) else None
+-- V = WIDE up to a limit
+abbrev pub raw_value : ℕ → List Symbol → Option (ℕ × List Symbol)
+raw_value most ts =
+    wide_int.read ts >>= λ n. if nat_le n.0.value most then Some (n.0.value, n.1) else None
 
 -- ',' V
-abbrev pub next_small : List Symbol → Option (ℕ × List Symbol)
-next_small ts = (mark kinds.Comma).read ts >>= λ u. small u.1
+abbrev pub next_raw_value : ℕ → List Symbol → Option (ℕ × List Symbol)
+next_raw_value most ts = (mark kinds.Comma).read ts >>= λ u. raw_value most u.1
 
 -- ---- REAL
 
@@ -77,19 +78,19 @@ text_of_item ts =
     else ((mark kinds.Semicolon).read ts >>= λ u. Some (shown_text [], u.1))
 
 -- 'logical_value' ',' V [ ',' TEXT ] ';'
-abbrev pub logical : List Symbol → Option (Item × List Symbol)
-logical ts = do
+abbrev pub logical : ℕ → List Symbol → Option (Item × List Symbol)
+logical most ts = do
   u ← (keyword (codes "logical_value")).read ts
-  v ← next_small u.1
+  v ← next_raw_value most u.1
   t ← text_of_item v.1
   Some (items.Logical v.0 t.0, t.1)
 
 -- 'physical_value' ',' V ',' V ',' REAL ',' REAL [ ',' TEXT ] ';'
-abbrev pub physical : List Symbol → Option (Item × List Symbol)
-physical ts = do
+abbrev pub physical : ℕ → List Symbol → Option (Item × List Symbol)
+physical most ts = do
   u ← (keyword (codes "physical_value")).read ts
-  min ← next_small u.1
-  max ← next_small min.1
+  min ← next_raw_value most u.1
+  max ← next_raw_value most min.1
   c ← (mark kinds.Comma).read max.1
   scale ← real c.1
   d ← (mark kinds.Comma).read scale.1
@@ -105,10 +106,10 @@ abbrev pub ascii : List Symbol → Option (Item × List Symbol)
 ascii ts =
     (keyword (codes "ascii_value") <& mark kinds.Semicolon).read ts >>= λ u. Some (items.Ascii, u.1)
 
-abbrev pub item : List Symbol → Option (Item × List Symbol)
-item ts =
-    if is_word_next (codes "logical_value") ts then logical ts
-    else if is_word_next (codes "physical_value") ts then physical ts
+abbrev pub item : ℕ → List Symbol → Option (Item × List Symbol)
+item most ts =
+    if is_word_next (codes "logical_value") ts then logical most ts
+    else if is_word_next (codes "physical_value") ts then physical most ts
     else if is_word_next (codes "bcd_value") ts then bcd ts
     else ascii ts
 

@@ -1,21 +1,24 @@
 //! The two sections of encodings, read from a text. What is in no form is noted, and passed over.
 
-ghost use Rattle.std.specs.Prelude.{◌≡◌, IfOk, List, OnOk, false, true};
+ghost use Rattle.std.specs.Prelude.{◌≡◌, ℕ, IfOk, List, OnOk, false, true};
 ghost use Rattle.lin_ldf.specs.Forms.{Gives, has_front};
 ghost use Rattle.lin_ldf.specs.Symbols.{symbols_in};
 ghost use Rattle.lin_ldf.specs.Stream.{start_of};
 ghost use Rattle.lin_ldf.specs.Tokens.{AreTokens};
 ghost use Rattle.lin_ldf.specs.declared.token.Token.{Token};
 ghost use Rattle.lin_sections.specs.Passed.{has_line};
-ghost use Rattle.lin_sections.specs.Reading.{IsOrBad, codings, found_of, nothing_read, with_item};
+ghost use Rattle.lin_sections.specs.Reading.{IsOrBad, codings, codings_up_to, field_codings, found_of};
+ghost use Rattle.lin_sections.specs.Reading.{nothing_read, with_item};
 ghost use Rattle.lin_sections.specs.Reading.{with_items, with_coded_line, with_lines, with_statement};
 ghost use Rattle.lin_sections.specs.Reading.{with_type, with_types};
 
 use crate::grammar::{coded_line, item, type_head};
 use crate::mentioned::mentions;
 use crate::skipping::{has_line, pass_block, pass_closing, pass_group, pass_line};
+use lin_field::copied;
 use lin_ldf::{LdfFault, Parser, TokenKind};
 use lin_parts::Location;
+use lin_parts::description::Name;
 use lin_text::Many;
 use lin_values::{CodedLine, CodingType, Codings, PlacedItem};
 use std::alloc::{AllocError, Global};
@@ -56,16 +59,17 @@ fn or_bad<'a, T: Drop>(
 /// An item, or a line that is none.
 fn add_item(
     parser: &mut Parser<'_>,
+    most: u64,
     items: &mut Vec<PlacedItem>,
     bad: &mut Vec<Location>,
 ) -> Result<(), AllocError>
     requires { has_line parser.old ≡ true }
     ensures { OnOk result ((parser.new, (items.new.items, bad.new.items))
-        ≡ with_item (parser.old, (items.old.items, bad.old.items))) }
+        ≡ with_item most (parser.old, (items.old.items, bad.old.items))) }
 {
     let place = parser.place();
     let mut ahead = parser.ahead();
-    let read = item(&mut ahead);
+    let read = item(&mut ahead, most);
     match or_bad(parser, ahead, read, bad)? {
         Some(item) => items.push(PlacedItem { item, place })?,
         None => pass_line(parser),
@@ -74,23 +78,27 @@ fn add_item(
 }
 
 /// The items of a type, up to its closing brace.
-fn items(parser: &mut Parser<'_>, bad: &mut Vec<Location>) -> Result<Vec<PlacedItem>, AllocError>
-    ensures { IfOk result
-        (λ items. (parser.new, (items.items, bad.new.items)) ≡ with_items parser.old bad.old.items) }
+fn items(
+    parser: &mut Parser<'_>,
+    most: u64,
+    bad: &mut Vec<Location>,
+) -> Result<Vec<PlacedItem>, AllocError>
+    ensures { IfOk result (λ items. (parser.new, (items.items, bad.new.items))
+        ≡ with_items most parser.old bad.old.items) }
 {
     let mut items = Vec::new(parser.alloc());
     while has_line(parser) {
-        add_item(parser, &mut items, bad)?;
+        add_item(parser, most, &mut items, bad)?;
     }
     pass_closing(parser);
     Ok(items)
 }
 
 /// A type, or what is none, up to the end of its group.
-fn add_type(parser: &mut Parser<'_>, found: &mut ReadCodings) -> Result<(), AllocError>
+fn add_type(parser: &mut Parser<'_>, most: u64, found: &mut ReadCodings) -> Result<(), AllocError>
     requires { has_line parser.old ≡ true }
     ensures { OnOk result
-        ((parser.new, found_of found.new) ≡ with_type parser.old (found_of found.old)) }
+        ((parser.new, found_of found.new) ≡ with_type most parser.old (found_of found.old)) }
 {
     let mut ahead = parser.ahead();
     let read = type_head(&mut ahead);
@@ -98,20 +106,20 @@ fn add_type(parser: &mut Parser<'_>, found: &mut ReadCodings) -> Result<(), Allo
         pass_block(parser);
         return Ok(());
     };
-    let items = items(parser, &mut found.bad)?;
+    let items = items(parser, most, &mut found.bad)?;
     let items = Many::new(items);
     found.types.push(CodingType { name, items })?;
     Ok(())
 }
 
 /// The types of a section, from its opening brace on.
-fn add_types(parser: &mut Parser<'_>, found: &mut ReadCodings) -> Result<(), AllocError>
+fn add_types(parser: &mut Parser<'_>, most: u64, found: &mut ReadCodings) -> Result<(), AllocError>
     ensures { OnOk result
-        ((parser.new, found_of found.new) ≡ with_types parser.old (found_of found.old)) }
+        ((parser.new, found_of found.new) ≡ with_types most parser.old (found_of found.old)) }
 {
     parser.skip();
     while has_line(parser) {
-        add_type(parser, found)?;
+        add_type(parser, most, found)?;
     }
     pass_closing(parser);
     Ok(())
@@ -147,10 +155,14 @@ fn add_lines(parser: &mut Parser<'_>, found: &mut ReadCodings) -> Result<(), All
 
 /// One of the two sections, or what else begins with the next token outside of all braces: a
 /// section, or a line.
-fn add_statement(parser: &mut Parser<'_>, found: &mut ReadCodings) -> Result<(), AllocError>
+fn add_statement(
+    parser: &mut Parser<'_>,
+    most: u64,
+    found: &mut ReadCodings,
+) -> Result<(), AllocError>
     requires { has_front parser.old ≡ true }
     ensures { OnOk result
-        ((parser.new, found_of found.new) ≡ with_statement parser.old (found_of found.old)) }
+        ((parser.new, found_of found.new) ≡ with_statement most parser.old (found_of found.old)) }
 {
     let is_word = parser.is_at(TokenKind::Word);
     let word = parser.text();
@@ -163,7 +175,7 @@ fn add_statement(parser: &mut Parser<'_>, found: &mut ReadCodings) -> Result<(),
         return Ok(());
     }
     if word == b"Signal_encoding_types".as_slice() {
-        add_types(parser, found)
+        add_types(parser, most, found)
     } else if word == b"Signal_representation".as_slice() {
         add_lines(parser, found)
     } else {
@@ -175,15 +187,15 @@ fn add_statement(parser: &mut Parser<'_>, found: &mut ReadCodings) -> Result<(),
 /// Whether a text may have one of the two sections.
 fn may_have_sections(source: &[u8]) -> bool
     ensures { (ts : List Token) → result ≡ false
-        → codings (symbols_in source.now ts) ≡ nothing_read }
+        → (most : ℕ) → codings_up_to most (symbols_in source.now ts) ≡ nothing_read }
 {
     mentions(source, b"Signal_encoding_types") || mentions(source, b"Signal_representation")
 }
 
-/// What the two sections of a text say.
-fn found_in(alloc: Global, source: &[u8]) -> Result<ReadCodings, AllocError>
-    ensures { IfOk result
-        (λ f. found_of f ≡ codings (symbols_in source.now (start_of source.now).tokens)) }
+/// What the two sections of a text say, with values up to a limit.
+fn found_in(alloc: Global, source: &[u8], most: u64) -> Result<ReadCodings, AllocError>
+    ensures { IfOk result (λ f. found_of f
+        ≡ codings_up_to most (symbols_in source.now (start_of source.now).tokens)) }
 {
     let mut found = ReadCodings {
         types: Vec::new(alloc),
@@ -195,7 +207,7 @@ fn found_in(alloc: Global, source: &[u8]) -> Result<ReadCodings, AllocError>
     }
     let mut parser = Parser::new(alloc, source);
     while parser.front_kind().is_some() {
-        add_statement(&mut parser, &mut found)?;
+        add_statement(&mut parser, most, &mut found)?;
     }
     Ok(found)
 }
@@ -214,10 +226,45 @@ pub fn read_codings(alloc: Global, source: &[u8]) -> Result<Codings, AllocError>
     ensures tokens { (ts : List Token) → AreTokens source.now ts
         → IfOk result (λ c. c ≡ codings (symbols_in source.now ts)) }
 {
-    let ReadCodings { types, lines, bad } = found_in(alloc, source)?;
+    let ReadCodings { types, lines, bad } = found_in(alloc, source, 65_535)?;
     Ok(Codings {
         types: Many::new(types),
         lines: Many::new(lines),
         bad: Many::new(bad),
+        wide: Many::new(Vec::new(alloc)),
+    })
+}
+
+/// Copies names.
+fn copied_names(alloc: Global, names: &[Name]) -> Result<Many<Name>, AllocError>
+    ensures { IfOk result (λ all. all ≡ names.now) }
+{
+    let mut all = Vec::with_capacity(alloc, names.len())?;
+    for name in names {
+        all.push(copied(alloc, name)?)?;
+    }
+    Ok(Many::new(all))
+}
+
+/// What the two sections of a text say that `--field` reads, whose values have up to 64 bits. `wide` are
+/// the names of the wide signals.
+///
+/// An error means out of memory.
+pub fn read_field_codings(
+    alloc: Global,
+    source: &[u8],
+    wide: &[Name],
+) -> Result<Codings, AllocError>
+    ensures read { IfOk result
+        (λ c. c ≡ field_codings wide.now (symbols_in source.now (start_of source.now).tokens)) }
+    ensures tokens { (ts : List Token) → AreTokens source.now ts
+        → IfOk result (λ c. c ≡ field_codings wide.now (symbols_in source.now ts)) }
+{
+    let ReadCodings { types, lines, bad } = found_in(alloc, source, u64::MAX)?;
+    Ok(Codings {
+        types: Many::new(types),
+        lines: Many::new(lines),
+        bad: Many::new(bad),
+        wide: copied_names(alloc, wide)?,
     })
 }

@@ -2,35 +2,36 @@
 
 ghost use Rattle.std.specs.Prelude.{◌≡◌};
 ghost use Rattle.lin_ldf.specs.Forms.{Gives};
-ghost use Rattle.lin_sections.specs.Coding.{small, next_small, between_quotes, logical, physical};
+ghost use Rattle.lin_sections.specs.Coding.{raw_value, next_raw_value, between_quotes, logical, physical};
 ghost use Rattle.lin_sections.specs.Coding.{text_of_item, item, type_head, coded_line};
 
 use crate::reals::real;
 use crate::shown_texts::shown_text;
+use lin_field::wide_int;
 use lin_ldf::{LdfFault, Parser, TokenKind, one_or_more};
 use lin_parts::description::Name;
 use lin_text::Text;
 use lin_values::{CodedLine, Item};
 
-// V = INT up to 65,535
-fn small(parser: &mut Parser<'_>) -> Result<u16, LdfFault>
-    ensures { Gives result parser.new (small parser.old) }
+// V = WIDE up to a limit
+fn raw_value(parser: &mut Parser<'_>, most: u64) -> Result<u64, LdfFault>
+    ensures { Gives result parser.new (raw_value most parser.old) }
 {
     let place = parser.place();
-    let number = parser.int()?;
-    if number.value <= 65_535 {
-        Ok(number.value as u16)
+    let number = wide_int(parser)?;
+    if number.value <= most {
+        Ok(number.value)
     } else {
         Err(LdfFault::Unexpected(place))
     }
 }
 
 // ',' V
-fn next_small(parser: &mut Parser<'_>) -> Result<u16, LdfFault>
-    ensures { Gives result parser.new (next_small parser.old) }
+fn next_raw_value(parser: &mut Parser<'_>, most: u64) -> Result<u64, LdfFault>
+    ensures { Gives result parser.new (next_raw_value most parser.old) }
 {
     parser.mark(TokenKind::Comma)?;
-    small(parser)
+    raw_value(parser, most)
 }
 
 fn between_quotes(text: &[u8]) -> &[u8]
@@ -60,22 +61,22 @@ fn text_of_item(parser: &mut Parser<'_>) -> Result<Text, LdfFault>
 }
 
 // 'logical_value' ',' V [ ',' TEXT ] ';'
-fn logical(parser: &mut Parser<'_>) -> Result<Item, LdfFault>
-    ensures { Gives result parser.new (logical parser.old) }
+fn logical(parser: &mut Parser<'_>, most: u64) -> Result<Item, LdfFault>
+    ensures { Gives result parser.new (logical most parser.old) }
 {
     parser.keyword(b"logical_value")?;
-    let value = next_small(parser)?;
+    let value = next_raw_value(parser, most)?;
     let text = text_of_item(parser)?;
     Ok(Item::Logical { value, text })
 }
 
 // 'physical_value' ',' V ',' V ',' REAL ',' REAL [ ',' TEXT ] ';'
-fn physical(parser: &mut Parser<'_>) -> Result<Item, LdfFault>
-    ensures { Gives result parser.new (physical parser.old) }
+fn physical(parser: &mut Parser<'_>, most: u64) -> Result<Item, LdfFault>
+    ensures { Gives result parser.new (physical most parser.old) }
 {
     parser.keyword(b"physical_value")?;
-    let min = next_small(parser)?;
-    let max = next_small(parser)?;
+    let min = next_raw_value(parser, most)?;
+    let max = next_raw_value(parser, most)?;
     parser.mark(TokenKind::Comma)?;
     let scale = real(parser)?;
     parser.mark(TokenKind::Comma)?;
@@ -91,13 +92,13 @@ fn physical(parser: &mut Parser<'_>) -> Result<Item, LdfFault>
 }
 
 // item = logical | physical | 'bcd_value' ';' | 'ascii_value' ';'
-pub(crate) fn item(parser: &mut Parser<'_>) -> Result<Item, LdfFault>
-    ensures { Gives result parser.new (item parser.old) }
+pub(crate) fn item(parser: &mut Parser<'_>, most: u64) -> Result<Item, LdfFault>
+    ensures { Gives result parser.new (item most parser.old) }
 {
     if parser.is_at_word(b"logical_value") {
-        logical(parser)
+        logical(parser, most)
     } else if parser.is_at_word(b"physical_value") {
-        physical(parser)
+        physical(parser, most)
     } else if parser.is_at_word(b"bcd_value") {
         parser.keyword_before(b"bcd_value", TokenKind::Semicolon)?;
         Ok(Item::Bcd)

@@ -33,7 +33,7 @@ mod unknown;
 pub use attribute_blocks::{Attribute, NodeAttributes, read_attributes};
 pub use attribute_lints::lint_attributes;
 pub use attribute_values::header_version;
-pub use coding_sections::read_codings;
+pub use coding_sections::{read_codings, read_field_codings};
 pub use configurable_lists::read_configurables;
 pub use configuring::configure;
 pub use diff::{

@@ -1,7 +1,7 @@
 -- A cluster with what the values of its signals mean, by the sections of encodings of its LDF text,
 -- and with what is odd in a text in which nothing is wrong.
-use Rattle.std.specs.Prelude.{◌≡◌, ℕ, List, [], ◌++◌, map, Option, Some, None, option_map}
-use Rattle.std.specs.Prelude.{Bool, true, false, ◌||◌, if◌then◌else◌, IsPermutation, IsSorted, Result, Ok, Err}
+use Rattle.std.specs.Prelude.{◌≡◌, ℕ, List, [], ◌++◌, map, is_some, Option, Some, None, option_map}
+use Rattle.std.specs.Prelude.{Bool, true, ◌||◌, if◌then◌else◌, IsPermutation, IsSorted, Result, Ok, Err}
 use Rattle.std.specs.Option.{option_map_or}
 use Rattle.lin_ldf.specs.Describes.{Describes}
 use Rattle.lin_ldf.specs.Symbols.{Symbol, symbols_in}
@@ -28,7 +28,7 @@ use Rattle.lin_sections.specs.Attributes.{node_attributes}
 use Rattle.lin_values.specs.Coded.{coded_signals, CodedData}
 use Rattle.lin_sections.specs.Configured.{configurables}
 use Rattle.lin_sections.specs.Configuring.{configured_by, warnings_by}
-use Rattle.lin_sections.specs.Reading.{codings}
+use Rattle.lin_sections.specs.Reading.{codings, field_codings}
 use Rattle.lin_sections.specs.Unknown.{unknown_words}
 use Rattle.lin_values.specs.Unused.{unused_encodings}
 use Rattle.lin_values.specs.Warnings.{encoding_warnings}
@@ -40,9 +40,14 @@ are_read Unread is_linted = is_linted
 are_read Read is_linted = true
 are_read Told is_linted = true
 
--- what the sections of encodings among tokens say, where they are read
-abbrev pub codings_read : Bool → List Symbol → Option Codings
-codings_read is_read ts = if is_read then Some (codings ts) else None
+-- what the sections of encodings among tokens say; with --field these are the names of the wide signals
+abbrev pub codings_with : Option (List Name) → List Symbol → Codings
+codings_with None ts = codings ts
+codings_with (Some wide) ts = field_codings wide ts
+
+-- the same, where they are read
+abbrev pub codings_read : Option (List Name) → Bool → List Symbol → Option Codings
+codings_read wide is_read ts = if is_read then Some (codings_with wide ts) else None
 
 -- the lists of configurable frames among them, where a text is linted
 abbrev pub configurables_read : Bool → List Symbol → Option (List Configurable)
@@ -58,12 +63,12 @@ attributes_read is_linted d ts =
     if is_linted then attribute_lints d (header_version ts) (node_attributes ts) else []
 
 -- what the extras want of all that; with --field the unknown words in any case
-abbrev pub sections_read : Bool → Extras → Description → List Symbol → ExtraSections
-sections_read is_field x d ts =
+abbrev pub sections_read : Option (List Name) → Extras → Description → List Symbol → ExtraSections
+sections_read wide x d ts =
     record {
-      codings = codings_read (are_read x.encodings x.is_linted) ts;
+      codings = codings_read wide (are_read x.encodings x.is_linted) ts;
       configurables = configurables_read x.is_linted ts;
-      found = unknown_read (is_field || x.is_linted) ts ++ attributes_read x.is_linted d ts;
+      found = unknown_read (is_some wide || x.is_linted) ts ++ attributes_read x.is_linted d ts;
     }
 
 -- what of that is kept, and not read for a lint alone
@@ -120,7 +125,7 @@ pub record AreWarnings (e : Encodings) (c : Parts) (k : Option Codings) (rs warn
 -- the sections of a text say this, as far as the extras want them
 abbrev pub SaysSections : Extras → List ℕ → Description → ExtraSections → Type 0
 SaysSections x text d s =
-    (ts : List Token) × AreTokens text ts × (s ≡ sections_read false x d (symbols_in text ts))
+    (ts : List Token) × AreTokens text ts × (s ≡ sections_read None x d (symbols_in text ts))
 
 -- what a text describes and what its sections say, or why it describes nothing
 abbrev pub AnswersSections : Extras → Result (Description × ExtraSections) Fault → List ℕ → Type 0

@@ -1,5 +1,5 @@
 -- What comparing two LDFs answers.
-use Rattle.std.specs.Prelude.{◌≡◌, ℕ, Bool, true, false, List, Option, Result, Ok, Err}
+use Rattle.std.specs.Prelude.{◌≡◌, ℕ, Bool, true, false, List, [], Option, Result, Ok, Err}
 use Rattle.std.specs.Io.KnownBytes.{Appends, Keeps}
 use Rattle.std.specs.List.{list_any}
 use Rattle.lin_cluster.specs.Described.{parts_of}
@@ -11,17 +11,18 @@ use Rattle.lin_field.specs.declared.field_check.FieldFault.TheVariants as check
 use Rattle.lin_field.specs.declared.normalizing.Normalized.{Normalized}
 use Rattle.lin_ldf.specs.Describes.{Describes}
 use Rattle.lin_ldf.specs.Stream.{start_of}
-use Rattle.lin_ldf.specs.Symbols.{symbols_in}
+use Rattle.lin_ldf.specs.Symbols.{Symbol, symbols_in}
 use Rattle.lin_parts.specs.declared.description.Description.{Description}
 use Rattle.lin_parts.specs.declared.parts.Parts.{Parts}
 use Rattle.lin_sections.specs.Differences.{all_differences, DifferenceData}
 use Rattle.lin_sections.specs.NewNames.{no_renames}
-use Rattle.lin_sections.specs.Reading.{codings}
+use Rattle.lin_sections.specs.Reading.{codings, field_codings}
 use Rattle.lin_sections.specs.Renames.{all_renames}
 use Rattle.lin_sections.specs.Things.{all_things, ComparedData}
 use Rattle.lin_tool.specs.Clusters.{IsSaidBy, TextFaults}
 use Rattle.lin_tool.specs.Field.{IsFieldFault, IsNormalized, IsReadOver}
 use Rattle.lin_tool.specs.Formats.{Begins}
+use Rattle.lin_values.specs.declared.codings.Codings.{Codings}
 use Rattle.lin_tool.specs.declared.describing.Reading.{Reading}
 use Rattle.lin_tool.specs.declared.describing.Reading.TheVariants.{Plain, Field}
 use Rattle.lin_tool.specs.declared.diffing.ReadLdf.{ReadLdf}
@@ -71,14 +72,19 @@ read_data ldf = record {
   loads = ldf.loads.items;
 }
 
+-- what the sections of encodings among tokens contain; which signals are wide isn't compared
+abbrev pub codings_by : Reading → List Symbol → Codings
+codings_by Plain ts = codings ts
+codings_by Field ts = field_codings [] ts
+
 -- The encodings are those of the text, and the loads those of the cluster's schedule tables.
-abbrev pub HasFacts : ComparedData → Type 0
-HasFacts d = (d.codings ≡ codings d.tokens) × (d.loads ≡ table_loads d.cluster)
+abbrev pub HasFacts : Reading → ComparedData → Type 0
+HasFacts reading d = (d.codings ≡ codings_by reading d.tokens) × (d.loads ≡ table_loads d.cluster)
 
 -- what is compared of an LDF that is read so, or why there is nothing to compare
 abbrev pub ReadsLdf : Reading → Result ReadLdf Fault → List ℕ → Type 0
 ReadsLdf reading (Ok ldf) text =
-    ReadsCluster reading (Ok (ldf.description, ldf.cluster)) text ldf.text.items × HasFacts (read_data ldf)
+    ReadsCluster reading (Ok (ldf.description, ldf.cluster)) text ldf.text.items × HasFacts reading (read_data ldf)
 ReadsLdf Plain (Err fault) text = TextFaults fault text
 ReadsLdf Field (Err fault) text = FieldFaults fault text
 

@@ -1,5 +1,5 @@
 -- What is answered to an LDF text of the field.
-use Rattle.std.specs.Prelude.{◌≡◌, ◌≢◌, ℕ, ◌<◌, ◌≤◌, ◌++◌, List, length, map, true, Option, IfSome, Result, Ok, Err}
+use Rattle.std.specs.Prelude.{◌≡◌, ◌≢◌, ℕ, ◌<◌, ◌≤◌, ◌++◌, List, length, map, true, Option, Some, IfSome, Result, Ok, Err}
 use Rattle.lin_ldf.specs.Symbols.{Symbol, symbols_in}
 use Rattle.lin_ldf.specs.Tokens.{AreTokens, IsLexFault}
 use Rattle.lin_ldf.specs.declared.fault.LdfFault.{LdfFault}
@@ -13,6 +13,7 @@ use Rattle.lin_field.specs.Marks.{text_with_blanks, extra_in, without_extra_mark
 use Rattle.lin_field.specs.Order.{byte_order}
 use Rattle.lin_field.specs.Plain.{plain_data, plain_text}
 use Rattle.lin_field.specs.Settled.{placed_elsewhere, normalized_description, warnings}
+use Rattle.lin_field.specs.Signals.{wide_names}
 use Rattle.lin_field.specs.declared.field_check.Checked.{Checked}
 use Rattle.lin_field.specs.declared.field_check.FieldFault.TheVariants as check
 use Rattle.lin_field.specs.declared.field_check.Remark.{Remark}
@@ -40,6 +41,7 @@ pub record IsNormalized (text : List ℕ) (s : Normalized) : Type 0 where
   pub read : FieldText
   pub reads : ReadsFieldText text read
   pub description : s.description ≡ normalized_description read.loose
+  pub wide : s.wide ≡ wide_names read.loose.signals
   pub elsewhere : s.placed_elsewhere ≡ placed_elsewhere read.loose
   pub warnings : s.warnings.items ≡ warnings read
   pub order : s.byte_order.items ≡ byte_order read.loose
@@ -93,12 +95,12 @@ abbrev pub AnswersChecked : Extras → Normalized → ExtraSections → List Sym
 AnswersChecked x s k ts (Ok d) warned = IsFieldCluster x s k ts d warned
 AnswersChecked x s k ts (Err fault) warned = CheckFaults fault s
 
--- the tokens of a text of the field say this, without the marks that it has too many: its sections, as
--- far as the extras want them, and its commands
-abbrev pub FieldSays : Extras → List ℕ → Description → ExtraSections → List Symbol → Type 0
-FieldSays x text d k said =
+-- the tokens of a text of the field, which is settled to this, say this, without the marks that it has too
+-- many: its sections, as far as the extras want them, and its commands
+abbrev pub FieldSays : Extras → List ℕ → Normalized → ExtraSections → List Symbol → Type 0
+FieldSays x text s k said =
     (ts : List Token) × AreTokens (field_bytes text) ts
-    × ((said ≡ without_extra_marks (symbols_in (field_bytes text) ts)) × (k ≡ sections_read true x d said))
+    × ((said ≡ without_extra_marks (symbols_in (field_bytes text) ts)) × (k ≡ sections_read (Some s.wide) x s.description said))
 
 -- when a reader has this fault: what it has is told, or it isn't
 abbrev pub ReadFaults : Fault → Option (List ℕ) → Type 0
@@ -112,7 +114,7 @@ abbrev pub AnswersFieldText : Extras → Result Described Fault → List Remark 
 AnswersFieldText x (Ok d) warned text =
     (s : Normalized) × IsNormalized text s
     × ((k : ExtraSections) × ((said : List Symbol)
-    × (FieldSays x text s.description k said × IsFieldCluster x s k said d warned)))
+    × (FieldSays x text s k said × IsFieldCluster x s k said d warned)))
 AnswersFieldText x (Err (Ldf f)) warned text = IsFieldFault text f
 AnswersFieldText x (Err fault) warned text = (s : Normalized) × IsNormalized text s × CheckFaults fault s
 

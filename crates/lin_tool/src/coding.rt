@@ -8,7 +8,7 @@ ghost use Rattle.lin_ldf.specs.Symbols.{symbols_in};
 ghost use Rattle.lin_ldf.specs.Tokens.{AreTokens};
 ghost use Rattle.lin_ldf.specs.declared.token.Token.{Token};
 ghost use Rattle.lin_field.specs.Checks.{remark, remark_cmp};
-ghost use Rattle.lin_tool.specs.Coding.{are_read, coded_read, codings_kept, codings_read};
+ghost use Rattle.lin_tool.specs.Coding.{are_read, coded_read, codings_kept, codings_read, codings_with};
 ghost use Rattle.lin_tool.specs.Coding.{attributes_read, configurables_read, configured_read, configuring_told, with_lints, sections_read, reported_findings, unknown_read, unused_told, AreWarnings};
 ghost use Rattle.lin_tool.specs.declared.fault.Fault.TheVariants.{OutOfMemory};
 
@@ -20,7 +20,7 @@ use lin_parts::Cluster;
 use lin_parts::description::{Description, Name};
 use lin_sections::{
     configure, header_version, lint_attributes, read_attributes, read_codings, read_configurables,
-    unknown_words,
+    read_field_codings, unknown_words,
 };
 use lin_text::Many;
 use lin_values::{Coded, Codings, coded_by, unused_encodings};
@@ -75,17 +75,44 @@ fn are_read(extras: Extras) -> bool
     }
 }
 
-/// What the sections of encodings of an LDF text say, where they are read.
+/// What the sections of encodings of an LDF say. `wide` are the names of the wide signals, with `--field`.
 ///
 /// An error means out of memory.
-fn codings_of(alloc: Global, text: &[u8], is_read: bool) -> Result<Option<Codings>, AllocError>
-    ensures read { IfOk result
-        (λ k. k ≡ codings_read is_read (symbols_in text.now (start_of text.now).tokens)) }
+pub(crate) fn codings_with(
+    alloc: Global,
+    text: &[u8],
+    wide: Option<&[Name]>,
+) -> Result<Codings, AllocError>
+    ensures read { IfOk result (λ k. k ≡ codings_with (option_map (λ w. w.now) wide.entry)
+        (symbols_in text.now (start_of text.now).tokens)) }
     ensures tokens { (ts : List Token) → AreTokens text.now ts
-        → IfOk result (λ k. k ≡ codings_read is_read (symbols_in text.now ts)) }
+        → IfOk result
+        (λ k. k ≡ codings_with (option_map (λ w. w.now) wide.entry) (symbols_in text.now ts)) }
+{
+    match wide {
+        Some(wide) => read_field_codings(alloc, text, wide),
+        None => read_codings(alloc, text),
+    }
+}
+
+/// What the sections of encodings of an LDF text say, where they are read. `wide` are the names of the wide
+/// signals, with `--field`.
+///
+/// An error means out of memory.
+fn codings_of(
+    alloc: Global,
+    text: &[u8],
+    wide: Option<&[Name]>,
+    is_read: bool,
+) -> Result<Option<Codings>, AllocError>
+    ensures read { IfOk result (λ k. k ≡ codings_read (option_map (λ w. w.now) wide.entry) is_read
+        (symbols_in text.now (start_of text.now).tokens)) }
+    ensures tokens { (ts : List Token) → AreTokens text.now ts
+        → IfOk result
+        (λ k. k ≡ codings_read (option_map (λ w. w.now) wide.entry) is_read (symbols_in text.now ts)) }
 {
     if is_read {
-        Ok(Some(read_codings(alloc, text)?))
+        Ok(Some(codings_with(alloc, text, wide)?))
     } else {
         Ok(None)
     }
@@ -150,26 +177,28 @@ fn attributes_of(
     lint_attributes(alloc, description, version.as_ref(), blocks.as_slice())
 }
 
-/// Reads what the extras want of the sections of an LDF that says a description; with `--field`
-/// (`is_field`) the words that LIN doesn't have in any case.
+/// Reads what the extras want of the sections of an LDF that says a description; with `--field` the words
+/// that LIN doesn't have in any case. `wide` are the names of the wide signals, with `--field`.
 ///
 /// An error means out of memory.
 pub(crate) fn sections_of(
     alloc: Global,
     text: &[u8],
     description: &Description,
-    is_field: bool,
+    wide: Option<&[Name]>,
     extras: Extras,
 ) -> Result<ExtraSections, AllocError>
-    ensures read { IfOk result (λ s. s ≡ sections_read is_field extras description.now
+    ensures read { IfOk result
+        (λ s. s ≡ sections_read (option_map (λ w. w.now) wide.entry) extras description.now
         (symbols_in text.now (start_of text.now).tokens)) }
     ensures tokens { (ts : List Token) → AreTokens text.now ts
         → IfOk result
-        (λ s. s ≡ sections_read is_field extras description.now (symbols_in text.now ts)) }
+        (λ s. s ≡ sections_read (option_map (λ w. w.now) wide.entry) extras description.now
+        (symbols_in text.now ts)) }
 {
-    let codings = codings_of(alloc, text, are_read(extras))?;
+    let codings = codings_of(alloc, text, wide, are_read(extras))?;
     let configurables = configurables_of(alloc, text, extras.is_linted)?;
-    let mut found = unknown_of(alloc, text, is_field || extras.is_linted)?;
+    let mut found = unknown_of(alloc, text, wide.is_some() || extras.is_linted)?;
     let odd = attributes_of(alloc, text, description, extras.is_linted)?;
     found.extend_from_slice(odd.as_slice())?;
     Ok(ExtraSections {

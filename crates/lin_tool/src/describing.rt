@@ -136,7 +136,7 @@ fn parse_text<'a>(
     ensures { AnswersSections extras result text.now }
 {
     let description = description_of(alloc, text, unknown)?;
-    let sections = sections_of(alloc, text, &description, false, extras)?;
+    let sections = sections_of(alloc, text, &description, None, extras)?;
     Ok((description, sections))
 }
 

@@ -2,8 +2,10 @@
 
 ghost use Rattle.std.specs.Prelude.{◌≡◌, ◌≤◌, List, ℕ, IfOk, true};
 ghost use Rattle.lin_ldf.specs.Describes.{Describes};
+ghost use Rattle.lin_ldf.specs.Stream.{start_of};
+ghost use Rattle.lin_ldf.specs.Symbols.{symbols_in};
 ghost use Rattle.lin_tool.specs.Clusters.{AnswersText, IsSaidBy};
-ghost use Rattle.lin_tool.specs.Diffing.{differences_of, read_data, ReadsCluster, ReadsField};
+ghost use Rattle.lin_tool.specs.Diffing.{codings_by, differences_of, read_data, ReadsCluster, ReadsField};
 ghost use Rattle.lin_tool.specs.Diffing.{ReadsLdf, ReadsStandard, WritesCompared};
 ghost use Rattle.lin_tool.specs.Levels.{is_in_ranges};
 ghost use Rattle.lin_sections.specs.Differences.{differences_data};
@@ -25,7 +27,7 @@ use lin_parts::description::Description;
 use lin_schedule::TableLoad;
 use lin_sections::{
     Classes, ComparedLdf, Difference, compared_things, differences, is_any_listed, read_codings,
-    write_differences,
+    read_field_codings, write_differences,
 };
 use lin_text::Many;
 use lin_values::Codings;
@@ -103,6 +105,7 @@ fn field_cluster(alloc: Global, text: &mut [u8]) -> Result<(Description, Cluster
     let Normalized {
         header: _header,
         description,
+        wide: _wide,
         placed_elsewhere: _placed,
         warnings: _told,
         byte_order: _order,
@@ -125,6 +128,23 @@ fn read_cluster(
     match reading {
         Reading::Plain => standard_cluster(alloc, text),
         Reading::Field => field_cluster(alloc, text),
+    }
+}
+
+/// Returns what the sections of encodings of an LDF contain. Which signals are wide isn't compared.
+///
+/// An error means out of memory.
+pub(crate) fn codings_of(
+    alloc: Global,
+    text: &[u8],
+    reading: Reading,
+) -> Result<Codings, AllocError>
+    ensures { IfOk result
+        (λ k. k ≡ codings_by reading (symbols_in text.now (start_of text.now).tokens)) }
+{
+    match reading {
+        Reading::Plain => read_codings(alloc, text),
+        Reading::Field => read_field_codings(alloc, text, &[]),
     }
 }
 
@@ -157,7 +177,7 @@ pub fn read_ldf(
 {
     match read_cluster(alloc, text.as_mut_slice(), reading) {
         Ok((description, cluster)) => Ok(ReadLdf {
-            codings: read_codings(alloc, text.as_slice())?,
+            codings: codings_of(alloc, text.as_slice(), reading)?,
             loads: table_loads(alloc, &cluster)?,
             text,
             description,

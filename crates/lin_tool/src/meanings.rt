@@ -161,8 +161,8 @@ static ENCODINGS: [(&str, &str); 11] = [
     (
         "syntax error, or a number out of range, in a signal encoding: ignored up to the next \
          semicolon, or up to the closing brace if the name is wrong",
-        "use values up to 65,535, and a scale or an offset below 1,000,000,000 with at most 24 \
-         decimal places",
+        "use values up to 65,535 (with --field up to 2^64 - 1), and a scale or an offset below \
+         1,000,000,000 with at most 24 decimal places",
     ),
     (
         "an earlier encoding has the same name: the first is used",
@@ -201,8 +201,8 @@ static ENCODINGS: [(&str, &str); 11] = [
         "write the scale of the signal",
     ),
     (
-        "the encoding doesn't suit the signal: ranges are for scalars; bcd_value needs a multiple \
-         of 4 bits, ascii_value of 8",
+        "the encoding doesn't suit the signal: values and ranges are for scalars and wide signals; \
+         bcd_value needs a multiple of 4 bits, ascii_value of 8",
         "use an encoding that suits the signal",
     ),
 ];

@@ -49,6 +49,7 @@ pub(crate) fn described(
                     let Normalized {
                         header: _header,
                         description,
+                        wide: _wide,
                         placed_elsewhere: _placed_elsewhere,
                         warnings: _warnings,
                         byte_order: _byte_order,

@@ -3,6 +3,7 @@
 use crate::checking::text_at;
 use crate::coding::{Described, Encodings, Extras};
 use crate::describing::{Reading, cluster_read, description_of};
+use crate::diffing::codings_of;
 use crate::fault::{Fault, exit_status};
 use crate::field::settled_of;
 use crate::locating::{lexed, problems_of_fault, problems_of_remarks, shown_token};
@@ -11,7 +12,6 @@ use lin_export::{Found, Problem, write_object};
 use lin_field::{Normalized, read_over_bytes};
 use lin_ldf::{Token, TokenKind, UnknownWords};
 use lin_parts::description::Description;
-use lin_sections::read_codings;
 use lin_values::{CodingType, Codings};
 use std::alloc::{AllocError, Global};
 use std::fs::Files;
@@ -102,7 +102,7 @@ fn source_of(
         Reading::Field => field_source(alloc, text.as_mut_slice())?,
     };
     if is_physical {
-        source.codings = Some(read_codings(alloc, text.as_slice())?);
+        source.codings = Some(codings_of(alloc, text.as_slice(), reading)?);
     }
     Ok(source)
 }

@@ -9,6 +9,7 @@ use Rattle.lin_ldf.specs.declared.fault.LdfFault.{LdfFault}
 use Rattle.lin_ldf.specs.declared.fault.LdfFault.TheVariants as ldf
 use Rattle.lin_cluster.specs.Described.{parts_of}
 use Rattle.lin_cluster.specs.declared.finding.Finding.{Finding}
+use Rattle.lin_parts.specs.declared.description.Name.{Name}
 use Rattle.lin_parts.specs.declared.parts.Parts.{Parts}
 use Rattle.lin_field.specs.Bytes.{field_bytes}
 use Rattle.lin_field.specs.Checks.{IsFieldFree, IsRefusalOf}
@@ -16,13 +17,14 @@ use Rattle.lin_field.specs.Describes.{ReadsFieldText}
 use Rattle.lin_field.specs.Marks.{text_with_blanks}
 use Rattle.lin_field.specs.Order.{byte_order}
 use Rattle.lin_field.specs.Settled.{placed_elsewhere, normalized_description, warnings}
+use Rattle.lin_field.specs.Signals.{wide_names}
 use Rattle.lin_field.specs.declared.field_check.FieldFault.TheVariants.{Remarks}
 use Rattle.lin_field.specs.declared.field_check.Remark.{Remark}
 use Rattle.lin_field.specs.declared.field_text.FieldText.{FieldText}
 use Rattle.lin_field.specs.declared.normalizing.Normalized.{Normalized}
 use Rattle.lin_values.specs.Coded.{CodedData, coded_signals}
 use Rattle.lin_sections.specs.Configuring.{configured_by}
-use Rattle.lin_sections.specs.Reading.{codings}
+use Rattle.lin_sections.specs.Reading.{codings, field_codings}
 use Rattle.linsim_c.specs.Setups.{IsClusterOf, TextFaults, most_ldf_bytes}
 use Rattle.linsim_c.specs.declared.ldf_cluster.Described.{Described}
 use Rattle.linsim_c.specs.declared.fault.Fault.{Fault}
@@ -32,6 +34,10 @@ use Rattle.linsim_c.specs.declared.fault.Fault.TheVariants as fault
 -- what the sections of encodings of a text say of the signals of a cluster
 abbrev pub coded_in : List ℕ → Parts → CodedData
 coded_in text c = coded_signals c (codings (symbols_in text (start_of text).tokens))
+
+-- the same, as with `--field`; these are the names of the wide signals
+abbrev pub field_coded_in : List Name → List ℕ → Parts → CodedData
+field_coded_in wide text c = coded_signals c (field_codings wide (symbols_in text (start_of text).tokens))
 
 -- a cluster with the requests of the node configuration commands of a text, where these are sent
 abbrev pub configured_in : Bool → List ℕ → Parts → Parts
@@ -54,6 +60,7 @@ AnswersStandard is_configured (Err why) text = TextFaults why text
 pub record IsNormalized (text : List ℕ) (read : FieldText) (s : Normalized) : Type 0 where
   pub reads : ReadsFieldText text read
   pub description : s.description ≡ normalized_description read.loose
+  pub wide : s.wide ≡ wide_names read.loose.signals
   pub elsewhere : s.placed_elsewhere ≡ placed_elsewhere read.loose
   pub warnings : s.warnings.items ≡ warnings read
   pub order : s.byte_order.items ≡ byte_order read.loose
@@ -96,7 +103,7 @@ ChecksField (Err _) s = ⊥
 abbrev pub AnswersChecked : Bool → Result Described Fault → Normalized → List ℕ → Type 0
 AnswersChecked is_configured (Ok d) s left =
     (c : Parts) × ChecksField (Ok c) s × (d.cluster ≡ configured_in is_configured left c)
-    × (d.coded ≡ coded_in left d.cluster)
+    × (d.coded ≡ field_coded_in s.wide left d.cluster)
 AnswersChecked is_configured (Err why) s left = ChecksField (Err why) s
 
 -- the cluster of what the text is settled to, in which nothing is wrong
@@ -106,7 +113,7 @@ pub record IsField (is_configured : Bool) (text : List ℕ) (d : Described) : Ty
   pub settled : IsNormalized text read s
   pub free : IsFieldFree s
   pub said : d.cluster ≡ configured_in is_configured (blanked_text text read) (parts_of s.description)
-  pub coded : d.coded ≡ coded_in (blanked_text text read) d.cluster
+  pub coded : d.coded ≡ field_coded_in s.wide (blanked_text text read) d.cluster
 
 abbrev pub FieldFaults : Fault → List ℕ → Type 0
 FieldFaults (Ldf f) text = IsFieldFault text f

@@ -12,7 +12,7 @@ use crate::fault::Fault;
 use crate::settings::{LONGEST_LDF, description_of, fault_of, said_by};
 use lin_cluster::{Cluster, Finding};
 use lin_field::{Checked, FieldFault, Normalized, Remark, check_field, read_field, settle};
-use lin_sections::{configure, read_codings};
+use lin_sections::{configure, read_codings, read_field_codings};
 use lin_values::{Coded, Codings, coded_by};
 use std::alloc::Global;
 
@@ -122,7 +122,7 @@ fn of_settled(
 ) -> Result<Described, Fault>
     ensures { AnswersChecked is_configured result settled.now left.now }
 {
-    let codings = read_codings(alloc, left)?;
+    let codings = read_field_codings(alloc, left, settled.wide.as_slice())?;
     let cluster = checked(alloc, settled)?;
     let cluster = configured(alloc, cluster, left, is_configured)?;
     with_codings(alloc, cluster, codings)

@@ -1,25 +1,24 @@
 //! What the values of signals mean, as lines.
 
-ghost use Rattle.std.specs.Prelude.{◌≡◌, ◌<◌, flat_map, length, option_map};
+ghost use Rattle.std.specs.Prelude.{◌≡◌, ◌<◌, ◌≤◌, flat_map, length, option_map, true};
 ghost use Rattle.lin_parts.specs.Cluster.{signal_of};
-ghost use Rattle.lin_parts.specs.Rules.{is_array};
 ghost use Rattle.lin_log.specs.Words.{spaced_word};
 ghost use Rattle.lin_text.specs.Written.{Grows, WritesText};
-ghost use Rattle.lin_export.specs.ListedSignals.{coding_line, encoding_word, initial_line, item_line};
-ghost use Rattle.lin_export.specs.ListedSignals.{item_lines, meaning_words, range_line, signal_lines, unit_words};
+ghost use Rattle.lin_export.specs.ListedSignals.{coding_line, encoding_word, has_numbers, initial_line, item_line};
+ghost use Rattle.lin_export.specs.ListedSignals.{item_lines, meaning_words, range_line, raw_word, signal_lines, unit_words};
 ghost use Rattle.lin_export.specs.ListedSignals.{signal_list, text_or_number, value_line};
 ghost use Rattle.lin_log.specs.Shown.{word_shown};
 ghost use Rattle.lin_values.specs.Coded.{encoding_of, range_of};
 ghost use Rattle.lin_values.specs.Meaning.{meant};
 ghost use Rattle.lin_values.specs.Shown.{decimal_shown};
-ghost use Rattle.lin_values.specs.Value.{decimal_of};
+ghost use Rattle.lin_values.specs.Value.{decimal_of, fits};
 
 use lin_frame::Value;
 use lin_log::{Word, put_head, put_line, put_spaced, value_word};
 use lin_parts::Cluster;
 use lin_text::{TextBuffer, TextWriter, WriteFailed};
 use lin_values::{
-    Coded, Item, Meaning, PhysicalValue, PlacedItem, Range, put_decimal, put_meaning,
+    Coded, Item, Meaning, PhysicalValue, PlacedItem, Range, fits, put_decimal, put_meaning,
 };
 use std::io::Write;
 
@@ -75,6 +74,8 @@ fn put_unit<W: Write>(out: &mut TextWriter<'_, W>, unit: &[u8])
 
 /// The line of a range: its raw ends, the decimals that they mean, and their unit.
 fn put_range<W: Write>(out: &mut TextWriter<'_, W>, signal: u16, range: &Range<'_>)
+    requires order { range.now.min ≤ range.now.max }
+    requires fits { fits range.now.max range.now.scale range.now.offset ≡ true }
     ensures { Grows W.contents out.old out.new (range_line signal (range_of range.now)) }
 {
     put_head(
@@ -82,8 +83,8 @@ fn put_range<W: Write>(out: &mut TextWriter<'_, W>, signal: u16, range: &Range<'
         b"range",
         &[
             Word::Number(u64::from(signal)),
-            Word::Number(u64::from(range.min)),
-            Word::Number(u64::from(range.max)),
+            Word::Number(range.min),
+            Word::Number(range.max),
         ],
     );
     put_physical(
@@ -99,18 +100,18 @@ fn put_range<W: Write>(out: &mut TextWriter<'_, W>, signal: u16, range: &Range<'
 }
 
 /// The text of a value; without one its number.
-fn text_or_number(value: u16, text: &[u8]) -> Word<'_>
+fn text_or_number(value: u64, text: &[u8]) -> Word<'_>
     ensures { word_shown result ≡ text_or_number value text.now }
 {
     if text.is_empty() {
-        Word::Number(u64::from(value))
+        Word::Number(value)
     } else {
         Word::Name(text)
     }
 }
 
 /// The line of a value with its text.
-fn put_value<W: Write>(out: &mut TextWriter<'_, W>, signal: u16, value: u16, text: &[u8])
+fn put_value<W: Write>(out: &mut TextWriter<'_, W>, signal: u16, value: u64, text: &[u8])
     ensures { Grows W.contents out.old out.new (value_line signal value text.now) }
 {
     put_line(
@@ -118,31 +119,38 @@ fn put_value<W: Write>(out: &mut TextWriter<'_, W>, signal: u16, value: u16, tex
         b"value",
         &[
             Word::Number(u64::from(signal)),
-            Word::Number(u64::from(value)),
+            Word::Number(value),
             text_or_number(value, text),
         ],
     );
 }
 
 /// The line of an item, if it says what some value of the signal means. Values and ranges say it of
-/// scalars alone, and a range has no value if its first one is above its last.
-fn put_item<W: Write>(out: &mut TextWriter<'_, W>, signal: u16, array: bool, item: &Item)
-    ensures { Grows W.contents out.old out.new (item_line array signal item.now) }
+/// numbers alone, which scalars and wide signals have. A range has no value if its first one is above its
+/// last, or if its values don't fit.
+fn put_item<W: Write>(out: &mut TextWriter<'_, W>, signal: u16, has_numbers: bool, item: &Item)
+    ensures { Grows W.contents out.old out.new (item_line has_numbers signal item.now) }
 {
     let number = Word::Number(u64::from(signal));
     match item {
         Item::Bcd => put_line(out, b"bcd", &[number]),
         Item::Ascii => put_line(out, b"ascii", &[number]),
         Item::Logical { value, text } => {
-            if !array {
+            if has_numbers {
                 put_value(out, signal, *value, text.as_slice());
             }
         }
-        Item::Physical { min, max, .. } => {
-            if array {
+        Item::Physical {
+            min,
+            max,
+            scale,
+            offset,
+            ..
+        } => {
+            if !has_numbers || *max < *min {
                 return;
             }
-            if *max < *min {
+            if !fits(*max, scale.decimal(), offset.decimal()) {
                 return;
             }
             if let Some(range) = item.as_range() {
@@ -155,14 +163,14 @@ fn put_item<W: Write>(out: &mut TextWriter<'_, W>, signal: u16, array: bool, ite
 fn put_all_items<W: Write>(
     out: &mut TextWriter<'_, W>,
     signal: u16,
-    array: bool,
+    has_numbers: bool,
     items: &[PlacedItem],
 )
     ensures { Grows W.contents out.old out.new
-        (flat_map (λ p. item_line array signal p.item) items.now) }
+        (flat_map (λ p. item_line has_numbers signal p.item) items.now) }
 {
     for one in items {
-        put_item(out, signal, array, &one.item);
+        put_item(out, signal, has_numbers, &one.item);
     }
 }
 
@@ -170,12 +178,11 @@ fn put_all_items<W: Write>(
 fn put_items<W: Write>(out: &mut TextWriter<'_, W>, cluster: &Cluster, coded: &Coded, signal: u16)
     requires { signal < length cluster.now.signals }
     ensures { Grows W.contents out.old out.new
-        (item_lines (is_array (signal_of cluster.now signal).initial) signal
-        (encoding_of coded.now signal)) }
+        (item_lines (has_numbers cluster.now coded.now signal) signal (encoding_of coded.now signal)) }
 {
-    let array = matches!(cluster.initial(signal), Value::Bytes(_));
+    let has_numbers = coded.number(signal, cluster.initial(signal)).is_some();
     if let Some(encoding) = coded.encoding_of(signal) {
-        put_all_items(out, signal, array, encoding.coding().items.as_slice());
+        put_all_items(out, signal, has_numbers, encoding.coding().items.as_slice());
     }
 }
 
@@ -190,7 +197,17 @@ fn put_text<W: Write>(out: &mut TextWriter<'_, W>, meaning: Option<Meaning<'_>>)
     }
 }
 
-/// The line of a signal's initial value: the raw value, and its text.
+/// The word of a signal's value: its number if it has one, or else its bytes.
+fn raw_word<'a>(coded: &Coded, signal: u16, value: &'a Value) -> Word<'a>
+    ensures { word_shown result ≡ raw_word coded.now signal value.now }
+{
+    match coded.number(signal, value) {
+        Some(number) => Word::Number(number),
+        None => value_word(value),
+    }
+}
+
+/// The line of a signal's initial value: its number or its bytes, and its text.
 fn put_initial<'a, W: Write>(
     out: &mut TextWriter<'_, W>,
     cluster: &'a Cluster,
@@ -204,7 +221,10 @@ fn put_initial<'a, W: Write>(
     put_head(
         out,
         b"initial",
-        &[Word::Number(u64::from(signal)), value_word(initial)],
+        &[
+            Word::Number(u64::from(signal)),
+            raw_word(coded, signal, initial),
+        ],
     );
     put_text(out, coded.meaning(signal, initial));
     out.put_byte(b'\n');

@@ -27,16 +27,13 @@ fn put_coefficient<W: Write>(out: &mut TextWriter<'_, W>, key: &str, coefficient
 }
 
 /// A value with its text.
-fn put_logical<W: Write>(out: &mut TextWriter<'_, W>, value: u16, text: &[u8])
+fn put_logical<W: Write>(out: &mut TextWriter<'_, W>, value: u64, text: &[u8])
     ensures { Grows W.contents out.old out.new (item_object (Logical value text.now)) }
 {
     put_first(out, "kind", b"logical");
     put_members(
         out,
-        &[
-            Member::Number("value", u64::from(value)),
-            Member::Shown("text", text),
-        ],
+        &[Member::Number("value", value), Member::Shown("text", text)],
     );
     out.put_byte(b'}');
 }
@@ -44,8 +41,8 @@ fn put_logical<W: Write>(out: &mut TextWriter<'_, W>, value: u16, text: &[u8])
 /// A range with its scale, offset and unit.
 fn put_physical<W: Write>(
     out: &mut TextWriter<'_, W>,
-    min: u16,
-    max: u16,
+    min: u64,
+    max: u64,
     scale: &Coefficient,
     offset: &Coefficient,
     unit: &[u8],
@@ -56,10 +53,7 @@ fn put_physical<W: Write>(
     put_first(out, "kind", b"physical");
     put_members(
         out,
-        &[
-            Member::Number("low", u64::from(min)),
-            Member::Number("high", u64::from(max)),
-        ],
+        &[Member::Number("low", min), Member::Number("high", max)],
     );
     put_coefficient(out, "scale", scale);
     put_coefficient(out, "offset", offset);

@@ -74,15 +74,15 @@ fn key_text<'a>(alloc: Global, text: &mut Vec<u8>, item: &Item) -> Result<FactTe
         Item::Logical { value, .. } => {
             text.clear();
             text.extend_from_slice(b"logical ")?;
-            put_number(text, u64::from(*value))?;
+            put_number(text, *value)?;
             FactText::copied(alloc, text.as_slice())
         }
         Item::Physical { min, max, .. } => {
             text.clear();
             text.extend_from_slice(b"physical ")?;
-            put_number(text, u64::from(*min))?;
+            put_number(text, *min)?;
             text.extend_from_slice(b"..")?;
-            put_number(text, u64::from(*max))?;
+            put_number(text, *max)?;
             FactText::copied(alloc, text.as_slice())
         }
         Item::Bcd => Ok(FactText::lent(b"bcd")),

@@ -17,16 +17,13 @@ use lin_values::{Coded, Coefficient, Item, PlacedItem, put_decimal};
 use std::io::Write;
 
 /// The line of a value with its text.
-fn put_value<W: Write>(out: &mut TextWriter<'_, W>, signal: u16, value: u16, text: &[u8])
+fn put_value<W: Write>(out: &mut TextWriter<'_, W>, signal: u16, value: u64, text: &[u8])
     ensures { Grows W.contents out.old out.new (logical_value_line signal value text.now) }
 {
     put_head(
         out,
         b"logical",
-        &[
-            Word::Number(u64::from(signal)),
-            Word::Number(u64::from(value)),
-        ],
+        &[Word::Number(u64::from(signal)), Word::Number(value)],
     );
     out.put_byte(b' ');
     put_field(out, text);
@@ -60,8 +57,8 @@ fn put_physical<W: Write>(out: &mut TextWriter<'_, W>, signal: u16, item: &Item)
             b"physical",
             &[
                 Word::Number(u64::from(signal)),
-                Word::Number(u64::from(range.min)),
-                Word::Number(u64::from(range.max)),
+                Word::Number(range.min),
+                Word::Number(range.max),
             ],
         );
         put_coefficient(out, range.scale);
