@@ -92,7 +92,9 @@ first-fails true b c e = absurd (let no : true ≡ false = e in cc)
 first-fails false b c e = refl
 
 no-bytes : (k : CodedData) (s : ℕ) (t : Value → Bool) (bs : List ℕ) → (signal_at k s).is_array ≡ false → tested k s t (Bytes bs) ≡ false
-no-bytes k s t bs e = first-fails (signal_at k s).is_array (length bs == (signal_at k s).bits / 8 && (nat_le (length bs) 8 && list_all (λ b. nat_lt b 256) bs)) (t (Bytes bs)) e
+no-bytes k s t bs e =
+    let bounded : Bool = length bs == (signal_at k s).bits / 8 && (nat_le (length bs) 8 && list_all (λ b. nat_lt b 256) bs) in
+    first-fails (signal_at k s).is_array (not (signal_at k s).is_wide && bounded) (t (Bytes bs)) e
 
 -- ---- the coded value
 
@@ -138,17 +140,13 @@ text-values r k s text same =
           ∙ append-nil (filter (tested k s t) (map Scalar (scalars k s)))
     ] refl
 
-last-fails : (a b : Bool) → b ≡ false → a && b ≡ false
-last-fails true b e = e
-last-fails false b e = refl
-
 pub within-values : (r : RawsData) (k : CodedData) (s : ℕ) (low high : ℤ) (unit : List ℕ) → ((v : Value) → has r v ≡ raws_within k s low high unit v)
     → values_in r ≡ values_within k s low high unit
 within-values r k s low high unit same =
     let t : Value → Bool = λ v. option_map_or (is_decimal_within low high unit) (meaning k s v) false in
     ap (λ xs. xs ++ filter is_array (option_to_list r.coded)) (filter_agree (has r) (tested k s t) same all_scalars ∙ scalars-tested k s t)
     ∙ ap (λ xs. filter (tested k s t) (map Scalar (scalars k s)) ++ xs)
-    (arrays-none r.spans r.coded (λ bs. same (Bytes bs) ∙ last-fails (is_value k s (Bytes bs)) (t (Bytes bs)) (array-fails (is_decimal_within low high unit) (decimal-numeric low high unit) k s bs)))
+    (arrays-none r.spans r.coded (λ bs. same (Bytes bs) ∙ array-fails (is_decimal_within low high unit) (decimal-numeric low high unit) k s bs))
     ∙ append-nil (filter (tested k s t) (map Scalar (scalars k s)))
 
 small-value : (k : CodedData) (s : ℕ) (t : Value → Bool) (n : ℕ) → tested k s t (Scalar n) ≡ true → n < 65536

@@ -5,7 +5,8 @@ use Rattle.lin_parts.specs.declared.parts.Parts.{Parts}
 use Rattle.lin_core.specs.declared.port.PortId.{PortId}
 use Rattle.lin_core.specs.declared.port.PortId.TheVariants.{Bus, Host, Node}
 use Rattle.lin_log.specs.Language.{named_language}
-use Rattle.lin_log.specs.Words.{port_word, spaced_word}
+use Rattle.lin_log.specs.Words.{spaced_word, word_text}
+use Rattle.lin_log.specs.Words.Word.{Port}
 use Rattle.lin_bench.specs.RulesInForce.{part_gap, part_word, parts_text, port_text}
 use Rattle.lin_bench.specs.declared.rules.Part.{Part}
 
@@ -33,7 +34,7 @@ pub parts-next : (ps : List Part) (i : ℕ) (d : Part) → i < length ps
 parts-next ps i d h = ap (parts_text None) (take_more ps i d h) ∙ parts-behind None (take i ps) (get_or ps i d)
 
 -- a port other than the bus
-pub port-spaced : (c : Parts) (by : PortId) → (by ≡ Bus → ⊥) → spaced_word (port_word (named_language c) by) ≡ port_text c by
+pub port-spaced : (c : Parts) (by : PortId) → (by ≡ Bus → ⊥) → spaced_word (word_text (named_language c) (Port by)) ≡ port_text c by
 port-spaced c Bus h = absurd (h refl)
 port-spaced c (Host n) h = refl
 port-spaced c (Node n) h = refl

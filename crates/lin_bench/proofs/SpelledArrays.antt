@@ -1,5 +1,5 @@
 -- The array that has a text is the one that the text spells.
-use Rattle.std.proofs.Common.{◌≡◌, ◌≢◌, ◌≤◌, ◌-◌, ◌+◌, ℕ, zero, suc, Bool, true, false, cond, ◌&&◌, List, [], ◌∷◌, ◌++◌, length, take, drop, refl, sym, ap, subst, ◌∙◌, arith}
+use Rattle.std.proofs.Common.{◌≡◌, ◌≢◌, ◌≤◌, ◌-◌, ◌+◌, ℕ, zero, suc, Bool, true, false, cond, not, ◌&&◌, List, [], ◌∷◌, ◌++◌, length, take, drop, refl, sym, ap, subst, ◌∙◌, arith}
 use Rattle.std.specs.Prelude.{◌==◌, ◌/◌, Option, Some, None, nat_le, nat_lt, replicate, slice_index}
 use Rattle.std.specs.Char.{is_ascii_digit}
 use Rattle.std.specs.List.{list_all}
@@ -91,6 +91,10 @@ second-passes : (a b : Bool) → a && b ≡ true → b ≡ true
 second-passes true b e = e
 second-passes false b e = absurd (cc)
 
+rest-fails : (a b : Bool) → a ≡ true → a && b ≡ false → b ≡ false
+rest-fails true b e f = f
+rest-fails false b e f = absurd (let no : false ≡ true = e in cc)
+
 by-coding : (k : CodedData) (s : ℕ) (text : List ℕ) (v : Value) (m : Meant) → names text (number_and_unit text) m ≡ false → value_has_text k s text v m ≡ true
     → is_coded m && value_has_text k s text v m ≡ true
 by-coding k s text v (Named t) fails holds = absurd (let one : bytes_eq text t ≡ true = first-passes (bytes_eq text t) true holds in cc)
@@ -108,15 +112,17 @@ array-coded : (k : CodedData) (s : ℕ) (text bs : List ℕ) → raws_of k s tex
 array-coded k s text bs e =
     let is : Bool = is_value k s (Bytes bs) in
     let has : Bool = option_map_or (value_has_text k s text (Bytes bs)) (meaning k s (Bytes bs)) false in
+    let named : Bool = option_map_or (names text (number_and_unit text)) (meaning k s (Bytes bs)) false in
+    let unnamed : named ≡ false = rest-fails is named (first-passes is has e) (array-fails (names text (number_and_unit text)) (λ t. refl, λ t. refl) k s bs) in
     both-pass is (option_map_or (λ m. is_coded m && value_has_text k s text (Bytes bs) m) (meaning k s (Bytes bs)) false) (first-passes is has e)
-    (by-codings k s text (Bytes bs) (meaning k s (Bytes bs)) (array-fails (names text (number_and_unit text)) (λ t. refl, λ t. refl) k s bs) (second-passes is has e))
+    (by-codings k s text (Bytes bs) (meaning k s (Bytes bs)) unnamed (second-passes is has e))
 
 pub one-array : (k : CodedData) (s : ℕ) (text bs : List ℕ) → raws_of k s text (Bytes bs) ≡ true → Bytes bs ≡ array_spelled (signal_at k s).bits text
 one-array k s text bs e =
     let bits : ℕ = (signal_at k s).bits in
     let coded : coded_raws k s text (Bytes bs) ≡ true = array-coded k s text bs e in
     let own : Bool = (signal_at k s).is_array in
-    let rest : Bool = length bs == bits / 8 && (nat_le (length bs) 8 && list_all (λ b. nat_lt b 256) bs) in
+    let rest : Bool = not (signal_at k s).is_wide && (length bs == bits / 8 && (nat_le (length bs) 8 && list_all (λ b. nat_lt b 256) bs)) in
     let array : own ≡ true = first-passes own rest (first-passes (own && rest) (option_map_or (value_has_text k s text (Bytes bs)) (meaning k s (Bytes bs)) false) e) in
     let same : Some (array_spelled bits text) ≡ Some (Bytes bs) = spelled k s text (Some (array_spelled bits text)) (subst (λ a. IsSpelled bits a text (Some (array_spelled bits text))) (sym array) (is-spelled bits text)) (Bytes bs) coded in
     cc

@@ -18,11 +18,11 @@ use Rattle.lin_bench.specs.declared.reason.Reason.{Reason}
 use Rattle.lin_bench.specs.declared.reason.Reason.TheVariants.{NoData, NoEntry, NoRefusal}
 use Rattle.lin_bench.specs.declared.reason.Reason.TheVariants.{ExpectForm, UnknownExpectation, UntilForm, UnknownUntil}
 use Rattle.lin_bench.specs.declared.reason.Reason.TheVariants.{WhileForm, UnknownWhile}
-use Rattle.lin_bench.specs.declared.expected.Carried.{Carried}
-use Rattle.lin_bench.specs.declared.expected.Carried.TheVariants.{Signals, Request as RequestFrame, Response}
+use Rattle.lin_log.specs.declared.line_words.Carried.{Carried}
+use Rattle.lin_log.specs.declared.line_words.Carried.TheVariants.{Signals, Request as RequestFrame, Response}
 use Rattle.lin_bench.specs.declared.expected.Since.{Since}
 use Rattle.lin_bench.specs.declared.expected.Since.TheVariants.{Request, Last}
-use Rattle.lin_bench.specs.declared.rules.Pattern.{Pattern}
+use Rattle.lin_log.specs.declared.pattern.Pattern.{Pattern}
 use Rattle.lin_bench.specs.declared.expected.Expected.{Expected}
 use Rattle.lin_bench.specs.declared.expected.Expected.TheVariants as expected
 

@@ -8,9 +8,9 @@ use Rattle.std.specs.Str.{bytes_eq}
 use Rattle.lin_frame.specs.declared.value.Value.{Value}
 use Rattle.lin_frame.specs.declared.value.Value.TheVariants.{Scalar}
 use Rattle.lin_parts.specs.declared.parts.Parts.{Parts}
-use Rattle.lin_parts.specs.Cluster.{frame_name, nad, nodes, signal_of}
+use Rattle.lin_parts.specs.Cluster.{nad, nodes, signal_of}
 use Rattle.lin_core.specs.History.{is_in}
-use Rattle.lin_log.specs.Language.{Called, named_language, number_named}
+use Rattle.lin_log.specs.Language.{named_language, number_named}
 use Rattle.lin_log.specs.Said.{is_number}
 use Rattle.lin_log.specs.Said as log
 use Rattle.lin_log.specs.declared.reason.Reason.{Reason as StepReason}
@@ -18,8 +18,8 @@ use Rattle.lin_log.specs.declared.reason.Reason.TheVariants.{NoNode, NoSignal, N
 use Rattle.lin_bench.specs.declared.reason.Reason.{Reason}
 use Rattle.lin_bench.specs.declared.reason.Reason.TheVariants.{Step, NoFrame, NoRange, TooSmall}
 use Rattle.lin_bench.specs.declared.reason.Reason.TheVariants.{NoMessages, NoResponder, NotItsSignal}
-use Rattle.lin_bench.specs.declared.expected.Carried.{Carried}
-use Rattle.lin_bench.specs.declared.expected.Carried.TheVariants.{Signals, Request, Response}
+use Rattle.lin_log.specs.declared.line_words.Carried.{Carried}
+use Rattle.lin_log.specs.declared.line_words.Carried.TheVariants.{Signals, Request, Response}
 
 -- what is said in turn: the first bad part says why
 infixl 10 ◌>>=◌
@@ -55,9 +55,6 @@ abbrev pub number_up_to : ℕ → List ℕ → Result ℕ Reason
 number_up_to most f = of_step (log.number_field most f)
 
 -- the unconditional frames of a cluster, and a frame by its name: theirs go before those of messages
-abbrev pub frames_called : Parts → Called
-frames_called c = record { count = length c.frames; name = frame_name c }
-
 abbrev pub message_frame : List ℕ → Option Carried
 message_frame name =
     if bytes_eq name (codes "MasterReq") then Some Request
@@ -75,7 +72,7 @@ frame_numbered c n = if nat_lt n (length c.frames) then Some (Signals n) else No
 abbrev pub frame_field : Parts → List ℕ → Result Carried Reason
 frame_field c f =
     if is_number f then number_up_to 65535 f >>= (λ n. or_bad (frame_numbered c n) (NoFrame f))
-    else or_bad (frame_called f (number_named (frames_called c) f)) (NoFrame f)
+    else or_bad (frame_called f (number_named (named_language c).frames f)) (NoFrame f)
 
 -- 1 to 1,000,000
 abbrev pub count_field : List ℕ → Result ℕ Reason

@@ -14,7 +14,7 @@ use Rattle.lin_bench.specs.declared.rules.RuleAnswer.{RuleAnswer}
 use Rattle.lin_bench.specs.declared.rules.Noted.{Noted}
 use Rattle.lin_bench.specs.declared.rules.Part.{Part}
 use Rattle.lin_bench.specs.declared.rules.Part.TheVariants.{Byte, Copied}
-use Rattle.lin_bench.specs.declared.rules.Pattern.{Pattern}
+use Rattle.lin_log.specs.declared.pattern.Pattern.{Pattern}
 use Rattle.lin_bench.specs.declared.rules.Rule.{Rule}
 use Rattle.lin_bench.specs.declared.rules.Rule.TheVariants as rule
 use Rattle.lin_bench.specs.declared.rules.Rules.{Rules}

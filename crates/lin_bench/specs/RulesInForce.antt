@@ -5,9 +5,9 @@ use Rattle.hex.specs.Hex.{encode_upper}
 use Rattle.lin_parts.specs.declared.parts.Parts.{Parts}
 use Rattle.lin_core.specs.declared.port.PortId.{PortId}
 use Rattle.lin_core.specs.declared.port.PortId.TheVariants.{Bus}
-use Rattle.lin_log.specs.Language.{named_language, word_of}
-use Rattle.lin_log.specs.Words.{port_word, spaced_word, step_words}
-use Rattle.lin_bench.specs.LineWords.{pattern_word}
+use Rattle.lin_log.specs.Language.{named_language}
+use Rattle.lin_log.specs.Words.{pattern_word, spaced_word, step_words, word_text}
+use Rattle.lin_log.specs.Words.Word.{Node, Port}
 use Rattle.lin_bench.specs.declared.rules.Every.{Every}
 use Rattle.lin_bench.specs.declared.rules.Part.{Part}
 use Rattle.lin_bench.specs.declared.rules.Part.TheVariants.{Byte, Copied}
@@ -52,18 +52,18 @@ answers_text (a ∷ more) = codes " answer" ++ (answer_text a ++ flat_map furthe
 abbrev pub when_line : Parts → When → List ℕ
 when_line c w =
     codes "when"
-    ++ (spaced_word (word_of (named_language c).nodes w.node)
+    ++ (spaced_word (word_text (named_language c) (Node w.node))
     ++ (spaced_word (pattern_word w.pattern) ++ answers_text w.answers))
 
 -- ---- `every`: the bus makes the step if no port stands before it
 abbrev pub port_text : Parts → PortId → List ℕ
 port_text c Bus = []
-port_text c port = spaced_word (port_word (named_language c) port)
+port_text c port = spaced_word (word_text (named_language c) (Port port))
 
 abbrev pub every_line : Parts → Every → List ℕ
 every_line c e =
     time_text (codes "every ") e.period_ms
-    ++ (port_text c e.by ++ flat_map spaced_word (step_words (named_language c) e.step))
+    ++ (port_text c e.by ++ flat_map spaced_word (map (word_text (named_language c)) (step_words e.step)))
 
 -- ---- all of them
 -- the line of a rule, as code has it

@@ -5,15 +5,14 @@ use Rattle.std.specs.Fmt.{decimal}
 use Rattle.std.specs.Option.{option_map_or}
 use Rattle.lin_parts.specs.declared.parts.Parts.{Parts}
 use Rattle.lin_core.specs.Tables.{cause_word, look_word, refusal_word}
-use Rattle.lin_log.specs.Language.{named_language, nameless, plain, word_of}
-use Rattle.lin_log.specs.Words.{hex_word, spaced_word, value_word}
+use Rattle.lin_log.specs.Language.{named_language, plain}
+use Rattle.lin_log.specs.Words.{Word, spaced_word, word_text}
+use Rattle.lin_log.specs.Words.Word.{Node, Signal, Table, Frame, Number, Range}
+use Rattle.lin_log.specs.Words.Word.{Hex, Matching, Raw, Fixed, Said, Fields}
+use Rattle.lin_log.specs.Words.Word.{Listed, Mark}
 use Rattle.lin_log.specs.declared.reason.Reason.{Reason as StepReason}
 use Rattle.lin_log.specs.declared.reason.Reason.TheVariants as step
-use Rattle.lin_bench.specs.Fields.{frames_called}
-use Rattle.lin_bench.specs.LineWords.{Word, words_text}
-use Rattle.lin_bench.specs.LineWords.Word.{Node, Signal, Table, Frame, Number, Range}
-use Rattle.lin_bench.specs.LineWords.Word.{Hex, Matching, Raw, Fixed, Said, Fields}
-use Rattle.lin_bench.specs.LineWords.Word.{Listed, Mark}
+use Rattle.lin_bench.specs.LineWords.{words_text}
 use Rattle.lin_bench.specs.declared.expected.Since.{Since}
 use Rattle.lin_bench.specs.declared.expected.Since.TheVariants.{Request, Last}
 use Rattle.lin_bench.specs.declared.reason.Hint.{Hint}
@@ -143,23 +142,16 @@ reason_words (reason.SeveralValues count text signal) =
     ∷ Said text ∷ []
 
 abbrev pub reason_text : Reason → List ℕ
-reason_text why = words_text plain nameless (reason_words why)
+reason_text why = words_text plain (reason_words why)
 
 -- the line of a bad line
 abbrev pub bad_line_text : ℕ → Reason → List ℕ
 bad_line_text n why =
     codes "script " ++ (decimal n ++ (codes " bad line: " ++ (reason_text why ++ 10 ∷ [])))
 
--- the name of a node or a table, or the number where it is none's
-abbrev pub node_word : Parts → ℕ → List ℕ
-node_word c n = word_of (named_language c).nodes n
-
-abbrev pub table_word : Parts → ℕ → List ℕ
-table_word c t = word_of (named_language c).tables t
-
 -- words with the names of a cluster
 abbrev pub cluster_text : Parts → List Word → List ℕ
-cluster_text c ws = words_text (named_language c) (frames_called c) ws
+cluster_text c ws = words_text (named_language c) ws
 
 -- the unit of a time, and from which earlier message it counts
 abbrev pub since_word : Since → List ℕ
@@ -265,7 +257,7 @@ verdict_text what is = codes " expected " ++ (what ++ (codes ": " ++ (is ++ 10 �
 abbrev pub what_text : Parts → Judged → List ℕ
 what_text c (judged.Met what) = expected_text c what
 what_text c (judged.Unmet what got) = expected_text c what
-what_text c (judged.NotDue node) = codes "leave " ++ node_word c node
+what_text c (judged.NotDue node) = codes "leave " ++ word_text (named_language c) (Node node)
 what_text c judged.NothingExpected = codes "expectations"
 
 -- what is so in its place; none where it is so

@@ -32,8 +32,8 @@ use Rattle.lin_log.specs.LastFinish.{before_last_finish}
 use Rattle.lin_bench.specs.Meant.{is_among_values}
 use Rattle.lin_bench.specs.Rules.{fits}
 use Rattle.lin_bench.specs.Slots.{pending}
-use Rattle.lin_bench.specs.declared.expected.Carried.{Carried}
-use Rattle.lin_bench.specs.declared.expected.Carried.TheVariants.{Signals, Request as RequestFrame, Response}
+use Rattle.lin_log.specs.declared.line_words.Carried.{Carried}
+use Rattle.lin_log.specs.declared.line_words.Carried.TheVariants.{Signals, Request as RequestFrame, Response}
 use Rattle.lin_bench.specs.declared.expected.Expected.{Expected}
 use Rattle.lin_bench.specs.declared.expected.Expected.TheVariants as expected
 use Rattle.lin_bench.specs.declared.expected.Since.{Since}
@@ -42,7 +42,7 @@ use Rattle.lin_bench.specs.declared.got.Got.{Got}
 use Rattle.lin_bench.specs.declared.got.Got.TheVariants as got
 use Rattle.lin_bench.specs.declared.got.Pending.{Pending}
 use Rattle.lin_bench.specs.declared.rules.Noted.{Noted}
-use Rattle.lin_bench.specs.declared.rules.Pattern.{Pattern}
+use Rattle.lin_log.specs.declared.pattern.Pattern.{Pattern}
 use Rattle.lin_bench.specs.declared.taken.EventKind.{EventKind}
 use Rattle.lin_bench.specs.declared.taken.EventKind.TheVariants.{Messages, Fates, Ends, Begins}
 

@@ -245,19 +245,21 @@ with_hash k s w l = if names_hash k s then without_comment w l else w
 abbrev pub line_with_signal : Parts → CodedData → WordedLine → Option ScriptLine → ℕ → Result (Option ScriptLine) Reason
 line_with_signal c k w at_zero s = with_words c k w at_zero s w.words
 
--- values of wide signals aren't said in words
-abbrev pub line_if_narrow : Parts → CodedData → WordedLine → List ℕ → Option ScriptLine → ℕ
-    → Result (Option ScriptLine) Reason
-line_if_narrow c k w l at_zero s =
-    if (signal_at k s).is_wide then Err (WideSignal w.signal)
-    else line_with_signal c k (with_hash k s w l) at_zero s
+-- the signal that a field names; values of wide signals aren't said in words
+abbrev pub narrow_signal : CodedData → List ℕ → ℕ → Result ℕ Reason
+narrow_signal k field s = if (signal_at k s).is_wide then Err (WideSignal field) else Ok s
+
+abbrev pub worded_signal : Parts → CodedData → List ℕ → Result ℕ Reason
+worded_signal c k field = do
+  s ← signal_field c field
+  narrow_signal k field s
 
 -- all fields before the words are judged as those of a line with a raw value are, and then the words
 unfoldable pub worded_line : Parts → CodedData → WordedLine → List ℕ → Result (Option ScriptLine) Reason
 worded_line c k w l = do
   at_zero ← read_line c (in_numbers w.before w.signal (Scalar 0))
-  s ← signal_field c w.signal
-  line_if_narrow c k w l at_zero s
+  s ← worded_signal c k w.signal
+  line_with_signal c k (with_hash k s w l) at_zero s
 
 -- ---- lines without words: why one is bad in which `=` is missing
 

@@ -11,8 +11,9 @@ ghost use Rattle.lin_bench.specs.Rules.{notes_for, part_byte, rule_for, same_byt
 ghost use Rattle.lin_bench.specs.Rules.{data_by, request_byte, request_of, service_answer};
 ghost use Rattle.lin_bench.specs.Rules.{service_data, service_notes, whens_with};
 
-use crate::rules::{Noted, Part, Pattern, RuleAnswer, When};
+use crate::rules::{Noted, Part, RuleAnswer, When};
 use lin_core::{Event, Payload};
+use lin_log::Pattern;
 use lin_parts::{Cluster, Identity};
 use lin_text::Many;
 use std::alloc::{AllocError, Global};

@@ -10,11 +10,10 @@ ghost use Rattle.lin_bench.specs.Carried.{KeepsOpenSlot, is_open_step, shape, sh
 ghost use Rattle.lin_bench.specs.Verdicts.{carried_by_slot, last_carried};
 ghost use Rattle.lin_core.specs.Signals.{carried_by};
 
-use crate::expected::Carried;
 use crate::replies::is_done;
 use crate::taken::events_of;
 use lin_core::{Event, Log, LogEntry, Step, frame_under};
-use lin_log::last_finish;
+use lin_log::{Carried, last_finish};
 use lin_parts::{Cluster, Entry};
 use std::alloc::{AllocError, Global};
 

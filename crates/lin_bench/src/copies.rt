@@ -2,8 +2,9 @@
 
 ghost use Rattle.std.specs.Prelude.{◌≡◌, IfOk};
 
-use crate::rules::{Every, Noted, Pattern, Repeated, RuleAnswer, Rules, When};
+use crate::rules::{Every, Noted, Repeated, RuleAnswer, Rules, When};
 use lin_core::Payload;
+use lin_log::Pattern;
 use lin_text::Many;
 use std::alloc::{AllocError, Global};
 

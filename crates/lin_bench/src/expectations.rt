@@ -14,7 +14,7 @@ ghost use Rattle.lin_bench.specs.declared.fault.LineFault.{LineFault};
 ghost use Rattle.lin_bench.specs.declared.reason.Reason.{Reason};
 
 use crate::answers::has_length;
-use crate::expected::{Carried, Expected, Since};
+use crate::expected::{Expected, Since};
 use crate::fault::LineFault;
 use crate::fields::{
     count_field, fields, frame_field, host_field, number_field, pair_fields, present_node,
@@ -22,9 +22,8 @@ use crate::fields::{
 };
 use crate::reason::Reason;
 use crate::rule_lines::pattern;
-use crate::rules::Pattern;
 use lin_core::{Refusal, named, numbered};
-use lin_log::{copied, first_field, is_number, is_over, number};
+use lin_log::{Carried, Pattern, copied, first_field, is_number, is_over, number};
 use lin_parts::Cluster;
 use lin_text::Text;
 use std::alloc::{AllocError, Global};

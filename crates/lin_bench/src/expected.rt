@@ -1,21 +1,10 @@
 //! What is expected.
 
 use crate::meant::MeantValues;
-use crate::rules::Pattern;
 use lin_core::{Cause, Look, Refusal};
 use lin_frame::Value;
+use lin_log::{Carried, Pattern};
 use lin_text::Text;
-
-/// A frame that slots carry.
-#[derive(Clone, Copy, Debug)]
-pub enum Carried {
-    /// The unconditional frame with this number.
-    Signals(u16),
-    /// A frame of a message from the commander (ISO 17987-2, master request frame).
-    Request,
-    /// A frame of a message to it (ISO 17987-2, slave response frame).
-    Response,
-}
 
 /// The earlier message from which the time of a message counts. If there is none, it counts from 0.
 #[derive(Clone, Copy, Debug)]

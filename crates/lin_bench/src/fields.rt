@@ -5,8 +5,8 @@ ghost use Rattle.std.specs.Str.{bytes_eq};
 ghost use Rattle.lin_log.specs.Said.{fields as said_fields};
 ghost use Rattle.lin_bench.specs.Fields.{bytes_fields, count_field, line_fields, node_field, number_up_to};
 ghost use Rattle.lin_bench.specs.Fields.{after_dots, frame_called, frame_field, frame_numbered};
-ghost use Rattle.lin_bench.specs.Fields.{frames_called, has_commander, lacks_end, message_frame};
-ghost use Rattle.lin_log.specs.Language.{number_named};
+ghost use Rattle.lin_bench.specs.Fields.{has_commander, lacks_end, message_frame};
+ghost use Rattle.lin_log.specs.Language.{named_language, number_named};
 ghost use Rattle.lin_parts.specs.Cluster.{nodes};
 ghost use Rattle.lin_bench.specs.Fields.{or_bad, range_ends, range_field, rows_and_time};
 ghost use Rattle.lin_bench.specs.Fields.{host_field, pair_fields, present_node, present_signal};
@@ -16,12 +16,11 @@ ghost use Rattle.lin_bench.specs.Read.{Gives};
 ghost use Rattle.lin_bench.specs.declared.reason.Reason.{Reason};
 
 use crate::carried::has;
-use crate::expected::Carried;
 use crate::fault::LineFault;
 use crate::reason::Reason;
 use lin_core::Payload;
 use lin_frame::Value;
-use lin_log::{Naming, Reason as StepReason, first_field, is_number};
+use lin_log::{Carried, Naming, Reason as StepReason, first_field, is_number};
 use lin_parts::Cluster;
 use lin_text::{Many, Text};
 use std::alloc::{AllocError, Global};
@@ -236,7 +235,7 @@ pub(crate) fn signal_fields(
 
 /// The unconditional frame with a name.
 fn frame_named(cluster: &Cluster, name: &[u8]) -> Option<u16>
-    ensures { result ≡ number_named (frames_called cluster.now) name.now }
+    ensures { result ≡ number_named (named_language cluster.now).frames name.now }
 {
     cluster.sound();
     (0..cluster.frames() as u16).find(|frame| cluster.frame_name(*frame) == name)
@@ -257,7 +256,7 @@ fn message_frame(name: &[u8]) -> Option<Carried>
 
 /// The frame with a name.
 fn frame_called(cluster: &Cluster, name: &[u8]) -> Option<Carried>
-    ensures { result ≡ frame_called name.now (number_named (frames_called cluster.now) name.now) }
+    ensures { result ≡ frame_called name.now (number_named (named_language cluster.now).frames name.now) }
 {
     match frame_named(cluster, name) {
         Some(frame) => Some(Carried::Signals(frame)),

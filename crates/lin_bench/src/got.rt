@@ -3,9 +3,10 @@
 ghost use Rattle.std.specs.Prelude.{◌≡◌};
 ghost use Rattle.lin_bench.specs.Played.{is_unmet, some_unmet};
 
-use crate::expected::{Carried, Expected};
+use crate::expected::Expected;
 use lin_core::{Cause, Look, Payload, Refusal};
 use lin_frame::Value;
+use lin_log::Carried;
 use lin_text::{Many, Text};
 
 /// What keeps a cluster from being idle.

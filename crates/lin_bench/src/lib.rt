@@ -35,7 +35,6 @@ mod got_meanings;
 mod hints;
 mod law;
 mod line;
-mod line_words;
 mod lines;
 mod losses;
 mod marks;
@@ -55,10 +54,11 @@ mod taken;
 mod texts;
 mod unmarked;
 mod verdicts;
+mod word_list;
 mod words;
 
 pub use bench::Bench;
-pub use expected::{Carried, Expected, Since};
+pub use expected::{Expected, Since};
 pub use fault::{LineFault, MakeFault, PlayFault, ReadFault};
 pub use faults::{FaultKind, SlotFault};
 pub use fields::{present_node, present_signal};
@@ -66,18 +66,19 @@ pub use got::{Got, Judged, Judgement, Pending, Verdict, is_unmet, some_unmet};
 pub use got_meanings::{told_meaning, told_meanings};
 pub use law::{faults_change_their_slots_alone, plain_scripts_say_the_same, rules_alone_add_steps};
 pub use lin_core::Look;
+pub use lin_log::{Carried, Pattern};
 pub use line::{Disturbance, Extent, ScriptLine, Slots};
-pub use line_words::{LineNaming, Word, put_spaced, put_words};
 pub use lines::read_line;
 pub use marks::Mark;
 pub use meant::MeantValues;
 pub use playing::{LineEnd, Played, PlayedUnder, play, play_under};
 pub use reason::{Hint, Reason};
 pub use replies::first_refusal;
-pub use rules::{Every, Part, Pattern, Rule, RuleAnswer, When};
+pub use rules::{Every, Part, Rule, RuleAnswer, When};
 pub use script::{bad_lines, read, without_mark};
 pub use texts::{
-    put_found, put_judged, put_pending, put_reason, put_unmet, put_verdict, put_what,
+    put_found, put_judged, put_pending, put_reason, put_unmet, put_verdict, put_what, reason_line,
     write_bad_line, write_unmet,
 };
+pub use word_list::{WordList, put_all_after, put_word_list};
 pub use words::read_worded_line;

@@ -5,16 +5,9 @@ ghost use Rattle.lin_bench.specs.Rules.{no_rules};
 
 use crate::faults::ArmedFault;
 use lin_core::{Payload, PortId, Step};
+use lin_log::Pattern;
 use lin_text::Many;
 use std::alloc::Global;
-
-/// Which rows of bytes match: those of these bytes, of which `None` stands for any byte.
-#[derive(Drop)]
-pub struct Pattern {
-    pub bytes: Many<Option<u8>>,
-    /// Whether more bytes may follow.
-    pub more: bool,
-}
 
 /// A byte of an answer.
 #[derive(Clone, Copy, Debug)]

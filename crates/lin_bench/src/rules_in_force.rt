@@ -7,10 +7,9 @@ ghost use Rattle.lin_bench.specs.RulesInForce.{line_if, lines_of_rules, part_gap
 ghost use Rattle.lin_bench.specs.RulesInForce.{port_text, rule_line, time_text, timeouts_lines};
 ghost use Rattle.lin_bench.specs.RulesInForce.{wait_text, when_line};
 
-use crate::line_words::put_pattern;
 use crate::rules::{Every, Part, Repeated, RuleAnswer, Rules, When};
 use lin_core::PortId;
-use lin_log::{put_node, put_port, put_step};
+use lin_log::{put_node, put_pattern, put_port, put_step};
 use lin_parts::Cluster;
 use lin_text::{Text, TextBuffer, TextWriter};
 use std::alloc::{AllocError, Global};

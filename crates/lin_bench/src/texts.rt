@@ -5,8 +5,8 @@ ghost use Rattle.std.specs.Option.{option_map_or};
 ghost use Rattle.lin_log.specs.Words.{spaced_word};
 ghost use Rattle.lin_text.specs.Written.{Grows, WritesText};
 ghost use Rattle.lin_log.specs.Language.{named_language};
-ghost use Rattle.lin_bench.specs.Fields.{frames_called};
-ghost use Rattle.lin_bench.specs.LineWords.{as_word, spaced_words};
+ghost use Rattle.lin_log.specs.Shown.{as_word};
+ghost use Rattle.lin_bench.specs.LineWords.{spaced_words};
 ghost use Rattle.lin_bench.specs.Texts.{bad_line_text, bytes_word, entries_word, expected_text, expected_words, fields_word};
 ghost use Rattle.lin_bench.specs.Texts.{found_text, got_text, hint_words, judged_text};
 ghost use Rattle.lin_bench.specs.Texts.{or_marked, other_pending_words, pending_text};
@@ -16,10 +16,10 @@ ghost use Rattle.lin_bench.specs.Texts.{unmet_text, verdict_text, what_text};
 
 use crate::expected::{Expected, Since};
 use crate::got::{Got, Judged, Judgement, Pending, is_unmet};
-use crate::line_words::{Word, WordList, put_line, put_spaced, put_words};
 use crate::reason::{Hint, Reason};
+use crate::word_list::{WordList, put_all_after, put_joined, put_word_list};
 use lin_core::Listed;
-use lin_log::{NumberNaming, Reason as StepReason, put_node};
+use lin_log::{NumberNaming, Reason as StepReason, Word, put_node};
 use lin_parts::Cluster;
 use lin_text::{TextBuffer, TextWriter, WriteFailed};
 use std::io::Write;
@@ -140,7 +140,7 @@ fn or_marked(ranged: bool) -> &'static str
 }
 
 /// Why a line is bad.
-fn reason_line(reason: &Reason) -> WordList<'_>
+pub fn reason_line(reason: &Reason) -> WordList<'_>
     ensures { result ≡ reason_words reason.now }
 {
     match reason {
@@ -296,7 +296,7 @@ fn reason_line(reason: &Reason) -> WordList<'_>
 pub fn put_reason<W: Write>(out: &mut TextWriter<'_, W>, reason: &Reason)
     ensures { Grows W.contents out.old out.new (reason_text reason.now) }
 {
-    put_line(out, &NumberNaming, &reason_line(reason));
+    put_word_list(out, &NumberNaming, &reason_line(reason));
 }
 
 fn put_bad_line<W: Write>(out: &mut TextWriter<'_, W>, line: u64, reason: &Reason)
@@ -476,7 +476,7 @@ fn put_expected<W: Write>(out: &mut TextWriter<'_, W>, cluster: &Cluster, expect
         (spaced_word (expected_text cluster.now expected.now)) }
 {
     out.put_byte(b' ');
-    put_line(out, cluster, &expected_line(expected));
+    put_word_list(out, cluster, &expected_line(expected));
 }
 
 /// How many messages of a host wait, or answers of a node are noted.
@@ -497,12 +497,12 @@ fn pending_words(pending: &Pending) -> [Word<'_>; 4]
 
 fn put_others<W: Write>(out: &mut TextWriter<'_, W>, cluster: &Cluster, pending: &[Pending])
     ensures { Grows W.contents out.old out.new
-        (spaced_words (named_language cluster.now) (frames_called cluster.now)
+        (spaced_words (named_language cluster.now)
         (flat_map other_pending_words pending.now)) }
 {
     for one in pending {
         out.put_byte(b',');
-        put_spaced(out, cluster, &pending_words(one));
+        put_all_after(out, cluster, &pending_words(one));
     }
 }
 
@@ -513,7 +513,7 @@ pub fn put_pending<W: Write>(out: &mut TextWriter<'_, W>, cluster: &Cluster, pen
     match pending {
         [] => {}
         [first, rest @ ..] => {
-            put_words(out, cluster, &pending_words(first));
+            put_joined(out, cluster, &pending_words(first));
             put_others(out, cluster, rest);
         }
     }
@@ -584,7 +584,7 @@ fn put_is<W: Write>(out: &mut TextWriter<'_, W>, cluster: &Cluster, got: &Got)
 {
     match got {
         Got::StillPending(pending) => put_pending(out, cluster, pending.as_slice()),
-        _ => put_line(out, cluster, &got_line(got)),
+        _ => put_word_list(out, cluster, &got_line(got)),
     }
 }
 

@@ -1,15 +1,17 @@
 //! Lines without words, and why one is bad in which `=` is missing before a value.
 
-ghost use Rattle.std.specs.Prelude.{◌≡◌, ◌<◌, ◌+◌, IfOk, IfSome, length};
+ghost use Rattle.std.specs.Prelude.{◌≡◌, ◌<◌, ◌+◌, IfOk, IfSome, Option, Result, length};
 ghost use Rattle.std.specs.Char.{is_ascii_digit};
 ghost use Rattle.std.specs.List.{list_all};
 ghost use Rattle.lin_bench.specs.Fields.{line_fields, signal_field, field_texts};
 ghost use Rattle.lin_bench.specs.Lines.{read_line};
 ghost use Rattle.lin_bench.specs.Read.{Gives, is_bad_line};
-ghost use Rattle.lin_bench.specs.Words.{asks_value, begins_hex, is_array_word, is_hex, is_number_or_range};
+ghost use Rattle.lin_bench.specs.Words.{asks_value, begins_hex, is_array_word, is_good_line, is_hex, is_number_or_range};
 ghost use Rattle.lin_bench.specs.Words.{is_raw, is_signal, is_signal_after, missing_hint, or_this};
 ghost use Rattle.lin_bench.specs.Words.{or_unmarked, reads_zero, signal_in_fields, unmarked_reason, why_at};
 ghost use Rattle.lin_bench.specs.Words.{why_coded, why_of_signal, why_unmarked, why_value};
+ghost use Rattle.lin_bench.specs.declared.line.ScriptLine.{ScriptLine};
+ghost use Rattle.lin_bench.specs.declared.reason.Reason.{Reason};
 
 use crate::fault::LineFault;
 use crate::fields::{copied_fields, fields, range_ends, signal_field};
@@ -75,6 +77,18 @@ fn is_numeric(value: &[&[u8]]) -> bool
     }
 }
 
+/// Whether a line that was read is good. An error means out of memory.
+fn is_good(read: &Result<Option<ScriptLine>, LineFault>) -> Result<bool, AllocError>
+    ensures { (said : Result (Option ScriptLine) Reason) → Gives (λ l. l) read.now said
+        → IfOk result (λ is. is ≡ is_good_line said) }
+{
+    match read {
+        Ok(_) => Ok(true),
+        Err(LineFault::Bad(_)) => Ok(false),
+        Err(LineFault::OutOfMemory) => Err(AllocError),
+    }
+}
+
 /// Whether a line with the value 0 after a signal is good.
 fn reads_zero<'a>(
     alloc: Global,
@@ -85,11 +99,8 @@ fn reads_zero<'a>(
     ensures { IfOk result (λ is. is ≡ reads_zero cluster.now (field_texts before.now) signal.now) }
 {
     let line = in_numbers(alloc, before, signal, &Value::Scalar(0))?;
-    match read_line(alloc, cluster, line.as_slice()) {
-        Ok(_) => Ok(true),
-        Err(LineFault::Bad(_)) => Ok(false),
-        Err(LineFault::OutOfMemory) => Err(AllocError),
-    }
+    let read = read_line(alloc, cluster, line.as_slice());
+    is_good(&read)
 }
 
 /// Whether the fields before a signal are those of a write or of an expectation.

@@ -17,17 +17,17 @@ ghost use Rattle.lin_bench.specs.Verdicts.{with_taken, data_of, fits_data, frame
 use crate::answers::fits;
 use crate::arrivals::{self, EarlierMessages};
 use crate::carried::{last_carried, open_after};
-use crate::expected::{Carried, Expected, Since};
+use crate::expected::{Expected, Since};
 use crate::got::Got;
 use crate::losses::first_loss;
 use crate::meant::MeantValues;
 use crate::ruled::{RuledCore, pending};
-use crate::rules::Pattern;
 use crate::taken::{
     EventKind, Search, TakenEvents, event_from, last_end, last_event, place_before,
 };
 use lin_core::{Cause, Core, Event, Look, Payload, Refusal, Reply, Seen};
 use lin_frame::Value;
+use lin_log::{Carried, Pattern};
 use lin_text::Many;
 use std::alloc::{AllocError, Global};
 

@@ -10,7 +10,7 @@ ghost use Rattle.lin_bench.specs.Read.{Gives};
 ghost use Rattle.lin_bench.specs.Words.{expected_line, from_end, in_numbers, is_expect, is_value_mark};
 ghost use Rattle.lin_bench.specs.Words.{by_wish, nearest_line, worded_by, written_line};
 ghost use Rattle.lin_bench.specs.Words.{is_write, meant_by, meant_line, read_worded_line, wish_of};
-ghost use Rattle.lin_bench.specs.Words.{line_with_signal};
+ghost use Rattle.lin_bench.specs.Words.{line_with_signal, worded_signal};
 ghost use Rattle.lin_bench.specs.Words.{without_comment, worded, worded_line, worded_or_plain};
 
 use crate::expected::Expected;
@@ -24,7 +24,7 @@ use crate::reason::Reason;
 use crate::said_values::{Said, expected_values, joined, nearest_value, only_value};
 use crate::unmarked::read_unworded;
 use lin_frame::Value;
-use lin_log::{NumberNaming, put_shown, value_word};
+use lin_log::{NumberNaming, Word, put_shown};
 use lin_parts::Cluster;
 use lin_text::{Text, TextBuffer, TextWriter};
 use lin_values::Coded;
@@ -131,7 +131,7 @@ fn raw_word(alloc: Global, value: &Value) -> Result<Vec<u8>, AllocError>
     let mut text = Vec::new(alloc);
     let mut buffer = TextBuffer::empty();
     let mut out = TextWriter::new(&mut text, &mut buffer);
-    put_shown(&mut out, value_word(value));
+    put_shown(&mut out, &NumberNaming, Word::Value(value));
     match out.finish() {
         Ok(()) => Ok(text),
         Err(_) => Err(AllocError),
@@ -352,6 +352,23 @@ fn without_comment(
     with_words(alloc, cluster, coded, &whole, zero, signal)
 }
 
+/// The number of the signal that a field names, whose value words may say: that of a wide signal they may
+/// not.
+fn worded_signal(
+    alloc: Global,
+    cluster: &Cluster,
+    coded: &Coded,
+    field: &[u8],
+) -> Result<u16, LineFault>
+    ensures { Gives (λ n. n) result (worded_signal cluster.now coded.now field.now) }
+{
+    let signal = signal_field(alloc, cluster, field)?;
+    if coded.is_wide(signal) {
+        return Err(LineFault::Bad(Reason::WideSignal(Text::copied(alloc, field)?)));
+    }
+    Ok(signal)
+}
+
 /// What a line with words says, by its parts and its text. All other fields are judged before the
 /// words.
 #[tactic(auto, unfolding(crate::specs::Words::worded_line))]
@@ -366,10 +383,7 @@ fn read_worded(
         (worded_line cluster.now coded.now (worded_line_of line.now) text.now) }
 {
     let zero = with_value(alloc, cluster, line, &Value::Scalar(0))?;
-    let signal = signal_field(alloc, cluster, line.signal)?;
-    if coded.is_wide(signal) {
-        return Err(LineFault::Bad(Reason::WideSignal(Text::copied(alloc, line.signal)?)));
-    }
+    let signal = worded_signal(alloc, cluster, coded, line.signal)?;
     if names_hash(coded, signal) {
         return without_comment(alloc, cluster, coded, line, text, zero, signal);
     }

@@ -31,7 +31,8 @@ use Rattle.lin_core.specs.declared.reply.Reply.TheVariants.{Done, Refused}
 use Rattle.lin_core.specs.declared.step.Step.{Step}
 use Rattle.lin_core.specs.declared.step.Step.TheVariants.{Send, Finish, Wake, Write}
 use Rattle.lin_log.specs.Language.{named_language}
-use Rattle.lin_log.specs.Words.{port_word, spaced_word, step_words, value_word}
+use Rattle.lin_log.specs.Words.{spaced_word, step_words, value_word, word_text}
+use Rattle.lin_log.specs.Words.Word.{Port}
 use Rattle.lin_values.specs.Coded.{CodedData}
 use Rattle.lin_values.specs.Meaning.{meaning}
 use Rattle.lin_values.specs.Meant.{Meant}
@@ -316,7 +317,9 @@ step_object c k past step = []
 -- a step that was refused: its line with names, and the refusal's number and name
 abbrev pub step_text : Parts → PortId → Step → List ℕ
 step_text c port step =
-    quoted_text (port_word (named_language c) port ++ flat_map spaced_word (step_words (named_language c) step))
+    quoted_text
+    (word_text (named_language c) (Port port)
+    ++ flat_map spaced_word (map (word_text (named_language c)) (step_words step)))
 
 abbrev pub refused_line : Parts → ℕ → PortId → Step → Refusal → List ℕ
 refused_line c at port step why =

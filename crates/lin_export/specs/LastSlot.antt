@@ -1,5 +1,5 @@
 -- The slot that ended last in a history.
-use Rattle.std.specs.Prelude.{◌≡◌, ℕ, ◌≤◌, List, [], ◌∷◌, ◌++◌, codes, length, map}
+use Rattle.std.specs.Prelude.{◌≡◌, ℕ, ◌≤◌, List, [], ◌∷◌, codes, length, map}
 use Rattle.std.specs.Prelude.{reverse, take, Option, None, option_map}
 use Rattle.std.specs.Fmt.{decimal}
 use Rattle.std.specs.Option.{option_map_or, option_to_list}
@@ -13,7 +13,6 @@ use Rattle.lin_log.specs.Words.{Word}
 use Rattle.lin_log.specs.Words.Word.{Fixed, Hex, Number, Said}
 use Rattle.lin_export.specs.Json.{hex_text, member, null, object, quoted_text}
 use Rattle.lin_export.specs.Jsonl.{frame_member, time_member}
-use Rattle.lin_export.specs.Named.{named_words}
 use Rattle.lin_export.specs.Shown.{data_of, slot_name}
 use Rattle.lin_export.specs.Track.{TrackData, finished_slot_count, shown_slot, track_of}
 
@@ -37,18 +36,16 @@ last_slot c past = option_map_or (ended_slot c) (before_last_finish past) None
 -- data bytes of a good response
 abbrev pub ended_words : Parts → EndedSlot → List Word
 ended_words c e =
-    Number e.at
+    Number e.number
+    ∷ Number e.at
     ∷ Said (named_table c e.slot.table).name
     ∷ Number e.slot.entry
     ∷ Said (slot_name c e.slot)
     ∷ Fixed (look_word (look_of (seen_of e.slot)))
     ∷ map (λ answer. Hex (data_of answer)) (option_to_list (good e.slot))
 
-abbrev pub ended_text : Parts → EndedSlot → List ℕ
-ended_text c e = decimal e.number ++ named_words c (ended_words c e)
-
-abbrev pub last_slot_text : Parts → Option EndedSlot → List ℕ
-last_slot_text c last = option_map_or (ended_text c) last (codes "none")
+abbrev pub last_slot_words : Parts → Option EndedSlot → List Word
+last_slot_words c last = option_map_or (ended_words c) last (Fixed (codes "none") ∷ [])
 
 -- the same as a value of JSON
 abbrev pub ended_value : Parts → EndedSlot → List ℕ

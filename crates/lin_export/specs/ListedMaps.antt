@@ -6,6 +6,7 @@ use Rattle.lin_frame.specs.declared.layout.Layout.{Layout}
 use Rattle.lin_frame.specs.declared.layout.Place.{Place}
 use Rattle.lin_parts.specs.Cluster.{frame_name, frame_of, signal_of}
 use Rattle.lin_parts.specs.declared.parts.Parts.{Parts}
+use Rattle.lin_log.specs.CallerTexts.{seen_text}
 use Rattle.lin_log.specs.Words.{line}
 use Rattle.lin_export.specs.ListedFrames.{identifier_word, places}
 use Rattle.lin_export.specs.Listing.{numbered_lines}
@@ -17,7 +18,7 @@ map_line c f =
     line
     (codes "map"
     ∷ decimal f
-    ∷ frame_name c f
+    ∷ seen_text (frame_name c f)
     ∷ identifier_word (frame_of c f).pid
     ∷ decimal (frame_of c f).layout.len
     ∷ decimal (free_bits (frame_of c f).layout)
@@ -40,7 +41,7 @@ mark_line c f k p =
     (codes "mark"
     ∷ decimal f
     ∷ (signal_mark k ∷ [])
-    ∷ (signal_of c p.0).name
+    ∷ seen_text (signal_of c p.0).name
     ∷ decimal p.1.offset
     ∷ decimal p.1.size
     ∷ [])

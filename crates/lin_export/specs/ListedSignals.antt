@@ -7,6 +7,7 @@ use lib.IntN.{pos, ◌+ℤ◌, ◌*ℤ◌}
 use Rattle.lin_parts.specs.Cluster.{signal_of}
 use Rattle.lin_parts.specs.declared.parts.Parts.{Parts}
 use Rattle.lin_frame.specs.Words.{numbers}
+use Rattle.lin_log.specs.CallerTexts.{seen_text}
 use Rattle.lin_log.specs.Words.{line, value_word}
 use Rattle.lin_frame.specs.declared.value.Value.{Value}
 use Rattle.lin_values.specs.Coded.{encoding_of, signal_at, CodedData, RangeData}
@@ -21,12 +22,12 @@ use Rattle.lin_values.specs.declared.codings.Item.TheVariants.{Logical, Physical
 
 abbrev pub encoding_word : Option CodingType → List ℕ
 encoding_word None = codes "-"
-encoding_word (Some t) = t.name.text
+encoding_word (Some t) = seen_text t.name.text
 
 -- number, name, bits, and encoding or `-`
 abbrev pub coding_line : Parts → CodedData → ℕ → List ℕ
 coding_line c k s =
-    line (codes "coding" ∷ decimal s ∷ (signal_of c s).name ∷ decimal (signal_of c s).size
+    line (codes "coding" ∷ decimal s ∷ seen_text (signal_of c s).name ∷ decimal (signal_of c s).size
     ∷ encoding_word (encoding_of k s) ∷ [])
 
 -- ---- items

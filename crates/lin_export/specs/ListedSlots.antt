@@ -7,6 +7,7 @@ use Rattle.lin_cluster.specs.SlotTimes.{slot_bytes, slot_need}
 use Rattle.lin_frame.specs.Words.{numbers}
 use Rattle.lin_parts.specs.Cluster.{entry_kind, entry_name, line_of, named_table, table_of}
 use Rattle.lin_parts.specs.declared.parts.Parts.{Parts}
+use Rattle.lin_log.specs.CallerTexts.{seen_text}
 use Rattle.lin_log.specs.Words.{line}
 
 -- ---- the slot of an entry
@@ -26,8 +27,8 @@ slot_line c t e =
     (codes "slot"
     ∷ decimal t
     ∷ decimal e
-    ∷ entry_name c entry
-    ∷ entry_kind entry
+    ∷ seen_text (entry_name c entry)
+    ∷ seen_text (entry_kind entry)
     ∷ decimal (slot_bytes c entry)
     ∷ decimal delay
     ∷ decimal (slot_need c entry)
@@ -54,7 +55,7 @@ permille bits speed delay = 1000000000 * bits / (speed * delay)
 
 abbrev pub load_line : Parts → ℕ → List ℕ
 load_line c t =
-    line (codes "load" ∷ decimal t ∷ (named_table c t).name ∷ decimal (delay_of c t)
+    line (codes "load" ∷ decimal t ∷ seen_text (named_table c t).name ∷ decimal (delay_of c t)
     ∷ decimal (permille (bits_of c t) c.speed (delay_of c t)) ∷ [])
 
 -- ---- all tables

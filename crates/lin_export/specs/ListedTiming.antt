@@ -9,6 +9,7 @@ use Rattle.lin_cluster.specs.SlotTimes.{slot_need}
 use Rattle.lin_parts.specs.Cluster.{frame_of, named_table, signal_of, table_of}
 use Rattle.lin_parts.specs.declared.parts.Line.{Line}
 use Rattle.lin_parts.specs.declared.parts.Parts.{Parts}
+use Rattle.lin_log.specs.CallerTexts.{seen_text}
 use Rattle.lin_log.specs.Words.{line}
 use Rattle.lin_schedule.specs.Cycles.{longest_cycle}
 use Rattle.lin_schedule.specs.Schedule.{total}
@@ -51,7 +52,7 @@ table_line c t =
     line
     (codes "timing"
     ∷ decimal t
-    ∷ (named_table c t).name
+    ∷ seen_text (named_table c t).name
     ∷ decimal (total (table_of c t))
     ∷ decimal (longest_cycle c t)
     ∷ decimal (permille (bits_of c t) c.speed (total (table_of c t)))
@@ -66,7 +67,7 @@ frame_line c t f timing =
     line
     (codes "occurs"
     ∷ decimal t
-    ∷ (frame_of c f).name
+    ∷ seen_text (frame_of c f).name
     ∷ decimal timing.own
     ∷ decimal timing.shared
     ∷ time_word (option_map (λ times. times.shortest) timing.gaps)
@@ -81,7 +82,7 @@ frame_timing_text c t f timing =
 
 abbrev pub latency_line : Parts → ℕ → ℕ → Latency → List ℕ
 latency_line c t s latency =
-    line (codes "latency" ∷ decimal t ∷ (signal_of c s).name ∷ time_word latency.worst
+    line (codes "latency" ∷ decimal t ∷ seen_text (signal_of c s).name ∷ time_word latency.worst
     ∷ time_word latency.once ∷ [])
 
 abbrev pub signal_timing_text : Parts → ℕ → ℕ → Option Latency → List ℕ
@@ -91,7 +92,7 @@ signal_timing_text c t s latency = option_map_or (latency_line c t s) latency []
 
 abbrev pub transfer_line : ℕ → List ℕ → ℕ → ℕ → List ℕ
 transfer_line t direction bytes worst =
-    line (codes "transfer" ∷ decimal t ∷ direction ∷ decimal bytes
+    line (codes "transfer" ∷ decimal t ∷ seen_text direction ∷ decimal bytes
     ∷ decimal (frames_of_message bytes) ∷ decimal worst ∷ [])
 
 abbrev pub transfer_text : ℕ → List ℕ → ℕ → Option ℕ → List ℕ

@@ -1,25 +1,18 @@
 -- What is put of an entry with names.
-use Rattle.std.specs.Prelude.{ℕ, List, [], ◌∷◌, ◌++◌, Option, codes, flat_map, map, slice_index}
+use Rattle.std.specs.Prelude.{List, [], ◌++◌, Option, flat_map}
 use Rattle.std.specs.Option.{option_map_or}
 use Rattle.lin_parts.specs.declared.parts.Parts.{Parts}
 use Rattle.lin_core.specs.History.{Slot}
 use Rattle.lin_core.specs.declared.event.Event.{Event}
 use Rattle.lin_core.specs.declared.log.LogEntry.{LogEntry}
 use Rattle.lin_log.specs.Language.{named_language}
-use Rattle.lin_log.specs.Words.{Word, line, step_line, word_text}
+use Rattle.lin_log.specs.Words.{Word, step_line}
 use Rattle.lin_values.specs.Coded.{CodedData}
-use Rattle.lin_export.specs.Named.{control_words, named_event, named_line, reply_lines, told_values, who_word, words_after_event}
+use Rattle.lin_export.specs.Named.{named_event, named_line, reply_lines, told_values, words_after_event}
 
 -- a line, where there is one
 abbrev pub line_or_none : Parts → Option (List Word) → List ℕ
 line_or_none c o = option_map_or (named_line c) o []
-
--- a frame of a message, whose way is a word of the language
-abbrev pub transport_line : Parts → List ℕ → List ℕ → List ℕ
-transport_line c way answer =
-    line
-    (codes ">" ∷ codes "transport" ∷ word_text (named_language c) (who_word c (slice_index answer 0)) ∷ way
-    ∷ map (word_text (named_language c)) (control_words (slice_index answer 1) (slice_index answer 2)))
 
 -- an event, what stands behind it, and what its values mean
 abbrev pub event_text : Parts → Option CodedData → Option Slot → Event → List ℕ

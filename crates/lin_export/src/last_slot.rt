@@ -9,8 +9,9 @@ ghost use Rattle.lin_log.specs.Words.{hex_word, spaced_word};
 ghost use Rattle.lin_parts.specs.declared.parts.Parts.{Parts};
 ghost use Rattle.lin_text.specs.Written.{Grows};
 ghost use Rattle.lin_export.specs.Json.{hex_text, member, null};
-ghost use Rattle.lin_export.specs.LastSlot.{IsKeptOf, ended, ended_text, ended_value, kept_slot};
-ghost use Rattle.lin_export.specs.LastSlot.{last_slot, last_slot_text, last_slot_value, tracked_slot_end};
+ghost use Rattle.lin_export.specs.LastSlot.{IsKeptOf, ended, ended_value, ended_words, kept_slot};
+ghost use Rattle.lin_export.specs.LastSlot.{last_slot, last_slot_value, last_slot_words, tracked_slot_end};
+ghost use Rattle.lin_export.specs.Named.{named_words};
 ghost use Rattle.lin_export.specs.Members.{member_shown};
 ghost use Rattle.lin_export.specs.Open.{tracked_slot};
 ghost use Rattle.lin_export.specs.Shown.{data_of};
@@ -51,7 +52,7 @@ fn put_data<W: Write>(out: &mut TextWriter<'_, W>, slot: &OpenSlot)
 {
     if let SeenSlot::Good(answer) = slot.look() {
         let bytes = answer.as_slice();
-        put_words(out, &[Word::Hex(&bytes[..bytes.len().saturating_sub(1)])]);
+        put_words(out, &[Word::Bytes(&bytes[..bytes.len().saturating_sub(1)])]);
     }
 }
 
@@ -63,7 +64,8 @@ fn put_slot<W: Write>(
     slot: &OpenSlot,
 )
     ensures { Grows W.contents out.old out.new
-        (spaced_word (ended_text cluster.now (ended track.now (tracked_slot slot.now)))) }
+        (named_words cluster.now
+        (ended_words cluster.now (ended track.now (tracked_slot slot.now)))) }
 {
     put_words(
         out,
@@ -73,7 +75,7 @@ fn put_slot<W: Write>(
             Word::Said(table_name(cluster, slot.table())),
             Word::Number(u64::from(slot.entry())),
             Word::Said(slot_name(cluster, slot)),
-            Word::Text(slot.look().kind().word()),
+            Word::Fixed(slot.look().kind().word()),
         ],
     );
     put_data(out, slot);
@@ -81,7 +83,8 @@ fn put_slot<W: Write>(
 
 /// The open slot of a track as it is when it ends, after a space.
 fn put_ending<W: Write>(out: &mut TextWriter<'_, W>, cluster: &Cluster, track: &Track)
-    ensures { Grows W.contents out.old out.new (spaced_word (last_slot_text cluster.now (tracked_slot_end track.now))) }
+    ensures { Grows W.contents out.old out.new
+        (named_words cluster.now (last_slot_words cluster.now (tracked_slot_end track.now))) }
 {
     match track.slot() {
         Some(slot) => put_slot(out, cluster, track, slot),
@@ -98,7 +101,8 @@ pub fn put_last_slot<W: Write>(
     last: Option<&LastSlot>,
 )
     ensures { Grows W.contents out.old out.new
-        (spaced_word (last_slot_text cluster.now (kept_slot (option_map (λ l. l.now) last.entry)))) }
+        (named_words cluster.now
+        (last_slot_words cluster.now (kept_slot (option_map (λ l. l.now) last.entry)))) }
 {
     match last {
         Some(last) => put_ending(out, cluster, &last.track),

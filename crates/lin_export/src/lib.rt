@@ -61,8 +61,8 @@ pub use last_slot::{LastSlot, put_last_slot, put_last_slot_value};
 pub use law::{captures_what_was_seen, dumps_last_values, maps_tell_places};
 pub use line_meanings::put_line_meaning;
 pub use listing::{
-    FrameTiming, Latency, TableTiming, table_loads, table_timings, write_frames, write_list,
-    write_maps, write_signals, write_slots, write_timing,
+    FrameTiming, Latency, TableTiming, address_word, table_loads, table_timings, write_frames,
+    write_list, write_maps, write_signals, write_slots, write_timing,
 };
 pub use named::{named_text, put_slot_names, write_named};
 pub use object::nodes::nad_member;

@@ -2,7 +2,7 @@
 
 ghost use Rattle.std.specs.Prelude.{◌≡◌, ◌<◌, length};
 ghost use Rattle.lin_parts.specs.Cluster.{named_table, node_of, nodes, signal_of};
-ghost use Rattle.lin_log.specs.Shown.{word_shown};
+ghost use Rattle.lin_log.specs.Shown.{as_word};
 ghost use Rattle.lin_text.specs.Written.{Grows, WritesText};
 ghost use Rattle.lin_export.specs.Listing.{address_word, listing, node_line, numbered_lines};
 ghost use Rattle.lin_export.specs.Listing.{signal_line, table_line};
@@ -29,12 +29,12 @@ pub use timing::write_timing;
 pub use timings::{FrameTiming, Latency, TableTiming, table_timings};
 
 /// A diagnostic address, and `-` for none.
-fn address_word(nad: Option<u8>) -> Word<'static>
-    ensures { word_shown result ≡ address_word nad }
+pub fn address_word(nad: Option<u8>) -> Word<'static>
+    ensures { as_word result ≡ address_word nad }
 {
     match nad {
         Some(nad) => Word::Number(u64::from(nad)),
-        None => Word::Name(b"-"),
+        None => Word::Fixed("-"),
     }
 }
 
@@ -47,7 +47,7 @@ fn put_node<W: Write>(out: &mut TextWriter<'_, W>, cluster: &Cluster, node: u8)
         b"node",
         &[
             Word::Number(u64::from(node)),
-            Word::Name(cluster.node_name(node)),
+            Word::Said(cluster.node_name(node)),
             address_word(cluster.nad(node)),
         ],
     );
@@ -72,7 +72,7 @@ fn put_signal<W: Write>(out: &mut TextWriter<'_, W>, cluster: &Cluster, signal: 
         b"signal",
         &[
             Word::Number(u64::from(signal)),
-            Word::Name(cluster.signal_name(signal)),
+            Word::Said(cluster.signal_name(signal)),
         ],
     );
 }
@@ -96,7 +96,7 @@ fn put_table<W: Write>(out: &mut TextWriter<'_, W>, cluster: &Cluster, table: u1
         b"table",
         &[
             Word::Number(u64::from(table)),
-            Word::Name(cluster.table_name(table)),
+            Word::Said(cluster.table_name(table)),
             Word::Number(cluster.entries(table) as u64),
         ],
     );

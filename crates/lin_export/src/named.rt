@@ -14,8 +14,8 @@ ghost use Rattle.lin_text.specs.Written.{Grows, WritesText};
 ghost use Rattle.lin_export.specs.Named.{words_after_event, control_words, frame_signal_words, frame_words, good_words};
 ghost use Rattle.lin_export.specs.Named.{named_entries, named_event, named_from, named_line, named_log};
 ghost use Rattle.lin_export.specs.Named.{named_words, refusal_words, request_words, slot_names};
-ghost use Rattle.lin_export.specs.Named.{sporadic_frame_under, time_words, transport, who_word};
-ghost use Rattle.lin_export.specs.NamedWords.{event_text, line_or_none, named_entry, transport_line};
+ghost use Rattle.lin_export.specs.Named.{sporadic_frame_under, time_words, transport, transport_words, who_word};
+ghost use Rattle.lin_export.specs.NamedWords.{event_text, line_or_none, named_entry};
 ghost use Rattle.lin_export.specs.Open.{tracked_slot};
 ghost use Rattle.lin_export.specs.Track.{track_of};
 ghost use Rattle.lin_export.specs.WhereTold.{given_coding};
@@ -29,7 +29,7 @@ use crate::slot_names::node_name;
 use crate::track::{Track, TrackedEntry};
 use lin_core::{Event, Listed, Log, Refusal, Reply, Seen, Step, frame_under, node_with};
 use lin_frame::Answer;
-use lin_log::{Word, put_line, put_step_line, put_words, value_word};
+use lin_log::{Word, put_line, put_step_line, put_words};
 use lin_parts::{Cluster, Entry};
 use lin_text::{TextBuffer, TextWriter};
 use lin_values::Coded;
@@ -109,7 +109,7 @@ fn put_signals<W: Write>(
     for place in 0..place_count(cluster, frame) {
         let (signal, value) = value_at(cluster, frame, answer, place);
         let name = cluster.signal_name(signal);
-        put_words(out, &[Word::Said(name), value_word(&value)]);
+        put_words(out, &[Word::Said(name), Word::Value(&value)]);
     }
 }
 
@@ -122,7 +122,7 @@ fn put_frame<W: Write>(out: &mut TextWriter<'_, W>, cluster: &Cluster, frame: u1
     out.put_byte(b'>');
     put_words(
         out,
-        &[Word::Text("frame"), Word::Said(cluster.frame_name(frame))],
+        &[Word::Fixed("frame"), Word::Said(cluster.frame_name(frame))],
     );
     put_signals(out, cluster, frame, answer);
     out.put_byte(b'\n');
@@ -145,13 +145,13 @@ fn control_words(control: u8, length: u8) -> (Word<'static>, Word<'static>)
 {
     let low = u64::from(control % 16);
     match control / 16 {
-        0 => (Word::Text("single"), Word::Number(low)),
+        0 => (Word::Fixed("single"), Word::Number(low)),
         1 => (
-            Word::Text("first"),
+            Word::Fixed("first"),
             Word::Number(256 * low + u64::from(length)),
         ),
-        2 => (Word::Text("next"), Word::Number(low)),
-        _ => (Word::Text("other"), Word::Byte(control)),
+        2 => (Word::Fixed("next"), Word::Number(low)),
+        _ => (Word::Fixed("other"), Word::Byte(control)),
     }
 }
 
@@ -163,13 +163,19 @@ fn put_transport<'a, W: Write>(
     answer: &[u8],
 )
     ensures { Grows W.contents out.old out.new
-        (transport_line cluster.now way.now answer.now) }
+        (named_line cluster.now (transport_words cluster.now way.now answer.now)) }
 {
     let who = who_word(cluster, byte_at(answer, 0));
     let (kind, number) = control_words(byte_at(answer, 1), byte_at(answer, 2));
     put_reply(
         out,
-        &[Word::Text("transport"), who, Word::Text(way), kind, number],
+        &[
+            Word::Fixed("transport"),
+            who,
+            Word::Fixed(way),
+            kind,
+            number,
+        ],
     );
 }
 
@@ -179,7 +185,7 @@ fn put_request<W: Write>(out: &mut TextWriter<'_, W>, cluster: &Cluster, answer:
         (named_line cluster.now (request_words cluster.now answer.now)) }
 {
     if byte_at(answer, 0) == 0 {
-        put_reply(out, &[Word::Text("transport"), Word::Text("sleep")]);
+        put_reply(out, &[Word::Fixed("transport"), Word::Fixed("sleep")]);
     } else {
         put_transport(out, cluster, "down", answer);
     }
@@ -276,9 +282,9 @@ fn put_refusal<W: Write>(out: &mut TextWriter<'_, W>, refusal: Refusal)
     put_reply(
         out,
         &[
-            Word::Text("refused"),
+            Word::Fixed("refused"),
             Word::Number(u64::from(refusal.number())),
-            Word::Text(refusal.word()),
+            Word::Fixed(refusal.word()),
         ],
     );
 }
@@ -289,7 +295,7 @@ fn put_time<W: Write>(out: &mut TextWriter<'_, W>, step: &Step, time: u64)
         (line_or_none c (time_words step.now time)) }
 {
     if let Step::Finish = step {
-        put_reply(out, &[Word::Text("time"), Word::Number(time)]);
+        put_reply(out, &[Word::Fixed("time"), Word::Number(time)]);
     }
 }
 

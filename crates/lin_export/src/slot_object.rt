@@ -28,7 +28,7 @@ use crate::track::Track;
 use crate::vcd::HOSTS;
 use lin_core::Listed;
 use lin_frame::{Answer, Value};
-use lin_log::{put_shown, value_word};
+use lin_log::{NumberNaming, Word, put_shown};
 use lin_parts::{Cluster, Entry};
 use lin_text::TextWriter;
 use lin_values::Coded;
@@ -178,7 +178,7 @@ pub(crate) fn put_value<W: Write>(out: &mut TextWriter<'_, W>, value: &Value)
         Value::Scalar(number) => out.put_number(*number),
         Value::Bytes(_) => {
             out.put_byte(b'"');
-            put_shown(out, value_word(value));
+            put_shown(out, &NumberNaming, Word::Value(value));
             out.put_byte(b'"');
         }
     }

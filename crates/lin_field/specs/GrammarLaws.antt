@@ -244,7 +244,7 @@ nodes_take =
 
 -- ---- signals
 
-wide_int_takes : Taking (has_kind kinds.Number) anything wide_int
+pub wide_int_takes : Taking (has_kind kinds.Number) anything wide_int
 wide_int_takes =
     begins_so _ (has_kind kinds.Number)
     (λ t e. (both_true (has_kind kinds.Number t) _ e).0) (token_takes _ _)

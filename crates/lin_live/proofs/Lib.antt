@@ -4,7 +4,7 @@ mod Keeping
 mod Transcripts
 pub mod Writing
 pub mod Growth
-mod Gaps
+mod SaidWords
 mod LastObjects
 mod LinesTold
 mod Replying

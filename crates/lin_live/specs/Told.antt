@@ -8,8 +8,9 @@ use Rattle.lin_parts.specs.declared.parts.Parts.{Parts}
 use Rattle.lin_core.specs.Tables.{refusal_number, refusal_word}
 use Rattle.lin_core.specs.declared.log.LogEntry.{LogEntry}
 use Rattle.lin_core.specs.declared.reply.Refusal.{Refusal}
-use Rattle.lin_log.specs.CallerTexts.{seen_text, seen_texts}
-use Rattle.lin_log.specs.Words.{spaced_word, text}
+use Rattle.lin_log.specs.Language.{Language, named_language, plain}
+use Rattle.lin_log.specs.Words.{Word, text}
+use Rattle.lin_log.specs.Words.Word.{Fields, Fixed, Mark, Number, Said}
 use Rattle.lin_export.specs.Csv.{after_comma}
 use Rattle.lin_export.specs.Json.{member, object_line, printable_text, quoted_text}
 use Rattle.lin_export.specs.Jsonl.{objects_of}
@@ -20,14 +21,14 @@ use Rattle.lin_bench.specs.Scripts.{without_mark}
 use Rattle.lin_bench.specs.Made.{BenchState, made}
 use Rattle.lin_bench.specs.Slots.{slot_limit}
 use Rattle.lin_bench.specs.Strict.{entries_since, first_refusal}
-use Rattle.lin_bench.specs.Texts.{expected_text, got_text}
-use Rattle.lin_bench.specs.Texts.{reason_text as script_text, verdict_text}
+use Rattle.lin_bench.specs.LineWords.{spaced_words, words_text}
+use Rattle.lin_bench.specs.Texts.{expected_text, got_text, reason_words}
 use Rattle.lin_bench.specs.declared.got.Verdict.{Verdict}
 use Rattle.lin_bench.specs.declared.got.Verdict.TheVariants.{Unmet, SlotLimit}
 use Rattle.lin_bench.specs.declared.line.ScriptLine.{ScriptLine}
 use Rattle.lin_live.specs.Heard.{line_heard}
 use Rattle.lin_live.specs.Marking.{Marked, bench_at, with_mark}
-use Rattle.lin_live.specs.Values.{Said, said, said_members, said_text}
+use Rattle.lin_live.specs.Values.{SaidValue, said, said_members, said_words}
 use Rattle.lin_live.specs.declared.answer_format.AnswerFormat.{AnswerFormat}
 use Rattle.lin_live.specs.declared.answer_format.AnswerFormat.TheVariants.{Log, Named, Jsonl}
 use Rattle.lin_live.specs.declared.heard.Heard.{Heard}
@@ -38,25 +39,29 @@ use Rattle.lin_live.specs.declared.reason.Reason.TheVariants.{Script, AskForm, U
 use Rattle.lin_live.specs.declared.reason.Reason.TheVariants.{BackForm, MarkForm, NoMark, NoName, StartMark, TooLong}
 
 -- ---- the last lines of answers
-abbrev pub hash_line : List ℕ → List ℕ
-hash_line words = codes "# " ++ (words ++ 10 ∷ [])
+-- why a line is bad
+abbrev pub question_reason_words : Reason → List Word
+question_reason_words (Script why) = reason_words why
+question_reason_words AskForm = Fixed (codes "missing question after ?") ∷ []
+question_reason_words (UnknownQuestion fields) =
+    Fixed (codes "unknown question") ∷ Fields fields ∷ []
+question_reason_words MarkForm = Fixed (codes "usage: mark NAME") ∷ []
+question_reason_words BackForm = Fixed (codes "usage: back NAME") ∷ []
+question_reason_words (NoName field) =
+    Fixed (codes "expected a name, not") ∷ Said field ∷ []
+question_reason_words StartMark = Fixed (codes "start is the mark of the beginning") ∷ []
+question_reason_words (NoMark name) = Fixed (codes "unknown mark") ∷ Said name ∷ []
+question_reason_words TooLong =
+    Fixed (codes "the line has more than 16,777,216 bytes") ∷ []
 
 abbrev pub question_reason_text : Reason → List ℕ
-question_reason_text (Script why) = script_text why
-question_reason_text AskForm = codes "missing question after ?"
-question_reason_text (UnknownQuestion fields) = codes "unknown question " ++ seen_texts (codes " ") fields
-question_reason_text MarkForm = codes "usage: mark NAME"
-question_reason_text BackForm = codes "usage: back NAME"
-question_reason_text (NoName field) = codes "expected a name, not " ++ seen_text field
-question_reason_text StartMark = codes "start is the mark of the beginning"
-question_reason_text (NoMark name) = codes "unknown mark " ++ seen_text name
-question_reason_text TooLong = codes "the line has more than 16,777,216 bytes"
+question_reason_text why = words_text plain (question_reason_words why)
 
 -- how an answer ends: the line was bad, a question is answered, the line met the limit of slots, an
 -- expectation failed, a step was refused, or none of these
 pub data Ending : Type 0 where
   Bad : (why : Reason) → Ending
-  Is : (answer : Said) → Ending
+  Is : (answer : SaidValue) → Ending
   Limit : Ending
   Failed : (what got : List ℕ) → Ending
   Refused : (why : Refusal) → Ending
@@ -72,15 +77,23 @@ verdict_ending c SlotLimit es = Limit
 verdict_ending c (Unmet what got) es = Failed (expected_text c what) (got_text c got)
 verdict_ending c verdict es = steps_ending (first_refusal es)
 
--- as a line that begins with `#`
+-- as a line: `#`, and words
+abbrev pub hash_line : Language → List Word → List ℕ
+hash_line l words = 35 ∷ (spaced_words l words ++ 10 ∷ [])
+
+abbrev pub ending_words : Parts → Option CodedData → Ending → List Word
+ending_words c k (Bad why) =
+    Fixed (codes "bad line:") ∷ Said (question_reason_text why) ∷ []
+ending_words c k (Is answer) = Fixed (codes "is") ∷ said_words c k answer
+ending_words c k Limit = Fixed (codes "slot limit") ∷ []
+ending_words c k (Failed what got) =
+    Fixed (codes "expected") ∷ Said what ∷ Mark (codes ":") ∷ Said got ∷ []
+ending_words c k (Refused why) =
+    Fixed (codes "refused") ∷ Number (refusal_number why) ∷ Fixed (refusal_word why) ∷ []
+ending_words c k Fine = Fixed (codes "ok") ∷ []
+
 abbrev pub hash_ending : Parts → Option CodedData → Ending → List ℕ
-hash_ending c k (Bad why) = hash_line (codes "bad line: " ++ question_reason_text why)
-hash_ending c k (Is answer) = hash_line (codes "is " ++ said_text c k answer)
-hash_ending c k Limit = hash_line (codes "slot limit")
-hash_ending c k (Failed what got) = 35 ∷ verdict_text what got
-hash_ending c k (Refused why) =
-    hash_line (codes "refused " ++ (decimal (refusal_number why) ++ spaced_word (refusal_word why)))
-hash_ending c k Fine = hash_line (codes "ok")
+hash_ending c k e = hash_line (named_language c) (ending_words c k e)
 
 -- as an object: what it begins with, and all of it
 abbrev pub answer_beginning : List ℕ → List ℕ
@@ -154,7 +167,7 @@ abbrev pub shown_coding : HandData → Option CodedData
 shown_coding h = if h.is_physical then h.coded else None
 
 -- the answer to a question to a session
-abbrev pub asked_value : HandData → Question → Said
+abbrev pub asked_value : HandData → Question → SaidValue
 asked_value h asked = said h.cluster h.opening h.bench.past h.bench.rules asked
 
 -- the last line of an answer of a session

@@ -8,7 +8,6 @@ ghost use Rattle.lin_export.specs.Jsonl.{objects_of};
 ghost use Rattle.lin_export.specs.Members.{member_shown};
 ghost use Rattle.lin_export.specs.WhereTold.{given_coding};
 ghost use Rattle.lin_frame.specs.Words.{numbers};
-ghost use Rattle.lin_log.specs.Words.{spaced_word};
 ghost use Rattle.lin_parts.specs.Cluster.{nodes};
 ghost use Rattle.lin_parts.specs.declared.parts.Parts.{Parts};
 ghost use Rattle.lin_text.specs.Written.{Grows, WritesText};
@@ -105,7 +104,7 @@ fn words_of(
     value: &AnswerValue,
 ) -> Result<Vec<u8>, AllocError>
     ensures { IfOk result (λ v. v.items
-        ≡ spaced_word (said_text cluster.now None (as_said cluster.now value.now))) }
+        ≡ said_text cluster.now None (as_said cluster.now value.now)) }
 {
     let mut text = Vec::new(alloc);
     let mut out = TextWriter::new(&mut text, buffer);
@@ -165,7 +164,7 @@ fn put_said<W: Write>(
     value: &AnswerValue,
     words: &[u8],
 )
-    requires { words.now ≡ spaced_word (said_text cluster.now None (as_said cluster.now value.now)) }
+    requires { words.now ≡ said_text cluster.now None (as_said cluster.now value.now) }
     ensures { Grows W.contents out.old out.new (flat_map after_comma
         (said_members cluster.now (given_coding coded.entry) (as_said cluster.now value.now))) }
 {
@@ -211,7 +210,7 @@ fn write_said<W: Write>(
     value: &AnswerValue,
     words: &[u8],
 ) -> Result<(), WriteFailed>
-    requires { words.now ≡ spaced_word (said_text cluster.now None (as_said cluster.now value.now)) }
+    requires { words.now ≡ said_text cluster.now None (as_said cluster.now value.now) }
     ensures { WritesText (W.contents writer.old) (W.contents writer.new) result
         (object_ending cluster.now (given_coding coded.entry) (Is (as_said cluster.now value.now))) }
 {

@@ -1,79 +1,100 @@
 //! The answers to lines.
 
-ghost use Rattle.std.specs.Prelude.{◌≡◌, ◌++◌, ◌≤◌, ◌<◌, ◌==◌, [], IfOk, IfSome, Option, codes, drop};
-ghost use Rattle.std.specs.Prelude.{if◌then◌else◌, length, map, reverse, take};
-ghost use Rattle.std.specs.Fmt.{decimal};
+ghost use Rattle.std.specs.Prelude.{◌≡◌, ◌++◌, ◌∷◌, ◌≤◌, ◌<◌, ◌==◌, [], IfOk, IfSome, Option, codes, drop};
+ghost use Rattle.std.specs.Prelude.{flat_map, if◌then◌else◌, length, map, reverse, take};
 ghost use Rattle.lin_export.specs.Named.{named_entries};
 ghost use Rattle.lin_export.specs.Track.{track_of};
 ghost use Rattle.lin_export.specs.WhereTold.{given_coding};
 ghost use Rattle.lin_frame.specs.Words.{numbers};
-ghost use Rattle.lin_log.specs.Words.{spaced_word, text};
+ghost use Rattle.lin_log.specs.Language.{named_language, plain};
+ghost use Rattle.lin_log.specs.Shown.{as_word};
+ghost use Rattle.lin_log.specs.Words.{text};
+ghost use Rattle.lin_log.specs.Words.Word.{Fixed, Said};
 ghost use Rattle.lin_parts.specs.Cluster.{nodes};
 ghost use Rattle.lin_parts.specs.declared.parts.Parts.{Parts};
 ghost use Rattle.lin_text.specs.Written.{Grows, WritesText};
 ghost use Rattle.lin_live.specs.Held.{hash_line_ending};
-ghost use Rattle.lin_live.specs.Told.{hash_ending, hash_line, question_reason_text, steps_ending};
-ghost use Rattle.lin_live.specs.Values.{addressed_node, as_said, idle_text, objects_version};
-ghost use Rattle.lin_live.specs.Values.{program_version, rules_text, said_text, shown_value, slot_text, with_gaps};
+ghost use Rattle.lin_bench.specs.LineWords.{spaced_words};
+ghost use Rattle.lin_live.specs.Told.{Is, hash_ending, hash_line, question_reason_text, question_reason_words};
+ghost use Rattle.lin_live.specs.Told.{steps_ending};
+ghost use Rattle.lin_live.specs.Values.{addressed_node, as_said, idle_words, node_words, rule_words, said_text};
+ghost use Rattle.lin_live.specs.Values.{slot_words, value_words};
 ghost use Rattle.lin_values.specs.Coded.{CodedData};
 
 use crate::answer_value::AnswerValue;
 use crate::reason::Reason;
 use crate::versions::{OBJECTS_VERSION, PROGRAM_VERSION};
-use lin_bench::{Pending, Verdict, first_refusal, put_pending, put_reason, put_verdict};
+use lin_bench::{
+    Pending, Verdict, WordList, first_refusal, put_all_after, put_pending, put_verdict,
+    put_word_list, reason_line,
+};
 use lin_core::{Core, Event, Listed, Log, Refusal};
-use lin_export::{Track, named_text, put_last_slot, put_line_meaning, put_slot_names};
+use lin_export::{
+    Track, address_word, named_text, put_last_slot, put_line_meaning, put_slot_names,
+};
 use lin_frame::Value;
-use lin_log::{put_entries, put_number, put_seen, put_table, put_texts, put_value, put_word};
+use lin_log::{Naming, NumberNaming, Word, put_entries, put_number, put_table};
 use lin_parts::Cluster;
 use lin_text::{Text, TextBuffer, TextWriter, WriteFailed};
 use lin_values::Coded;
 use std::alloc::{AllocError, Global};
 use std::io::Write;
 
-/// A last line that is always the same.
-fn put_ending<W: Write>(out: &mut TextWriter<'_, W>, words: &str)
-    ensures { Grows W.contents out.old out.new (hash_line words.now) }
+/// A last line: `#`, and words.
+fn put_hash_line<N: Naming, W: Write>(out: &mut TextWriter<'_, W>, names: &N, words: &[Word<'_>])
+    ensures { Grows W.contents out.old out.new
+        (hash_line (N.language names.now) (map as_word words.now)) }
 {
-    out.put_text("# ");
-    out.put_text(words);
+    out.put_byte(b'#');
+    put_all_after(out, names, words);
     out.put_byte(b'\n');
 }
 
 /// Writes that nothing was refused.
 pub(crate) fn write_ok<W: Write>(writer: &mut W, buffer: &mut TextBuffer) -> Result<(), WriteFailed>
     ensures { WritesText (W.contents writer.old) (W.contents writer.new) result
-        (hash_line (codes "ok")) }
+        (hash_line plain (Fixed (codes "ok") ∷ [])) }
 {
     let mut out = TextWriter::new(writer, buffer);
-    put_ending(&mut out, "ok");
+    put_hash_line(&mut out, &NumberNaming, &[Word::Fixed("ok")]);
     out.finish()
+}
+
+/// Why a line is bad.
+fn question_reason_line(reason: &Reason) -> WordList<'_>
+    ensures { result ≡ question_reason_words reason.now }
+{
+    match reason {
+        Reason::Script(reason) => return reason_line(reason),
+        Reason::AskForm => return WordList::of(&[Word::Fixed("missing question after ?")]),
+        Reason::UnknownQuestion(fields) => return WordList::of(&[
+            Word::Fixed("unknown question"),
+            Word::Fields(fields.as_slice()),
+        ]),
+        Reason::MarkForm => return WordList::of(&[Word::Fixed("usage: mark NAME")]),
+        Reason::BackForm => return WordList::of(&[Word::Fixed("usage: back NAME")]),
+        Reason::NoName(field) => return WordList::of(&[
+            Word::Fixed("expected a name, not"),
+            Word::Said(field.as_slice()),
+        ]),
+        Reason::StartMark => {
+            return WordList::of(&[Word::Fixed("start is the mark of the beginning")]);
+        }
+        Reason::NoMark(name) => return WordList::of(&[
+            Word::Fixed("unknown mark"),
+            Word::Said(name.as_slice()),
+        ]),
+        Reason::TooLong => {
+            return WordList::of(&[Word::Fixed("the line has more than 16,777,216 bytes")]);
+        }
+    }
 }
 
 /// Why a line is bad.
 pub(crate) fn put_why<W: Write>(out: &mut TextWriter<'_, W>, reason: &Reason)
     ensures { Grows W.contents out.old out.new (question_reason_text reason.now) }
 {
-    match reason {
-        Reason::Script(reason) => put_reason(out, reason),
-        Reason::AskForm => out.put_text("missing question after ?"),
-        Reason::UnknownQuestion(fields) => {
-            out.put_text("unknown question ");
-            put_texts(out, " ", fields.as_slice());
-        }
-        Reason::MarkForm => out.put_text("usage: mark NAME"),
-        Reason::BackForm => out.put_text("usage: back NAME"),
-        Reason::NoName(field) => {
-            out.put_text("expected a name, not ");
-            put_seen(out, field.as_slice());
-        }
-        Reason::StartMark => out.put_text("start is the mark of the beginning"),
-        Reason::NoMark(name) => {
-            out.put_text("unknown mark ");
-            put_seen(out, name.as_slice());
-        }
-        Reason::TooLong => out.put_text("the line has more than 16,777,216 bytes"),
-    }
+    put_word_list(out, &NumberNaming, &question_reason_line(reason));
 }
 
 /// Writes that a line is bad, and why.
@@ -83,28 +104,30 @@ pub(crate) fn write_bad<W: Write>(
     reason: &Reason,
 ) -> Result<(), WriteFailed>
     ensures { WritesText (W.contents writer.old) (W.contents writer.new) result
-        (hash_line (codes "bad line: " ++ question_reason_text reason.now)) }
+        (hash_line plain (Fixed (codes "bad line:") ∷ Said (question_reason_text reason.now) ∷ [])) }
 {
     let mut out = TextWriter::new(writer, buffer);
-    out.put_text("# ");
-    out.put_text("bad line: ");
+    out.put_text("# bad line: ");
     put_why(&mut out, reason);
     out.put_byte(b'\n');
     out.finish()
 }
 
-/// What waits, and what is noted.
+/// What waits, and what is noted, after a space.
 fn put_idle<W: Write>(out: &mut TextWriter<'_, W>, cluster: &Cluster, pending: &[Pending])
-    ensures { Grows W.contents out.old out.new (idle_text cluster.now pending.now) }
+    ensures { Grows W.contents out.old out.new
+        (spaced_words (named_language cluster.now) (idle_words pending.now)) }
 {
-    if pending.is_empty() {
-        out.put_text("idle");
-    } else {
-        put_pending(out, cluster, pending);
+    match pending {
+        [] => out.put_text(" idle"),
+        [_, ..] => {
+            out.put_byte(b' ');
+            put_pending(out, cluster, pending);
+        }
     }
 }
 
-/// The table, the entry and the frame of a slot.
+/// The table, the entry and the frame of a slot, after a space.
 fn put_slot<W: Write>(
     out: &mut TextWriter<'_, W>,
     cluster: &Cluster,
@@ -113,7 +136,7 @@ fn put_slot<W: Write>(
     header: Option<u8>,
 )
     ensures { Grows W.contents out.old out.new
-        (spaced_word (slot_text cluster.now (table, entry) header)) }
+        (spaced_words (named_language cluster.now) (slot_words cluster.now (table, entry) header)) }
 {
     put_table(out, cluster, table);
     put_number(out, entry);
@@ -128,14 +151,15 @@ fn put_slot<W: Write>(
 /// A value of a signal and, if the encodings are given, its meaning, each after a space.
 fn put_signal<W: Write>(
     out: &mut TextWriter<'_, W>,
+    cluster: &Cluster,
     coded: Option<&Coded>,
     signal: u16,
     value: &Value,
 )
-    ensures { Grows W.contents out.old out.new
-        (spaced_word (shown_value (given_coding coded.entry) signal value.now)) }
+    ensures { Grows W.contents out.old out.new (spaced_words (named_language cluster.now)
+        (value_words (given_coding coded.entry) signal value.now)) }
 {
-    put_value(out, value);
+    put_all_after(out, cluster, &[Word::Value(value)]);
     let Some(coded) = coded else {
         return;
     };
@@ -146,57 +170,44 @@ fn put_signal<W: Write>(
     put_line_meaning(out, &meaning);
 }
 
-/// The versions of the program and of its objects, each after a space.
-fn put_versions<W: Write>(out: &mut TextWriter<'_, W>)
-    ensures { Grows W.contents out.old out.new
-        (spaced_word (program_version ++ spaced_word (decimal objects_version))) }
-{
-    out.put_byte(b' ');
-    out.put_text(PROGRAM_VERSION);
-    put_number(out, OBJECTS_VERSION);
-}
-
-/// A node with its diagnostic address, `-` for none.
+/// A node with its diagnostic address, `-` for none, after a space.
 fn put_node<W: Write>(out: &mut TextWriter<'_, W>, cluster: &Cluster, node: u8)
     requires { node < nodes cluster.now }
-    ensures { Grows W.contents out.old out.new (addressed_node cluster.now node) }
+    ensures { Grows W.contents out.old out.new
+        (spaced_words (named_language cluster.now) (addressed_node cluster.now node)) }
 {
-    put_seen(out, cluster.node_name(node));
-    match cluster.nad(node) {
-        Some(nad) => put_number(out, nad),
-        None => out.put_text(" -"),
-    }
+    let address = address_word(cluster.nad(node));
+    put_all_after(out, cluster, &[Word::Node(node), address]);
 }
 
-/// What precedes a node in a list: a comma and a space, except for the first one.
+/// What precedes a node in a list: a comma, except for the first one.
 fn put_gap<W: Write>(out: &mut TextWriter<'_, W>, node: usize)
-    ensures { Grows W.contents out.old out.new (if node == 0 then [] else codes ", ") }
+    ensures { Grows W.contents out.old out.new (if node == 0 then [] else codes ",") }
 {
     if node > 0 {
-        out.put_text(", ");
+        out.put_byte(b',');
     }
 }
 
 /// The nodes with their diagnostic addresses, after a space.
 fn put_nodes<W: Write>(out: &mut TextWriter<'_, W>, cluster: &Cluster)
-    ensures { Grows W.contents out.old out.new (spaced_word
-        (with_gaps (map (addressed_node cluster.now) (numbers (nodes cluster.now))))) }
+    ensures { Grows W.contents out.old out.new (spaced_words (named_language cluster.now)
+        (flat_map (node_words cluster.now) (numbers (nodes cluster.now)))) }
 {
-    out.put_byte(b' ');
     for node in 0..cluster.nodes() {
         put_gap(out, node);
         put_node(out, cluster, node as u8);
     }
 }
 
-/// The lines of rules.
-fn put_rules<W: Write>(out: &mut TextWriter<'_, W>, lines: &[Text])
-    ensures { Grows W.contents out.old out.new (rules_text lines.now) }
+/// The lines of rules, after a space.
+fn put_rules<W: Write>(out: &mut TextWriter<'_, W>, cluster: &Cluster, lines: &[Text])
+    ensures { Grows W.contents out.old out.new
+        (spaced_words (named_language cluster.now) (rule_words lines.now)) }
 {
-    if lines.is_empty() {
-        out.put_text("none");
-    } else {
-        put_texts(out, "; ", lines);
+    match lines {
+        [] => out.put_text(" none"),
+        [_, ..] => put_all_after(out, cluster, &[Word::Lines(lines)]),
     }
 }
 
@@ -208,16 +219,12 @@ pub(crate) fn put_answer<W: Write>(
     value: &AnswerValue,
 )
     ensures { Grows W.contents out.old out.new
-        (spaced_word (said_text cluster.now (given_coding coded.entry)
-        (as_said cluster.now value.now))) }
+        (said_text cluster.now (given_coding coded.entry) (as_said cluster.now value.now)) }
 {
     match value {
-        AnswerValue::Signal { signal, value } => put_signal(out, coded, *signal, value),
-        AnswerValue::Number(number) => put_number(out, *number),
-        AnswerValue::Pending(pending) => {
-            out.put_byte(b' ');
-            put_idle(out, cluster, pending.as_slice());
-        }
+        AnswerValue::Signal { signal, value } => put_signal(out, cluster, coded, *signal, value),
+        AnswerValue::Number(number) => put_all_after(out, cluster, &[Word::Number(*number)]),
+        AnswerValue::Pending(pending) => put_idle(out, cluster, pending.as_slice()),
         AnswerValue::Asleep(true) => out.put_text(" asleep"),
         AnswerValue::Asleep(false) => out.put_text(" awake"),
         AnswerValue::Open => out.put_text(" open"),
@@ -226,13 +233,17 @@ pub(crate) fn put_answer<W: Write>(
             entry,
             header,
         } => put_slot(out, cluster, *table, *entry, *header),
-        AnswerValue::Version => put_versions(out),
+        AnswerValue::Version => put_all_after(
+            out,
+            cluster,
+            &[
+                Word::Fixed(PROGRAM_VERSION),
+                Word::Number(u64::from(OBJECTS_VERSION)),
+            ],
+        ),
         AnswerValue::Nodes => put_nodes(out, cluster),
         AnswerValue::LastSlot(last) => put_last_slot(out, cluster, last.as_ref()),
-        AnswerValue::Rules(lines) => {
-            out.put_byte(b' ');
-            put_rules(out, lines.as_slice());
-        }
+        AnswerValue::Rules(lines) => put_rules(out, cluster, lines.as_slice()),
     }
 }
 
@@ -245,8 +256,7 @@ pub(crate) fn write_value<W: Write>(
     value: &AnswerValue,
 ) -> Result<(), WriteFailed>
     ensures { WritesText (W.contents writer.old) (W.contents writer.new) result
-        (hash_line (codes "is " ++ said_text cluster.now (given_coding coded.entry)
-        (as_said cluster.now value.now))) }
+        (hash_ending cluster.now (given_coding coded.entry) (Is (as_said cluster.now value.now))) }
 {
     let mut out = TextWriter::new(writer, buffer);
     out.put_text("# is");
@@ -261,13 +271,16 @@ fn put_steps_ending<W: Write>(out: &mut TextWriter<'_, W>, refusal: Option<Refus
         (hash_ending c k (steps_ending refusal)) }
 {
     match refusal {
-        None => put_ending(out, "ok"),
-        Some(refusal) => {
-            out.put_text("# refused");
-            put_number(out, refusal.number());
-            put_word(out, refusal.word());
-            out.put_byte(b'\n');
-        }
+        None => put_hash_line(out, &NumberNaming, &[Word::Fixed("ok")]),
+        Some(refusal) => put_hash_line(
+            out,
+            &NumberNaming,
+            &[
+                Word::Fixed("refused"),
+                Word::Number(u64::from(refusal.number())),
+                Word::Fixed(refusal.word()),
+            ],
+        ),
     }
 }
 
@@ -282,7 +295,7 @@ fn put_verdict_ending<W: Write>(
         (hash_line_ending core.now from k verdict.now) }
 {
     match verdict {
-        Verdict::SlotLimit => put_ending(out, "slot limit"),
+        Verdict::SlotLimit => put_hash_line(out, &NumberNaming, &[Word::Fixed("slot limit")]),
         Verdict::Unmet(expected, got) => {
             out.put_byte(b'#');
             put_verdict(out, core.cluster(), expected, got);

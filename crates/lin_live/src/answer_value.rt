@@ -4,7 +4,7 @@ ghost use Rattle.std.specs.Prelude.{◌≡◌, IfOk, IfSome};
 ghost use Rattle.lin_core.specs.Core.{past_of};
 ghost use Rattle.lin_export.specs.LastSlot.{IsKeptOf};
 ghost use Rattle.lin_live.specs.Asked.{IsAskable};
-ghost use Rattle.lin_live.specs.Values.{KeepsLastSlot, Words, as_said, next_text, said};
+ghost use Rattle.lin_live.specs.Values.{KeepsLastSlot, Words, as_said, next_words, said};
 
 use crate::question::Question;
 use lin_bench::{Bench, Pending};
@@ -48,7 +48,7 @@ pub(crate) enum AnswerValue {
 /// Which slot comes next.
 fn next(core: &Core) -> AnswerValue
     ensures { as_said core.now.cluster result
-        ≡ Words (next_text core.now.cluster core.now.opening (past_of core.now)) }
+        ≡ Words (next_words core.now.cluster core.now.opening (past_of core.now)) }
 {
     if core.asleep() {
         return AnswerValue::Asleep(true);

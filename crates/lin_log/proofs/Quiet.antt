@@ -1,5 +1,5 @@
 -- Words without LF.
-use Rattle.std.proofs.Common.{◌≡◌, ℕ, zero, suc, List, [], ◌∷◌, ◌++◌, refl, ap, ◌∙◌, append_assoc, sym, ◌/◌, ◌%◌, ◌<◌, ◌==◌, arith, Bool, true, false, nat_lt, flat_map, map, if◌then◌else◌}
+use Rattle.std.proofs.Common.{◌≡◌, ℕ, zero, suc, List, [], ◌∷◌, ◌++◌, refl, ap, ◌∙◌, append_assoc, sym, ◌/◌, ◌%◌, ◌<◌, ◌==◌, arith, Bool, true, false, nat_lt, flat_map, map, codes, Option, Some, None, if◌then◌else◌}
 use Rattle.std.specs.Fmt.{decimal, digits, digits_onto, digit_glyph}
 use Rattle.std.specs.List.{All, list_all}
 use Rattle.std.proofs.lemmas.Bool.{and_parts}
@@ -8,18 +8,20 @@ use Rattle.std.proofs.lemmas.List.Elements.{All-nil, All-cons}
 use Rattle.hex.specs.Hex.{encode_upper, encode_with, upper_digits}
 use Rattle.lin_frame.specs.declared.value.Value.{Value}
 use Rattle.lin_frame.specs.declared.value.Value.TheVariants.{Scalar, Bytes}
-use Rattle.lin_core.specs.Tables.{cause_word, look_word, refusal_word}
+use Rattle.lin_core.specs.Tables.{cause_word, direction_word, look_word, refusal_word}
 use Rattle.lin_core.specs.declared.event.Look.{Look}
 use Rattle.lin_core.specs.declared.event.Look.TheVariants as look
 use Rattle.lin_core.specs.declared.link.Cause.{Cause}
 use Rattle.lin_core.specs.declared.link.Cause.TheVariants as cause
+use Rattle.lin_core.specs.declared.link.Direction.{Direction}
+use Rattle.lin_core.specs.declared.link.Direction.TheVariants as direction
 use Rattle.lin_core.specs.declared.reply.Refusal.{Refusal}
 use Rattle.lin_core.specs.declared.reply.Refusal.TheVariants as refusal
 use Rattle.lin_log.specs.Language.{Called, Language, word_of}
-use Rattle.lin_log.specs.Laws.{AreNames, HasNames, all_visible, are_quiet, is_quiet, is_visible, no_end}
-use Rattle.lin_log.specs.Words.{Word, hex_word, line_tail, spaced_word, value_word, word_text}
-use Rattle.lin_log.specs.Words.Word.{Node, Table, Number, Hex, Raw, Fixed, Said}
-use Rattle.lin_log.proofs.CallerTexts.{quiet-seen-text}
+use Rattle.lin_log.specs.Laws.{AreNames, all_visible, are_quiet, is_quiet, is_visible, no_end}
+use Rattle.lin_log.specs.Words.{Word, byte_word, carried_word, hex_word, line_tail, port_word, spaced_word, value_word, word_text}
+use Rattle.lin_log.specs.Words.Word.{Port, Node, Signal, Table, Frame, Number, Range, Identifier, Hex, Matching, Raw, Fixed, Said, Fields, Listed, Lines, Mark}
+use Rattle.lin_log.proofs.CallerTexts.{quiet-seen-text, quiet-seen-texts}
 use Rattle.lin_log.proofs.Items.{at-place, both, item-name, joined, weaker}
 
 -- what holds of all bytes of words, and of a space
@@ -88,19 +90,46 @@ pub quiet-value : (v : Value) → is_quiet (value_word v) ≡ true
 quiet-value (Scalar n) = quiet-decimal n
 quiet-value (Bytes bytes) = rw (quiet-hex bytes) refl
 
--- ---- the words of replies
-pub quiet-word : (l : Language) → HasNames l → (w : Word) → is_quiet (word_text l w) ≡ true
-quiet-word l a (Node n) = quiet-called l.nodes a.of_nodes n
-quiet-word l a (Table t) = quiet-called l.tables a.of_tables t
-quiet-word l a (Number n) = quiet-decimal n
-quiet-word l a (Hex bytes) = quiet-hex bytes
-quiet-word l a (Raw value) = quiet-value value
-quiet-word l a (Fixed text) = quiet-seen-text text
-quiet-word l a (Said text) = quiet-seen-text text
+-- ---- patterns
+quiet-byte : (b : Option ℕ) → is_quiet (byte_word b) ≡ true
+quiet-byte None = refl
+quiet-byte (Some b) = quiet-hex (b ∷ [])
 
-pub quiet-words : (l : Language) → HasNames l → (ws : List Word) → are_quiet (map (word_text l) ws) ≡ true
-quiet-words l a [] = refl
-quiet-words l a (w ∷ ws) = both (is_quiet (word_text l w)) (are_quiet (map (word_text l) ws)) (quiet-word l a w) (quiet-words l a ws)
+quiet-bytes : (bs : List (Option ℕ)) → is_quiet (flat_map byte_word bs) ≡ true
+quiet-bytes [] = refl
+quiet-bytes (b ∷ bs) = joined no_end (byte_word b) (flat_map byte_word bs) (quiet-byte b) (quiet-bytes bs)
+
+quiet-star : (t : Bool) → is_quiet (if t then codes "*" else []) ≡ true
+quiet-star true = refl
+quiet-star false = refl
+
+-- ---- no word of a line has an LF, whatever it is
+pub quiet-word : (l : Language) (w : Word) → is_quiet (word_text l w) ≡ true
+quiet-word l (Port p) = quiet-seen-text (port_word l p)
+quiet-word l (Node n) = quiet-seen-text (word_of l.nodes n)
+quiet-word l (Signal s) = quiet-seen-text (word_of l.signals s)
+quiet-word l (Table t) = quiet-seen-text (word_of l.tables t)
+quiet-word l (Frame f) = quiet-seen-text (carried_word l.frames f)
+quiet-word l (Number n) = quiet-decimal n
+quiet-word l (Range low high) = joined no_end (decimal low) (codes ".." ++ decimal high) (quiet-decimal low) (quiet-decimal high)
+quiet-word l (Identifier n) = quiet-encoded (n ∷ [])
+quiet-word l (Hex bytes) = quiet-hex bytes
+quiet-word l (Matching p) = joined no_end (flat_map byte_word p.bytes) (if p.more then codes "*" else []) (quiet-bytes p.bytes) (quiet-star p.more)
+quiet-word l (Raw value) = quiet-value value
+quiet-word l (Fixed text) = quiet-seen-text text
+quiet-word l (Said text) = quiet-seen-text text
+quiet-word l (Fields fields) = quiet-seen-texts (codes " ") refl fields
+quiet-word l (Listed texts) = quiet-seen-texts (codes ", ") refl texts
+quiet-word l (Lines lines) = quiet-seen-texts (codes "; ") refl lines
+quiet-word l (Mark text) = quiet-seen-text text
+
+pub quiet-words : (l : Language) (ws : List Word) → are_quiet (map (word_text l) ws) ≡ true
+quiet-words l [] = refl
+quiet-words l (w ∷ ws) = both (is_quiet (word_text l w)) (are_quiet (map (word_text l) ws)) (quiet-word l w) (quiet-words l ws)
+
+pub quiet-direction : (d : Direction) → is_quiet (direction_word d) ≡ true
+quiet-direction direction.Down = refl
+quiet-direction direction.Up = refl
 
 pub quiet-cause : (c : Cause) → is_quiet (cause_word c) ≡ true
 quiet-cause cause.Damaged = refl

@@ -10,7 +10,8 @@ use Rattle.lin_core.specs.Runs.{steps_of}
 use Rattle.lin_core.specs.declared.log.LogEntry.{LogEntry}
 use Rattle.lin_core.specs.declared.port.PortId.{PortId}
 use Rattle.lin_core.specs.declared.step.Step.{Step}
-use Rattle.lin_log.specs.Words.{Word, line_tail, log_text, port_word, reply_line, spaced_word, step_line, step_words, word_text}
+use Rattle.lin_log.specs.Words.{Word, line_tail, log_text, reply_line, spaced_word, step_line, step_words, word_text}
+use Rattle.lin_log.specs.Words.Word.{Port}
 use Rattle.lin_log.proofs.Quiet.{line-end, no-end, quiet-spaced, quiet-words, spaced-keeps, visible-end}
 use Rattle.lin_log.specs.Language.{Language}
 use Rattle.lin_log.specs.Laws.{FitsEntry, HasNames, TextsAgain, is_quiet, is_visible, no_end, step_body}
@@ -66,25 +67,25 @@ stripped-says : (l : Language) (cs : List ℕ) → line_says l (strip_carriage_r
 stripped-says l [] = reply-says l []
 stripped-says l (x ∷ xs) = stripped-by l x xs (slice_index (62 ∷ x ∷ xs) (length (62 ∷ x ∷ xs) - 1) == 13)
 
-reply-before : (l : Language) → HasNames l → (ws : List Word) (rest : List ℕ) (xs : List (PortId × Step)) → Says l rest xs → Says l (reply_line l ws ++ rest) xs
-reply-before l a ws rest xs k =
+reply-before : (l : Language) (ws : List Word) (rest : List ℕ) (xs : List (PortId × Step)) → Says l rest xs → Says l (reply_line l ws ++ rest) xs
+reply-before l ws rest xs k =
     let texts = map (word_text l) ws in
     let e : reply_line l ws ++ rest ≡ 62 ∷ (flat_map spaced_word texts ++ 10 ∷ rest) = ap (λ t. 62 ∷ t) (line-end texts rest) in
     subst (λ t. Says l t xs) (sym e)
-    (quiet-before l (62 ∷ flat_map spaced_word texts) rest xs (quiet-spaced texts (quiet-words l a ws)) (stripped-says l (flat_map spaced_word texts)) k)
+    (quiet-before l (62 ∷ flat_map spaced_word texts) rest xs (quiet-spaced texts (quiet-words l ws)) (stripped-says l (flat_map spaced_word texts)) k)
 
-replies-before : (l : Language) → HasNames l → (rs : List (List Word)) (rest : List ℕ) (xs : List (PortId × Step)) → Says l rest xs
+replies-before : (l : Language) (rs : List (List Word)) (rest : List ℕ) (xs : List (PortId × Step)) → Says l rest xs
     → Says l (flat_map (reply_line l) rs ++ rest) xs
-replies-before l a [] rest xs k = k
-replies-before l a (r ∷ rs) rest xs k =
+replies-before l [] rest xs k = k
+replies-before l (r ∷ rs) rest xs k =
     subst (λ t. Says l t xs) (sym (append_assoc (reply_line l r) (flat_map (reply_line l) rs) rest))
-    (reply-before l a r (flat_map (reply_line l) rs ++ rest) xs (replies-before l a rs rest xs k))
+    (reply-before l r (flat_map (reply_line l) rs ++ rest) xs (replies-before l rs rest xs k))
 
 entry-before : (l : Language) (p : PortId) (s : Step) (rest : List ℕ) (xs : List (PortId × Step)) → HasNames l → (FitsPort p × FitsStep s) → Says l rest xs
     → Says l (step_line l p s ++ rest) ((p, s) ∷ xs)
 entry-before l p s rest xs a h k =
-    let w = port_word l p in
-    let ws = step_words l s in
+    let w = word_text l (Port p) in
+    let ws = map (word_text l) (step_words s) in
     let e : step_line l p s ++ rest ≡ step_body l p s ++ 10 ∷ rest =
     append_assoc w (line_tail ws) rest ∙ ap (λ t. w ++ t) (line-end ws rest) ∙ sym (append_assoc w (flat_map spaced_word ws) (10 ∷ rest)) in
     let all : (q : ℕ → Bool) → q 32 ≡ true → ((x : ℕ) → is_visible x ≡ true → q x ≡ true) → list_all q (step_body l p s) ≡ true =
@@ -101,7 +102,7 @@ log-says : (l : Language) (replies : LogEntry → List LogEntry → List (List W
 log-says l replies past [] a fits = nothing-left l
 log-says l replies past (e ∷ es) a fits =
     entry-before l e.port e.step (flat_map (reply_line l) (replies e past) ++ log_text l replies (e ∷ past) es) (steps_of es) a (All-head FitsEntry e es fits)
-    (replies-before l a (replies e past) (log_text l replies (e ∷ past) es) (steps_of es) (log-says l replies (e ∷ past) es a (All-tail FitsEntry e es fits)))
+    (replies-before l (replies e past) (log_text l replies (e ∷ past) es) (steps_of es) (log-says l replies (e ∷ past) es a (All-tail FitsEntry e es fits)))
 
 pub texts-again : TextsAgain
 unfolding text_says

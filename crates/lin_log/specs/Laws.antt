@@ -1,6 +1,6 @@
 -- What is written in a language is read again in it.
 use Rattle.std.specs.Prelude.{◌≡◌, ◌<◌, ℕ, ◌==◌, ◌||◌, ◌&&◌, ◌++◌, Bool, true, false, not, nat_lt}
-use Rattle.std.specs.Prelude.{List, [], ◌∷◌, Ok, Option, Some, flat_map}
+use Rattle.std.specs.Prelude.{List, [], ◌∷◌, Ok, Option, Some, flat_map, map}
 use Rattle.std.specs.List.{All, list_all}
 use Rattle.lin_core.specs.Fits.{FitsPort, FitsStep}
 use Rattle.lin_core.specs.Runs.{steps_of}
@@ -9,7 +9,8 @@ use Rattle.lin_core.specs.declared.port.PortId.{PortId}
 use Rattle.lin_core.specs.declared.step.Step.{Step}
 use Rattle.lin_log.specs.Language.{Called, Language, plain}
 use Rattle.lin_log.specs.Said.{is_digit, line_says, text_says}
-use Rattle.lin_log.specs.Words.{Word, log_text, port_word, spaced_word, step_words}
+use Rattle.lin_log.specs.Words.{Word, log_text, spaced_word, step_words, word_text}
+use Rattle.lin_log.specs.Words.Word.{Port}
 
 abbrev pub is_visible : ℕ → Bool
 is_visible b = nat_lt 32 b && nat_lt b 127
@@ -35,7 +36,7 @@ pub record HasNames (l : Language) : Type 0 where
 
 -- a port and its step, on one line without its end
 abbrev pub step_body : Language → PortId → Step → List ℕ
-step_body l p s = port_word l p ++ flat_map spaced_word (step_words l s)
+step_body l p s = word_text l (Port p) ++ flat_map spaced_word (map (word_text l) (step_words s))
 
 abbrev pub LinesAgain : Type 0
 LinesAgain = (l : Language) (p : PortId) (s : Step) → HasNames l → FitsPort p → FitsStep s

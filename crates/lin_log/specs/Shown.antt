@@ -1,19 +1,32 @@
 -- What the words of the code show.
-use Rattle.std.specs.Prelude.{ℕ, List, [], ◌∷◌, ◌++◌, codes}
-use Rattle.std.specs.Fmt.{decimal}
-use Rattle.hex.specs.Hex.{encode_upper}
-use Rattle.lin_log.specs.CallerTexts.{seen_text}
-use Rattle.lin_log.specs.Words.{hex_word}
-use Rattle.lin_log.specs.declared.line_words.Word.{Word}
-use Rattle.lin_log.specs.declared.line_words.Word.TheVariants.{Text, Name, Said, Number, Byte}
-use Rattle.lin_log.specs.declared.line_words.Word.TheVariants.{Identifier, Hex, Array}
+use Rattle.std.specs.Prelude.{ℕ, List, [], ◌∷◌}
+use Rattle.lin_log.specs.Language.{plain}
+use Rattle.lin_log.specs.Words.{Word, word_text}
+use Rattle.lin_log.specs.Words.Word.{Node, Signal, Table, Frame, Number, Range, Identifier}
+use Rattle.lin_log.specs.Words.Word.{Hex, Matching, Raw, Fixed, Said, Fields, Listed, Lines, Mark}
+use Rattle.lin_log.specs.declared.line_words.Word.{Word as CodeWord}
+use Rattle.lin_log.specs.declared.line_words.Word.TheVariants as code
 
-abbrev pub word_shown : Word → List ℕ
-word_shown (Text t) = t.now
-word_shown (Name name) = name.now
-word_shown (Said text) = seen_text text.now
-word_shown (Number n) = decimal n
-word_shown (Byte b) = encode_upper (b ∷ [])
-word_shown (Identifier i) = codes "0x" ++ encode_upper (i ∷ [])
-word_shown (Hex bytes) = hex_word bytes.now
-word_shown (Array bytes) = 120 ∷ hex_word bytes.now
+-- what a word of the code says
+abbrev pub as_word : CodeWord → Word
+as_word (code.Node n) = Node n
+as_word (code.Signal s) = Signal s
+as_word (code.Table t) = Table t
+as_word (code.Frame f) = Frame f
+as_word (code.Number n) = Number n
+as_word (code.Range low high) = Range low high
+as_word (code.Byte b) = Hex (b ∷ [])
+as_word (code.Identifier i) = Identifier i
+as_word (code.Bytes bytes) = Hex bytes.now
+as_word (code.Pattern p) = Matching p.now
+as_word (code.Value v) = Raw v.now
+as_word (code.Fixed text) = Fixed text.now
+as_word (code.Said text) = Said text.now
+as_word (code.Fields fields) = Fields fields.now
+as_word (code.Listed texts) = Listed texts.now
+as_word (code.Lines lines) = Lines lines.now
+as_word (code.Mark text) = Mark text.now
+
+-- its text by numbers alone
+abbrev pub word_shown : CodeWord → List ℕ
+word_shown w = word_text plain (as_word w)

@@ -1,4 +1,4 @@
--- The words of steps and replies, and the text of a log: entries as lines, lines as words.
+-- A line is a list of words: those of steps and replies, and the text of a log.
 use Rattle.std.specs.Prelude.{ℕ, List, [], ◌∷◌, ◌++◌, Option, Some, None, codes, flat_map, map, nat_lt}
 use Rattle.std.specs.Prelude.{if◌then◌else◌}
 use Rattle.std.specs.Fmt.{decimal}
@@ -20,8 +20,11 @@ use Rattle.lin_core.specs.declared.event.Seen.{Seen}
 use Rattle.lin_core.specs.declared.reply.Reply.{Reply}
 use Rattle.lin_core.specs.declared.reply.Reply.TheVariants.{Done, Refused}
 use Rattle.lin_core.specs.declared.log.LogEntry.{LogEntry}
-use Rattle.lin_log.specs.CallerTexts.{seen_text}
-use Rattle.lin_log.specs.Language.{Language, plain, word_of}
+use Rattle.lin_log.specs.CallerTexts.{seen_text, seen_texts}
+use Rattle.lin_log.specs.Language.{Called, Language, plain, word_of}
+use Rattle.lin_log.specs.declared.line_words.Carried.{Carried}
+use Rattle.lin_log.specs.declared.line_words.Carried.TheVariants.{Signals, Request, Response}
+use Rattle.lin_log.specs.declared.pattern.Pattern.{Pattern}
 
 -- a line: its words with one space between two, and LF
 abbrev pub spaced_word : List ℕ → List ℕ
@@ -55,42 +58,76 @@ port_word l ports.Bus = codes "bus"
 port_word l (ports.Host n) = 104 ∷ port_number_word l n
 port_word l (ports.Node n) = 110 ∷ port_number_word l n
 
--- a word of a line of a reply
+abbrev pub carried_word : Called → Carried → List ℕ
+carried_word frames (Signals f) = word_of frames f
+carried_word frames Request = codes "MasterReq"
+carried_word frames Response = codes "SlaveResp"
+
+-- a pattern as one field: `..` for any byte, and `*` where more bytes may follow
+abbrev pub byte_word : Option ℕ → List ℕ
+byte_word None = codes ".."
+byte_word (Some b) = encode_upper (b ∷ [])
+
+abbrev pub pattern_word : Pattern → List ℕ
+pattern_word p = flat_map byte_word p.bytes ++ (if p.more then codes "*" else [])
+
+-- a word of a line; or a mark, which has no space before it
 pub data Word : Type 0 where
+  Port : (port : PortId) → Word
   Node : (node : ℕ) → Word
+  Signal : (signal : ℕ) → Word
   Table : (table : ℕ) → Word
+  Frame : (frame : Carried) → Word
   Number : (number : ℕ) → Word
+  Range : (low : ℕ) → (high : ℕ) → Word
+  Identifier : (number : ℕ) → Word
   Hex : (bytes : List ℕ) → Word
+  Matching : (pattern : Pattern) → Word
   Raw : (value : Value) → Word
   Fixed : (text : List ℕ) → Word
   Said : (text : List ℕ) → Word
+  Fields : (fields : List (List ℕ)) → Word
+  Listed : (texts : List (List ℕ)) → Word
+  Lines : (lines : List (List ℕ)) → Word
+  Mark : (text : List ℕ) → Word
 
--- its text: a word of the language and a text of the caller's have `?` in the place of each LF
+-- the text of a word: names and texts with `?` in the place of each LF, which no other word has
 abbrev pub word_text : Language → Word → List ℕ
-word_text l (Node n) = word_of l.nodes n
-word_text l (Table t) = word_of l.tables t
+word_text l (Port p) = seen_text (port_word l p)
+word_text l (Node n) = seen_text (word_of l.nodes n)
+word_text l (Signal s) = seen_text (word_of l.signals s)
+word_text l (Table t) = seen_text (word_of l.tables t)
+word_text l (Frame f) = seen_text (carried_word l.frames f)
 word_text l (Number n) = decimal n
+word_text l (Range low high) = decimal low ++ (codes ".." ++ decimal high)
+word_text l (Identifier n) = codes "0x" ++ encode_upper (n ∷ [])
 word_text l (Hex bytes) = hex_word bytes
+word_text l (Matching p) = pattern_word p
 word_text l (Raw value) = value_word value
 word_text l (Fixed text) = seen_text text
 word_text l (Said text) = seen_text text
+word_text l (Fields fields) = seen_texts (codes " ") fields
+word_text l (Listed texts) = seen_texts (codes ", ") texts
+word_text l (Lines lines) = seen_texts (codes "; ") lines
+word_text l (Mark text) = seen_text text
 
 -- what a step is called, and its parts
-abbrev pub step_words : Language → Step → List (List ℕ)
-step_words l (Send from to message) =
-    codes "send" ∷ word_of l.nodes from ∷ word_of l.nodes to ∷ hex_word message ∷ []
-step_words l (Write by signal value) =
-    codes "write" ∷ word_of l.nodes by ∷ word_of l.signals signal ∷ value_word value ∷ []
-step_words l Open = codes "open" ∷ []
-step_words l (Answer node) = codes "answer" ∷ word_of l.nodes node ∷ []
-step_words l (Leave node) = codes "leave" ∷ word_of l.nodes node ∷ []
-step_words l (Hurt bytes) = codes "hurt" ∷ hex_word bytes ∷ []
-step_words l Finish = codes "finish" ∷ []
-step_words l (Timeout node dir) = codes "timeout" ∷ word_of l.nodes node ∷ direction_word dir ∷ []
-step_words l (Switch table) = codes "switch" ∷ word_of l.tables table ∷ []
-step_words l AskSleep = codes "sleep" ∷ []
-step_words l Wake = codes "wake" ∷ []
-step_words l (Close host) = codes "close" ∷ word_of l.nodes host ∷ []
+abbrev pub step_words : Step → List Word
+step_words (Send from to message) =
+    Fixed (codes "send") ∷ Node from ∷ Node to ∷ Hex message ∷ []
+step_words (Write by signal value) =
+    Fixed (codes "write") ∷ Node by ∷ Signal signal ∷ Raw value ∷ []
+step_words Open = Fixed (codes "open") ∷ []
+step_words (Answer node) = Fixed (codes "answer") ∷ Node node ∷ []
+step_words (Leave node) = Fixed (codes "leave") ∷ Node node ∷ []
+step_words (Hurt bytes) = Fixed (codes "hurt") ∷ Hex bytes ∷ []
+step_words Finish = Fixed (codes "finish") ∷ []
+step_words (Timeout node dir) =
+    Fixed (codes "timeout") ∷ Node node ∷ Fixed (direction_word dir) ∷ []
+step_words (Switch table) = Fixed (codes "switch") ∷ Table table ∷ []
+step_words AskSleep = Fixed (codes "sleep") ∷ []
+step_words Wake = Fixed (codes "wake") ∷ []
+step_words (Close host) = Fixed (codes "close") ∷ Node host ∷ []
 
 -- how a slot was seen, and the response of a good one
 abbrev pub seen_words : Seen → List Word
@@ -121,7 +158,7 @@ reply_words (Refused r) = (Fixed (codes "refused") ∷ Number (refusal_number r)
 
 -- the line of a step begins with its port, a line of a reply with `>`
 abbrev pub step_line : Language → PortId → Step → List ℕ
-step_line l port step = line (port_word l port ∷ step_words l step)
+step_line l port step = line (map (word_text l) (Port port ∷ step_words step))
 
 abbrev pub reply_line : Language → List Word → List ℕ
 reply_line l words = line (codes ">" ∷ map (word_text l) words)

@@ -1,11 +1,11 @@
-//! How nodes, signals and schedule tables are called.
+//! How nodes, signals, schedule tables and frames are called.
 
 ghost use Rattle.std.specs.Prelude.{◌≡◌, option_map};
 ghost use Rattle.lin_log.specs.Language.{Language, name_at, named_language, number_named, plain};
 
 use lin_parts::Cluster;
 
-/// How nodes, signals and schedule tables are called in lines of steps, and how freely the lines
+/// How nodes, signals, schedule tables and frames are called in lines, and how freely lines of steps
 /// may be written.
 pub trait Naming {
     ghost language: { Self → Language };
@@ -33,6 +33,10 @@ pub trait Naming {
     /// The name of a schedule table, where it has one.
     fn name_of_table(&self, table: u16) -> Option<&[u8]>
         ensures { option_map (λ w. w.now) result ≡ name_at (language self.now).tables table };
+
+    /// The name of a frame, where it has one.
+    fn name_of_frame(&self, frame: u16) -> Option<&[u8]>
+        ensures { option_map (λ w. w.now) result ≡ name_at (language self.now).frames frame };
 
     /// The node that publishes a signal.
     fn publisher_of(&self, signal: u16) -> u8
@@ -77,6 +81,10 @@ impl Naming for NumberNaming {
 
     #[inline]
     fn name_of_table(&self, _table: u16) -> Option<&[u8]> {
+        None
+    }
+
+    fn name_of_frame(&self, _frame: u16) -> Option<&[u8]> {
         None
     }
 
@@ -125,6 +133,14 @@ impl Naming for Cluster {
     fn name_of_table(&self, table: u16) -> Option<&[u8]> {
         if (table as usize) < self.tables() {
             Some(self.table_name(table))
+        } else {
+            None
+        }
+    }
+
+    fn name_of_frame(&self, frame: u16) -> Option<&[u8]> {
+        if (frame as usize) < self.frames() {
+            Some(self.frame_name(frame))
         } else {
             None
         }

@@ -4,10 +4,13 @@ ghost use Rattle.std.specs.Prelude.{◌∷◌, ◌++◌, flat_map, map};
 ghost use Rattle.std.specs.Fmt.{decimal};
 ghost use Rattle.std.specs.Option.{option_map_or, option_to_list};
 ghost use Rattle.lin_text.specs.Written.{Grows};
-ghost use Rattle.lin_log.specs.Language.{Language, word_of};
-ghost use Rattle.lin_log.specs.Words.{event_words, hex_word, port_number_word, port_word};
-ghost use Rattle.lin_log.specs.Words.{seen_words, spaced_word, step_words, value_word, word_text};
+ghost use Rattle.lin_log.specs.CallerTexts.{seen_text};
+ghost use Rattle.lin_log.specs.Language.{Language};
+ghost use Rattle.lin_log.specs.Words.{event_words, hex_word, port_number_word, seen_words};
+ghost use Rattle.lin_log.specs.Words.{spaced_word, step_words, value_word, word_text};
+ghost use Rattle.lin_log.specs.Words.Word.{Node, Port, Signal, Table};
 
+use crate::caller_texts::put_seen;
 use crate::naming::Naming;
 use itoa::Integer;
 use lin_core::{Event, Listed, PortId, Seen, Step};
@@ -37,12 +40,12 @@ pub fn put_number<W: Write, I: Integer>(out: &mut TextWriter<'_, W>, number: I)
 #[inline(always)]
 pub(crate) fn put_called<W: Write>(out: &mut TextWriter<'_, W>, name: Option<&[u8]>, number: u64)
     ensures { Grows W.contents out.old out.new
-        (spaced_word (option_map_or (λ w. w.now) name.entry (decimal number))) }
+        (spaced_word (option_map_or (λ w. seen_text w.now) name.entry (decimal number))) }
 {
     match name {
         Some(name) => {
             out.put_byte(b' ');
-            out.put(name);
+            put_seen(out, name);
         }
         None => out.put_numbered(b' ', number),
     }
@@ -52,7 +55,7 @@ pub(crate) fn put_called<W: Write>(out: &mut TextWriter<'_, W>, name: Option<&[u
 #[inline(always)]
 pub fn put_node<N: Naming, W: Write>(out: &mut TextWriter<'_, W>, names: &N, node: u8)
     ensures { Grows W.contents out.old out.new
-        (spaced_word (word_of (N.language names.now).nodes node)) }
+        (spaced_word (word_text (N.language names.now) (Node node))) }
 {
     put_called(out, names.name_of_node(node), u64::from(node));
 }
@@ -61,7 +64,7 @@ pub fn put_node<N: Naming, W: Write>(out: &mut TextWriter<'_, W>, names: &N, nod
 #[inline]
 pub fn put_signal<N: Naming, W: Write>(out: &mut TextWriter<'_, W>, names: &N, signal: u16)
     ensures { Grows W.contents out.old out.new
-        (spaced_word (word_of (N.language names.now).signals signal)) }
+        (spaced_word (word_text (N.language names.now) (Signal signal))) }
 {
     put_called(out, names.name_of_signal(signal), u64::from(signal));
 }
@@ -70,7 +73,7 @@ pub fn put_signal<N: Naming, W: Write>(out: &mut TextWriter<'_, W>, names: &N, s
 #[inline]
 pub fn put_table<N: Naming, W: Write>(out: &mut TextWriter<'_, W>, names: &N, table: u16)
     ensures { Grows W.contents out.old out.new
-        (spaced_word (word_of (N.language names.now).tables table)) }
+        (spaced_word (word_text (N.language names.now) (Table table))) }
 {
     put_called(out, names.name_of_table(table), u64::from(table));
 }
@@ -79,13 +82,13 @@ pub fn put_table<N: Naming, W: Write>(out: &mut TextWriter<'_, W>, names: &N, ta
 #[inline(always)]
 fn put_lettered<N: Naming, W: Write>(out: &mut TextWriter<'_, W>, names: &N, letter: u8, node: u8)
     ensures { Grows W.contents out.old out.new
-        (letter ∷ port_number_word (N.language names.now) node) }
+        (letter ∷ seen_text (port_number_word (N.language names.now) node)) }
 {
     match names.name_of_node(node) {
         Some(name) => {
             out.put_byte(letter);
             out.put_byte(b':');
-            out.put(name);
+            put_seen(out, name);
         }
         None => out.put_numbered(letter, u64::from(node)),
     }
@@ -93,7 +96,7 @@ fn put_lettered<N: Naming, W: Write>(out: &mut TextWriter<'_, W>, names: &N, let
 
 /// A port.
 pub fn put_port<N: Naming, W: Write>(out: &mut TextWriter<'_, W>, names: &N, port: PortId)
-    ensures { Grows W.contents out.old out.new (port_word (N.language names.now) port) }
+    ensures { Grows W.contents out.old out.new (word_text (N.language names.now) (Port port)) }
 {
     match port {
         PortId::Bus => out.put_text("bus"),
@@ -137,7 +140,7 @@ pub fn put_value<W: Write>(out: &mut TextWriter<'_, W>, value: &Value)
 /// A step.
 pub fn put_step<N: Naming, W: Write>(out: &mut TextWriter<'_, W>, names: &N, step: &Step)
     ensures { Grows W.contents out.old out.new
-        (flat_map spaced_word (step_words (N.language names.now) step.now)) }
+        (flat_map spaced_word (map (word_text (N.language names.now)) (step_words step.now))) }
 {
     match step {
         Step::Send { from, to, message } => {
@@ -179,7 +182,7 @@ pub fn put_step<N: Naming, W: Write>(out: &mut TextWriter<'_, W>, names: &N, ste
 #[inline(always)]
 fn put_lone_node<N: Naming, W: Write>(out: &mut TextWriter<'_, W>, names: &N, word: &str, node: u8)
     ensures { Grows W.contents out.old out.new
-        (word.now ++ spaced_word (word_of (N.language names.now).nodes node)) }
+        (word.now ++ spaced_word (word_text (N.language names.now) (Node node))) }
 {
     out.put_text(word);
     put_node(out, names, node);
@@ -194,7 +197,7 @@ fn put_header<W: Write>(out: &mut TextWriter<'_, W>, header: Option<u8>)
     }
 }
 
-fn put_seen<W: Write>(out: &mut TextWriter<'_, W>, seen: &Seen)
+fn put_seen_words<W: Write>(out: &mut TextWriter<'_, W>, seen: &Seen)
     ensures { (l : Language) → Grows W.contents out.old out.new
         (flat_map spaced_word (map (word_text l) (seen_words seen.now))) }
 {
@@ -214,7 +217,7 @@ fn put_fate<N: Naming, W: Write>(
     number: u32,
 )
     ensures { Grows W.contents out.old out.new
-        (word.now ++ (spaced_word (word_of (N.language names.now).nodes host)
+        (word.now ++ (spaced_word (word_text (N.language names.now) (Node host))
         ++ spaced_word (decimal number))) }
 {
     put_lone_node(out, names, word, host);
@@ -244,7 +247,7 @@ pub fn put_event<N: Naming, W: Write>(out: &mut TextWriter<'_, W>, names: &N, ev
             put_lone_node(out, names, " put", *node);
             put_bytes(out, answer.as_slice());
         }
-        Event::Seen(seen) => put_seen(out, seen),
+        Event::Seen(seen) => put_seen_words(out, seen),
         Event::Message { from, to, bytes } => {
             put_lone_node(out, names, " message", *from);
             put_node(out, names, *to);

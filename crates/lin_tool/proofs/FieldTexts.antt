@@ -24,7 +24,6 @@ use Rattle.lin_field.proofs.Mended.{marks_blanked}
 use Rattle.lin_text.specs.Written.{WritesText}
 use Rattle.lin_text.specs.declared.fault.WriteFailed.{WriteFailed}
 use Rattle.lin_tool.specs.Clusters.{IsParseFault}
-use Rattle.lin_parts.specs.declared.description.Description.{Description}
 use Rattle.lin_parts.specs.Configured.{with_configuration, entry_with, line_with, table_with}
 use Rattle.lin_parts.specs.declared.parts.Entry.{Entry}
 use Rattle.lin_parts.specs.declared.parts.Entry.TheVariants.{Frame, Sporadic, Event, MasterReq, SlaveResp, Fixed, Quiet}
@@ -117,21 +116,22 @@ resent x s k ts us (Ok d) warned same h = record {
 resent x s k ts us (Err fault) warned same h = h
 
 -- what the bytes that are left say is what the text says
-pub field_says : (x : Extras) (text left : List ℕ) (d : Description) (k : ExtraSections) → IsReadOver text left
-    → k ≡ sections_read true x d (symbols_in left (start_of left).tokens) → FieldSays x text d k (symbols_in left (start_of left).tokens)
-field_says x text left d k (ts, are, is) says =
+pub field_says : (x : Extras) (text left : List ℕ) (s : Normalized) (k : ExtraSections) → IsReadOver text left
+    → k ≡ sections_read (Some s.wide) x s.description (symbols_in left (start_of left).tokens)
+    → FieldSays x text s k (symbols_in left (start_of left).tokens)
+field_says x text left s k (ts, are, is) says =
     (ts, are, (ap (λ bytes. symbols_in bytes (start_of bytes).tokens) is ∙ marks_blanked (field_bytes text) ts are, says))
 
 -- and what is answered to what it is settled to
 pub checked : (x : Extras) (r : Result Described Fault) (text left given : List ℕ) (s : Normalized) (k : ExtraSections) (warned : List Remark) (told : Option (List ℕ))
     → IfSome told (λ bytes. text ≡ bytes) → length text ≤ 4194304 → IsNormalized text s × IsReadOver text left
-    → k ≡ sections_read true x s.description (symbols_in left (start_of left).tokens) → (x.is_configured ≡ true → given ≡ left)
+    → k ≡ sections_read (Some s.wide) x s.description (symbols_in left (start_of left).tokens) → (x.is_configured ≡ true → given ≡ left)
     → AnswersChecked x s k (symbols_in given (start_of given).tokens) r warned → AnswersField x r warned told
 checked x (Ok d) text left given s k warned told is short (settled, over) says same h =
     let said : List Symbol = symbols_in left (start_of left).tokens in
     let sent = resent x s k (symbols_in given (start_of given).tokens) said (Ok d) warned
     (λ on. ap (λ bytes. symbols_in bytes (start_of bytes).tokens) (same on)) h in
-    (text, is, short, (s, settled, (k, (said, (field_says x text left s.description k over says, sent)))))
+    (text, is, short, (s, settled, (k, (said, (field_says x text left s k over says, sent)))))
 checked x (Err (Remarks found)) text left given s k warned told is short (settled, over) says same h = (text, is, short, (s, settled, h))
 checked x (Err OutOfMemory) text left given s k warned told is short both says same h = tt
 checked x (Err _) text left given s k warned told is short both says same h = absurd h

@@ -29,9 +29,9 @@ use Rattle.lin_core.specs.declared.reply.Reply.TheVariants.{Done, Refused}
 use Rattle.lin_core.specs.declared.step.Step.{Step}
 use Rattle.lin_core.specs.declared.step.Step.TheVariants.{Send, Write, Open, Answer, Leave, Hurt, Finish, Timeout, Switch, AskSleep, Wake, Close}
 use Rattle.lin_log.specs.Language.{nameless, plain, word_of}
-use Rattle.lin_log.specs.CallerTexts.{seen_text}
-use Rattle.lin_log.specs.Words.{Word, event_words, hex_word, line, line_tail, log_text, port_number_word, port_word, reply_line, reply_words, seen_words, step_line, step_words, text, value_word, word_text}
-use Rattle.lin_log.specs.Words.Word.{Fixed, Number}
+use Rattle.lin_log.specs.CallerTexts.{seen_byte, seen_text}
+use Rattle.lin_log.specs.Words.{Word, event_words, hex_word, line, line_tail, log_text, port_number_word, reply_line, reply_words, seen_words, step_line, step_words, text, value_word, word_text}
+use Rattle.lin_log.specs.Words.Word.{Fixed, Number, Port}
 use Rattle.lin_log.proofs.Items.{at-place, both, joined}
 use Rattle.lin_values.specs.Coded.{CodedData, RangeData, encoding_of, range_in}
 use Rattle.lin_values.specs.Shown.{decimal_shown, fraction, last_digits, sign}
@@ -186,14 +186,26 @@ log-head-inert c k =
     (more (coded_lines c k) (line (codes "log" ∷ [])) (coded-inert c k) refl)
 
 -- ---- the log, by numbers
-called-inert : (n : ℕ) → is_inert (word_of nameless n) ≡ true
-called-inert n = where-so (nat_lt n 0) [] (decimal n) refl (number-inert n)
+byte-seen : (b : ℕ) (t : Bool) → no_less b ≡ true → no_less (if t then 63 else b) ≡ true
+byte-seen b true h = refl
+byte-seen b false h = h
 
-way-inert : (d : Direction) → is_inert (direction_word d) ≡ true
+text-seen : (t : List ℕ) → is_inert t ≡ true → is_inert (seen_text t) ≡ true
+text-seen [] h = refl
+text-seen (b ∷ bs) h =
+    let p = and_parts (no_less b) (is_inert bs) h in both (no_less (seen_byte b)) (is_inert (seen_text bs)) (byte-seen b (b == 10) p.0) (text-seen bs p.1)
+
+called-inert : (n : ℕ) → is_inert (seen_text (word_of nameless n)) ≡ true
+called-inert n = text-seen (word_of nameless n) (where-so (nat_lt n 0) [] (decimal n) refl (number-inert n))
+
+way-inert : (d : Direction) → is_inert (seen_text (direction_word d)) ≡ true
 way-inert direction.Down = refl
 way-inert direction.Up = refl
 
-step-inert : (s : Step) → are_inert (step_words plain s) ≡ true
+abbrev are_said : List Word → Bool
+are_said ws = are_inert (map (word_text plain) ws)
+
+step-inert : (s : Step) → are_said (step_words s) ≡ true
 step-inert (Send from to message) = rw (called-inert from, called-inert to, hex-inert message) refl
 step-inert (Write by signal value) = rw (called-inert by, called-inert signal, value-inert value) refl
 step-inert Open = refl
@@ -210,13 +222,10 @@ step-inert (Close host) = rw (called-inert host) refl
 port-number-inert : (n : ℕ) → is_inert (port_number_word plain n) ≡ true
 port-number-inert n = where-so (nat_lt n 0) (58 ∷ []) (decimal n) refl (number-inert n)
 
-port-inert : (p : PortId) → is_inert (port_word plain p) ≡ true
+port-inert : (p : PortId) → is_inert (word_text plain (Port p)) ≡ true
 port-inert Bus = refl
-port-inert (Host n) = port-number-inert n
-port-inert (Node n) = port-number-inert n
-
-abbrev are_said : List Word → Bool
-are_said ws = are_inert (map (word_text plain) ws)
+port-inert (Host n) = text-seen (port_number_word plain n) (port-number-inert n)
+port-inert (Node n) = text-seen (port_number_word plain n) (port-number-inert n)
 
 seen-inert : (s : Seen) → are_said (seen_words s) ≡ true
 seen-inert seen.Silent = refl
@@ -257,7 +266,8 @@ reply-inert (Refused r) =
     more (reply_line plain ws) [] (told-inert ws (rw (number-inert (refusal_number r)) refl)) refl
 
 step-line-inert : (p : PortId) (s : Step) → is_inert (step_line plain p s) ≡ true
-step-line-inert p s = line-inert (port_word plain p ∷ step_words plain s) (both (is_inert (port_word plain p)) (are_inert (step_words plain s)) (port-inert p) (step-inert s))
+step-line-inert p s =
+    line-inert (map (word_text plain) (Port p ∷ step_words s)) (both (is_inert (word_text plain (Port p))) (are_said (step_words s)) (port-inert p) (step-inert s))
 
 entries-inert : (past es : List LogEntry) → is_inert (log_text plain (λ e p. reply_words e.reply) past es) ≡ true
 entries-inert past [] = refl

@@ -6,8 +6,6 @@ pub mod LdfNames
 pub mod TextNames
 pub mod Remarks
 pub mod LogLines
-pub mod LastLines
-pub mod OneLine
 pub mod Transcripts
 pub mod Scripts
 pub mod Inputs

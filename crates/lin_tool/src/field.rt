@@ -166,8 +166,8 @@ pub fn field_of_reader<R: Read>(
     let mut bytes = read_text(alloc, reader)?;
     let text = noted_text(alloc, bytes.as_slice(), notes)?;
     let settled = settled_noted(alloc, bytes.as_mut_slice(), text.as_slice(), notes)?;
-    let wide = Some(settled.wide.as_slice());
-    let sections = sections_of(alloc, bytes.as_slice(), &settled.description, wide, extras)?;
+    let (wide, left) = (settled.wide.as_slice(), bytes.as_slice());
+    let sections = sections_of(alloc, left, &settled.description, Some(wide), extras)?;
     if !extras.is_configured {
         let_go(&mut bytes);
     }

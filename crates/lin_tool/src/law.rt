@@ -17,15 +17,16 @@ pub fn named_logs_say_the_same()
     ensures of_texts { NamedLogsOfTexts }
 {}
 
-/// Without the lines that begin with `#`, the transcript of lines on a bench in hand that begins is
-/// the text of its log, byte for byte: the log's own, or the log with names, whichever the bench
-/// tells. A transcript by numbers is a script of its run, each one is a bench script of it, and
-/// each is an input of lines again, which come to the same log: these three where the numbers and
-/// bytes of the log's entries are within their types, as each `LogEntry` has them. This holds of bad
-/// lines too, if none goes back to a mark. Each answer ends with one line that begins with `#`. All
-/// this holds wherever names are words and no two nodes, signals or schedule tables have the same
-/// one. Where what signals mean is known, no signal is called `=` or `~`. The lines of each input
-/// have no LF in them.
+/// Without the lines that begin with `#`, the transcript of lines in an interactive session is the text of
+/// its log, byte for byte: the log's own, or the log with names, whichever the session writes. Each answer
+/// ends with one line that begins with `#`.
+///
+/// A transcript by numbers is a script of its run. If names are words, and no two nodes, signals or schedule
+/// tables have the same name, each transcript is a bench script of its run. It is also an input whose lines
+/// lead to the same log, if no signal with an encoding is called `=` or `~`. In these three cases the numbers
+/// and bytes of the log's entries are within their types, as each `LogEntry` has them.
+///
+/// All this holds of bad lines too, if no line goes back to a mark. The lines of each input have no LF.
 pub fn transcripts_are_logs()
     ensures logs { TranscriptsAreLogs }
     ensures scripts { TranscriptsAreScripts }

@@ -20,11 +20,11 @@ use Rattle.lin_field.specs.Describes.{ReadsFieldText}
 use Rattle.lin_field.specs.declared.field_text.FieldText.{FieldText}
 use Rattle.lin_field.specs.declared.normalizing.Normalized.{Normalized}
 use Rattle.linsim_c.specs.Described.{AnswersChecked, AnswersField, AnswersNormalized, AnswersStandard, ChecksField}
-use Rattle.linsim_c.specs.Described.{blanked_text, coded_in, configured_in}
+use Rattle.linsim_c.specs.Described.{blanked_text, configured_in, field_coded_in}
 use Rattle.linsim_c.specs.declared.ldf_cluster.Described.{Described}
 use Rattle.linsim_c.specs.declared.fault.Fault.TheVariants as fault
 use Rattle.lin_values.specs.Coded.{coded_signals}
-use Rattle.lin_sections.specs.Reading.{codings}
+use Rattle.lin_sections.specs.Reading.{codings, field_codings}
 use Rattle.lin_values.specs.declared.codings.Codings.{Codings}
 use Rattle.linsim_c.specs.Setups.{IsClusterOf, IsFirstFinding, IsParseFault, TextFaults}
 use Rattle.linsim_c.specs.declared.fault.Fault.{Fault}
@@ -70,30 +70,31 @@ field_answer is_configured text left s (Ok d) (read, settled, is) (c, (free, sai
   settled = settled;
   free = free;
   said = sent ∙ ap (λ bytes. configured_in is_configured bytes c) is ∙ ap (configured_in is_configured (blanked_text text read)) said;
-  coded = coded ∙ ap (λ bytes. coded_in bytes d.cluster) is;
+  coded = coded ∙ ap (λ bytes. field_coded_in s.wide bytes d.cluster) is;
 }
 field_answer is_configured text left s (Err (fault.Finding f)) (read, settled, is) h = (read, s, settled, h)
 field_answer is_configured text left s (Err OutOfMemory) settled h = tt
 field_answer is_configured text left s (Err _) settled h = absurd h
 
 -- what values mean in the cluster that is answered
-coded-there : {d : Described} (text : List ℕ) (k : Codings) (q : Parts) → k ≡ codings (symbols_in text (start_of text).tokens)
-    → d.cluster ≡ q → d.coded ≡ coded_signals q k → d.coded ≡ coded_in text d.cluster
-coded-there text k q read same coded =
-    coded ∙ ap (coded_signals q) read ∙ ap (λ c. coded_signals c (codings (symbols_in text (start_of text).tokens))) (sym same)
+coded-there : {d : Described} (all k : Codings) (q : Parts) → k ≡ all → d.cluster ≡ q → d.coded ≡ coded_signals q k
+    → d.coded ≡ coded_signals d.cluster all
+coded-there all k q read same coded = coded ∙ ap (coded_signals q) read ∙ ap (λ c. coded_signals c all) (sym same)
 
 -- the cluster that was found, with its requests and with what values mean, is what is answered
 pub standard_answer : (is_configured : Bool) (text : List ℕ) (k : Codings) (p q : Parts) (r : Result Described Fault) → IsClusterOf text p
     → q ≡ configured_in is_configured text p → k ≡ codings (symbols_in text (start_of text).tokens) → IfOk r (λ d. d.cluster ≡ q)
     → IfOk r (λ d. d.coded ≡ coded_signals q k) → IfErr r (λ why. why ≡ OutOfMemory) → AnswersStandard is_configured r text
-standard_answer is_configured text k p q (Ok d) of sent read same coded memory = (p, of, same ∙ sent, coded-there text k q read same coded)
+standard_answer is_configured text k p q (Ok d) of sent read same coded memory =
+    (p, of, same ∙ sent, coded-there (codings (symbols_in text (start_of text).tokens)) k q read same coded)
 standard_answer is_configured text k p q (Err why) of sent read same coded memory = subst (λ w. TextFaults w text) (sym memory) tt
 
 pub checked_answer : (is_configured : Bool) (left : List ℕ) (s : Normalized) (k : Codings) (p q : Parts) (r : Result Described Fault)
-    → ChecksField (Ok p) s → q ≡ configured_in is_configured left p → k ≡ codings (symbols_in left (start_of left).tokens)
+    → ChecksField (Ok p) s → q ≡ configured_in is_configured left p → k ≡ field_codings s.wide (symbols_in left (start_of left).tokens)
     → IfOk r (λ d. d.cluster ≡ q) → IfOk r (λ d. d.coded ≡ coded_signals q k) → IfErr r (λ why. why ≡ OutOfMemory)
     → AnswersChecked is_configured r s left
-checked_answer is_configured left s k p q (Ok d) of sent read same coded memory = (p, of, same ∙ sent, coded-there left k q read same coded)
+checked_answer is_configured left s k p q (Ok d) of sent read same coded memory =
+    (p, of, same ∙ sent, coded-there (field_codings s.wide (symbols_in left (start_of left).tokens)) k q read same coded)
 checked_answer is_configured left s k p q (Err why) of sent read same coded memory = subst (λ w. ChecksField (Err w) s) (sym memory) tt
 
 -- there is a first finding

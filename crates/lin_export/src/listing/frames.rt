@@ -1,16 +1,16 @@
 //! Frames and the places of their signals, as lines.
 
-ghost use Rattle.std.specs.Prelude.{◌≡◌, ◌<◌, length, flat_map, map};
+ghost use Rattle.std.specs.Prelude.{◌≡◌, ◌<◌, length, flat_map};
 ghost use Rattle.lin_frame.specs.Words.{numbers};
 ghost use Rattle.lin_log.specs.Words.{line_tail};
-ghost use Rattle.lin_parts.specs.Cluster.{frame_name, frame_of};
+ghost use Rattle.lin_parts.specs.Cluster.{frame_of};
 ghost use Rattle.lin_text.specs.Written.{Grows, WritesText};
-ghost use Rattle.lin_export.specs.ListedFrames.{event_line, frame_line, frame_lines, frame_listing, model_word};
-ghost use Rattle.lin_export.specs.ListedFrames.{place_line, places, sporadic_line};
+ghost use Rattle.lin_export.specs.ListedFrames.{event_line, frame_line, frame_lines, frame_listing, member_words};
+ghost use Rattle.lin_export.specs.ListedFrames.{model_word, place_line, places, sporadic_line};
 
 use crate::frame_places::{place_at, place_count};
 use lin_frame::{Place, SumKind};
-use lin_log::{Word, put_head, put_line, put_spaced, value_word};
+use lin_log::{Word, put_head, put_line, put_spaced};
 use lin_parts::Cluster;
 use lin_text::{TextBuffer, TextWriter, WriteFailed};
 use std::io::Write;
@@ -36,12 +36,12 @@ fn put_frame<'a, W: Write>(out: &mut TextWriter<'_, W>, cluster: &'a Cluster, fr
         b"frame",
         &[
             Word::Number(u64::from(frame)),
-            Word::Name(cluster.frame_name(frame)),
+            Word::Said(cluster.frame_name(frame)),
             Word::Identifier(pid % 64),
             Word::Byte(pid),
             Word::Number(u64::from(cluster.layout(frame).len)),
-            Word::Name(cluster.node_name(cluster.frame_publisher(frame))),
-            Word::Name(model_word(cluster.model(frame))),
+            Word::Said(cluster.node_name(cluster.frame_publisher(frame))),
+            Word::Said(model_word(cluster.model(frame))),
         ],
     );
 }
@@ -64,8 +64,8 @@ fn put_place<W: Write>(
             Word::Number(u64::from(frame)),
             Word::Number(u64::from(place.offset)),
             Word::Number(u64::from(place.size)),
-            Word::Name(cluster.signal_name(signal)),
-            value_word(cluster.initial(signal)),
+            Word::Said(cluster.signal_name(signal)),
+            Word::Value(cluster.initial(signal)),
         ],
     );
 }
@@ -103,10 +103,10 @@ fn put_unconditional<W: Write>(out: &mut TextWriter<'_, W>, cluster: &Cluster)
 
 /// The names of some frames, each after a space, and the end of their line.
 fn put_members<W: Write>(out: &mut TextWriter<'_, W>, cluster: &Cluster, frames: &[u16])
-    ensures { Grows W.contents out.old out.new (line_tail (map (frame_name cluster.now) frames.now)) }
+    ensures { Grows W.contents out.old out.new (line_tail (member_words cluster.now frames.now)) }
 {
     for frame in frames {
-        put_spaced(out, Word::Name(cluster.frame_name(*frame)));
+        put_spaced(out, Word::Said(cluster.frame_name(*frame)));
     }
     out.put_byte(b'\n');
 }
@@ -120,7 +120,7 @@ fn put_sporadic<W: Write>(out: &mut TextWriter<'_, W>, cluster: &Cluster, sporad
         b"sporadic",
         &[
             Word::Number(u64::from(sporadic)),
-            Word::Name(cluster.sporadic_name(sporadic)),
+            Word::Said(cluster.sporadic_name(sporadic)),
         ],
     );
     put_members(out, cluster, cluster.sporadic(sporadic));
@@ -146,10 +146,10 @@ fn put_event<'a, W: Write>(out: &mut TextWriter<'_, W>, cluster: &'a Cluster, ev
         b"event",
         &[
             Word::Number(u64::from(event)),
-            Word::Name(cluster.event_name(event)),
+            Word::Said(cluster.event_name(event)),
             Word::Identifier(pid % 64),
             Word::Byte(pid),
-            Word::Name(cluster.table_name(cluster.event_table(event))),
+            Word::Said(cluster.table_name(cluster.event_table(event))),
         ],
     );
     put_members(out, cluster, cluster.event_frames(event));

@@ -100,7 +100,7 @@ fn put_map_line<'a, W: Write>(out: &mut TextWriter<'_, W>, cluster: &'a Cluster,
         b"map",
         &[
             Word::Number(u64::from(frame)),
-            Word::Name(cluster.frame_name(frame)),
+            Word::Said(cluster.frame_name(frame)),
             Word::Identifier(cluster.frame_pid(frame) % 64),
             Word::Number(u64::from(layout.len)),
             Word::Number(u64::from(free_bits(layout))),
@@ -154,7 +154,7 @@ fn put_mark<W: Write>(
     put_words(
         out,
         &[
-            Word::Name(cluster.signal_name(signal)),
+            Word::Said(cluster.signal_name(signal)),
             Word::Number(u64::from(place.offset)),
             Word::Number(u64::from(place.size)),
         ],

@@ -14,7 +14,7 @@ ghost use Rattle.lin_values.specs.Shown.{decimal_shown};
 ghost use Rattle.lin_values.specs.Value.{decimal_of, fits};
 
 use lin_frame::Value;
-use lin_log::{Word, put_head, put_line, put_spaced, value_word};
+use lin_log::{Word, put_head, put_line};
 use lin_parts::Cluster;
 use lin_text::{TextBuffer, TextWriter, WriteFailed};
 use lin_values::{
@@ -27,8 +27,8 @@ fn encoding_word(coded: &Coded, signal: u16) -> Word<'_>
     ensures { word_shown result ≡ encoding_word (encoding_of coded.now signal) }
 {
     match coded.encoding_of(signal) {
-        Some(encoding) => Word::Name(encoding.coding().name.text.as_slice()),
-        None => Word::Name(b"-"),
+        Some(encoding) => Word::Said(encoding.coding().name.text.as_slice()),
+        None => Word::Fixed("-"),
     }
 }
 
@@ -47,7 +47,7 @@ fn put_coding<'a, W: Write>(
         b"coding",
         &[
             Word::Number(u64::from(signal)),
-            Word::Name(cluster.signal_name(signal)),
+            Word::Said(cluster.signal_name(signal)),
             Word::Number(u64::from(cluster.signal_size(signal))),
             encoding_word(coded, signal),
         ],
@@ -68,7 +68,8 @@ fn put_unit<W: Write>(out: &mut TextWriter<'_, W>, unit: &[u8])
     ensures { Grows W.contents out.old out.new (flat_map spaced_word (unit_words unit.now)) }
 {
     if !unit.is_empty() {
-        put_spaced(out, Word::Name(unit));
+        out.put_byte(b' ');
+        out.put(unit);
     }
 }
 
@@ -99,14 +100,15 @@ fn put_range<W: Write>(out: &mut TextWriter<'_, W>, signal: u16, range: &Range<'
     out.put_byte(b'\n');
 }
 
-/// The text of a value; without one its number.
-fn text_or_number(value: u64, text: &[u8]) -> Word<'_>
-    ensures { word_shown result ≡ text_or_number value text.now }
+/// The text of a value behind a space; without one its number.
+fn put_text_or_number<W: Write>(out: &mut TextWriter<'_, W>, value: u64, text: &[u8])
+    ensures { Grows W.contents out.old out.new (spaced_word (text_or_number value text.now)) }
 {
+    out.put_byte(b' ');
     if text.is_empty() {
-        Word::Number(value)
+        out.put_number(value);
     } else {
-        Word::Name(text)
+        out.put(text);
     }
 }
 
@@ -114,15 +116,13 @@ fn text_or_number(value: u64, text: &[u8]) -> Word<'_>
 fn put_value<W: Write>(out: &mut TextWriter<'_, W>, signal: u16, value: u64, text: &[u8])
     ensures { Grows W.contents out.old out.new (value_line signal value text.now) }
 {
-    put_line(
+    put_head(
         out,
         b"value",
-        &[
-            Word::Number(u64::from(signal)),
-            Word::Number(value),
-            text_or_number(value, text),
-        ],
+        &[Word::Number(u64::from(signal)), Word::Number(value)],
     );
+    put_text_or_number(out, value, text);
+    out.put_byte(b'\n');
 }
 
 /// The line of an item, if it says what some value of the signal means. Values and ranges say it of
@@ -203,7 +203,7 @@ fn raw_word<'a>(coded: &Coded, signal: u16, value: &'a Value) -> Word<'a>
 {
     match coded.number(signal, value) {
         Some(number) => Word::Number(number),
-        None => value_word(value),
+        None => Word::Value(value),
     }
 }
 

@@ -82,8 +82,8 @@ fn put_slot<'a, W: Write>(
         &[
             Word::Number(u64::from(table)),
             Word::Number(u64::from(number)),
-            Word::Name(cluster.entry_name(entry)),
-            Word::Name(entry.kind()),
+            Word::Said(cluster.entry_name(entry)),
+            Word::Said(entry.kind()),
             Word::Number(u64::from(bytes)),
             Word::Number(delay),
             Word::Number(needed),
@@ -163,7 +163,7 @@ fn put_load<'a, W: Write>(out: &mut TextWriter<'_, W>, cluster: &'a Cluster, tab
         b"load",
         &[
             Word::Number(u64::from(table)),
-            Word::Name(cluster.table_name(table)),
+            Word::Said(cluster.table_name(table)),
             Word::Number(delay),
             Word::Number(permille(bits, cluster.speed(), delay)),
         ],

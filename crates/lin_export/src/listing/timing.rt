@@ -29,7 +29,7 @@ fn time_word(time: Option<u64>) -> Word<'static>
 {
     match time {
         Some(time) => Word::Number(time),
-        None => Word::Name(b"-"),
+        None => Word::Fixed("-"),
     }
 }
 
@@ -77,7 +77,7 @@ fn put_table_line<'a, W: Write>(out: &mut TextWriter<'_, W>, cluster: &'a Cluste
         b"timing",
         &[
             Word::Number(u64::from(table)),
-            Word::Name(cluster.table_name(table)),
+            Word::Said(cluster.table_name(table)),
             Word::Number(time),
             Word::Number(longest_cycle(cluster, table)),
             Word::Number(load),
@@ -107,7 +107,7 @@ fn put_frame<'a, W: Write>(
         b"occurs",
         &[
             Word::Number(u64::from(table)),
-            Word::Name(cluster.frame_name(frame)),
+            Word::Said(cluster.frame_name(frame)),
             Word::Number(u64::from(timing.own)),
             Word::Number(u64::from(timing.shared)),
             time_word(timing.gaps.map(|gaps| gaps.shortest)),
@@ -149,7 +149,7 @@ fn put_signal<'a, W: Write>(
             b"latency",
             &[
                 Word::Number(u64::from(table)),
-                Word::Name(cluster.signal_name(signal)),
+                Word::Said(cluster.signal_name(signal)),
                 time_word(latency.worst),
                 time_word(latency.once),
             ],
@@ -189,7 +189,7 @@ fn put_transfer<W: Write>(
             b"transfer",
             &[
                 Word::Number(u64::from(table)),
-                Word::Name(direction),
+                Word::Said(direction),
                 Word::Number(u64::from(bytes)),
                 Word::Number(u64::from(frames_of_message(bytes))),
                 Word::Number(worst),

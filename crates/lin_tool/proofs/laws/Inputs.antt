@@ -13,10 +13,9 @@ use Rattle.lin_core.specs.Runs.{entry_of, history, steps_of}
 use Rattle.lin_core.specs.declared.log.LogEntry.{LogEntry}
 use Rattle.lin_core.specs.declared.port.PortId.{PortId}
 use Rattle.lin_core.specs.declared.port.PortId.TheVariants.{Bus, Host, Node}
-use Rattle.lin_core.specs.declared.reply.Refusal.{Refusal}
 use Rattle.lin_core.specs.declared.step.Step.{Step}
 use Rattle.lin_log.specs.Language.{Language, named_language, plain}
-use Rattle.lin_log.specs.Laws.{FitsEntry}
+use Rattle.lin_log.specs.Laws.{FitsEntry, HasNames}
 use Rattle.lin_log.specs.Said.{is_comment, is_gap, is_not_empty, step_form}
 use Rattle.lin_log.specs.Words.{log_text, reply_line, step_line}
 use Rattle.lin_log.proofs.Runs.{steps_of-reverse}
@@ -27,10 +26,7 @@ use Rattle.lin_bench.specs.Lines.{line_form, line_of_fields, read_line}
 use Rattle.lin_bench.specs.Plain.{HasNoMarks, SaysSteps}
 use Rattle.lin_bench.specs.Scripts.{Script, read, read_lines, with_read_line, without_mark}
 use Rattle.lin_bench.specs.Words.{read_worded_line, worded}
-use Rattle.lin_bench.specs.Made.{BenchState, made}
-use Rattle.lin_bench.specs.Strict.{entries_since, first_refusal}
-use Rattle.lin_bench.specs.declared.got.Verdict.{Verdict}
-use Rattle.lin_bench.specs.declared.got.Verdict.TheVariants.{Nothing, Met, Unmet, SlotLimit}
+use Rattle.lin_bench.specs.Made.{BenchState}
 use Rattle.lin_bench.specs.declared.line.ScriptLine.{ScriptLine}
 use Rattle.lin_bench.specs.declared.reason.Reason.{Reason as ScriptReason}
 use Rattle.lin_live.proofs.Cuts.{pieces-some}
@@ -38,7 +34,7 @@ use Rattle.lin_live.proofs.Growth.{IsForward, Keeps, kept-made, line-forward}
 use Rattle.lin_live.proofs.Plays.{live-is-play}
 use Rattle.lin_live.specs.Lines.{but_last, last_line as last_of, last_one, lines, pieces_at_lf}
 use Rattle.lin_live.specs.Play.{IsPlain, is_of_live, in_hand_of, empty_run}
-use Rattle.lin_live.specs.Told.{Ending, HandData, entries_text, gone_back, hash_ending, heard_as, is_text, last_line, verdict_with_meaning, reply, shown_coding, steps_ending, heard_answer, without_byte_order_mark, verdict_ending}
+use Rattle.lin_live.specs.Told.{Ending, HandData, entries_text, gone_back, heard_as, is_text, last_line, reply, shown_coding, heard_answer, without_byte_order_mark}
 use Rattle.lin_live.specs.Transcript.{state_after, most_bytes, short, transcript}
 use Rattle.lin_live.specs.declared.answer_format.AnswerFormat.{AnswerFormat}
 use Rattle.lin_live.specs.declared.answer_format.AnswerFormat.TheVariants.{Log, Named, Jsonl}
@@ -193,33 +189,10 @@ entries-begin Log c k past (e ∷ es) last rest text b =
 entries-begin Named c k past (e ∷ es) last rest text b =
     step-begins (named_language c) e.port e.step (flat_map (reply_line (named_language c)) (reply_lines c k e past) ++ log_text (named_language c) (reply_lines c k) (e ∷ past) es) last rest
 
-steps-begin : (c : Parts) (k : Option CodedData) (o : Option Refusal) (rest : List ℕ) → Begins (hash_ending c k (steps_ending o) ++ rest)
-steps-begin c k None rest = (35, _, refl, (refl, refl, refl))
-steps-begin c k (Some why) rest = (35, _, refl, (refl, refl, refl))
-
-verdict-begins : (c : Parts) (k : Option CodedData) (v : Verdict) (es : List LogEntry) (rest : List ℕ) → Begins (hash_ending c k (verdict_ending c v es) ++ rest)
-verdict-begins c k SlotLimit es rest = (35, _, refl, (refl, refl, refl))
-verdict-begins c k (Unmet what got) es rest = (35, _, refl, (refl, refl, refl))
-verdict-begins c k Nothing es rest = steps-begin c k (first_refusal es) rest
-verdict-begins c k (Met what) es rest = steps-begin c k (first_refusal es) rest
-
-back-begins : (h : HandData) (k : Option CodedData) (name : List ℕ) (at : Option (BenchState × List Marked)) (rest : List ℕ) → Begins (hash_ending h.cluster k (gone_back h name at).1.ending ++ rest)
-back-begins h k name None rest = (35, _, refl, (refl, refl, refl))
-back-begins h k name (Some at) rest = (35, _, refl, (refl, refl, refl))
-
-hash-begins : (h : HandData) (k : Option CodedData) (said : Result (Option Heard) Reason) (rest : List ℕ) → Begins (hash_ending h.cluster k (heard_answer h said).1.ending ++ rest)
-hash-begins h k (Err why) rest = (35, _, refl, (refl, refl, refl))
-hash-begins h k (Ok None) rest = (35, _, refl, (refl, refl, refl))
-hash-begins h k (Ok (Some (Ask asked))) rest = (35, _, refl, (refl, refl, refl))
-hash-begins h k (Ok (Some (SetMark name))) rest = (35, _, refl, (refl, refl, refl))
-hash-begins h k (Ok (Some (GoBack name))) rest = back-begins h k name (bench_at h.marks name) rest
-hash-begins h k (Ok (Some (Make line))) rest =
-    let m = made h.cluster h.opening h.capacity h.bench line in verdict-begins h.cluster k (verdict_with_meaning h.coded m.1) (entries_since h.bench.past m.0.past) rest
-
-last-begins : (f : AnswerFormat) (c : Parts) (k : Option CodedData) (e : Ending) (rest : List ℕ) → is_text f ≡ true → Begins (hash_ending c k e ++ rest) → Begins (last_line f c k e ++ rest)
-last-begins Log c k e rest text b = b
-last-begins Named c k e rest text b = b
-last-begins Jsonl c k e rest text b = absurd (cc)
+last-begins : (f : AnswerFormat) (c : Parts) (k : Option CodedData) (e : Ending) (rest : List ℕ) → is_text f ≡ true → Begins (last_line f c k e ++ rest)
+last-begins Log c k e rest text = (35, _, refl, (refl, refl, refl))
+last-begins Named c k e rest text = (35, _, refl, (refl, refl, refl))
+last-begins Jsonl c k e rest text = absurd (cc)
 
 transcript-begins : (h : HandData) (line : List ℕ) (more : List (List ℕ)) → is_text h.format ≡ true → Begins (transcript reply h (line ∷ more))
 transcript-begins h line more text =
@@ -229,7 +202,7 @@ transcript-begins h line more text =
     let k = shown_coding h in
     let ending = (heard_answer begun said).1.ending in
     entries-begin h.format h.cluster k h.bench.past (heard_answer begun said).1.entries (last_line h.format h.cluster k ending) rest text
-    (last-begins h.format h.cluster k ending rest text (hash-begins begun k said rest))
+    (last-begins h.format h.cluster k ending rest text)
 
 -- a text that begins so, and a line of it, has no mark
 no-mark : (t : List ℕ) → (slice_index t 0 == 239) ≡ false → without_mark t ≡ t
@@ -321,18 +294,19 @@ reads-coded c opening capacity t steps (Some k) none says = says.coded none k
 abbrev Again : HandData → List (List ℕ) → HandData → Type 0
 Again h ls k = (reverse k.bench.past ≡ log_after h ls) × (k.was_bad ≡ false)
 
-again-by : (h : HandData) (ls : List (List ℕ)) → IsTranscript h ls → All FitsEntry (log_after h ls) → AreShort (transcript reply h ls)
+again-by : (h : HandData) (ls : List (List ℕ)) → IsTranscript h ls → HasNames (named_language h.cluster) → IfSome h.coded (λ k. HasNoMarks h.cluster)
+    → All FitsEntry (log_after h ls) → AreShort (transcript reply h ls)
     → (b : Begins (transcript reply h ls)) → Again h ls (state_after reply (anew h) (lines (transcript reply h ls)))
 unfolding read
-again-by h ls t fits shorts b =
+again-by h ls t a none fits shorts b =
     let text = transcript reply h ls in
     let k1 : HandData = in_hand_of h.format h.coded h.is_physical h.cluster h.opening h.capacity empty_run in
-    let says = transcripts-are-bench-scripts h ls h.opening h.capacity t fits in
+    let says = transcripts-are-bench-scripts h ls h.opening h.capacity t a fits in
     let plain : read_lines h.cluster None 1 (pieces_at_lf text) ≡ Ok says.lines =
     ap (λ (u : List ℕ). read_lines h.cluster None 1 (pieces_at_lf u)) (sym (begins-unmarked text b)) ∙ says.reading in
     let reading : read_lines h.cluster h.coded 1 (pieces_at_lf text) ≡ Ok says.lines =
     ap (λ (u : List ℕ). read_lines h.cluster h.coded 1 (pieces_at_lf u)) (sym (begins-unmarked text b))
-    ∙ reads-coded h.cluster h.opening h.capacity text (steps_of (log_after h ls)) h.coded t.texts.no_marks says in
+    ∙ reads-coded h.cluster h.opening h.capacity text (steps_of (log_after h ls)) h.coded none says in
     let some = pieces-some text in
     let played = live-is-play h.format h.coded h.is_physical h.cluster h.opening h.capacity (pieces_at_lf text) says.lines _
     (all-plain h.cluster 1 (pieces_at_lf text) says.lines shorts plain) reading says.steps_alone in
@@ -343,5 +317,5 @@ again-by h ls t fits shorts b =
     )
 
 pub transcripts-are-inputs : TranscriptsAreInputs
-transcripts-are-inputs h [] t fits shorts = (ap (λ (p : List LogEntry). reverse p) (sym t.begins), refl)
-transcripts-are-inputs h (line ∷ more) t fits shorts = again-by h (line ∷ more) t fits shorts (transcript-begins h line more t.texts.of_text)
+transcripts-are-inputs h [] t a none fits shorts = (ap (λ (p : List LogEntry). reverse p) (sym t.begins), refl)
+transcripts-are-inputs h (line ∷ more) t a none fits shorts = again-by h (line ∷ more) t a none fits shorts (transcript-begins h line more t.of_text)

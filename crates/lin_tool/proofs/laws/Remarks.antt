@@ -1,10 +1,16 @@
 -- Texts without LF, and texts without the lines that begin with `#`.
-use Rattle.std.proofs.Common.{◌≡◌, ◌∙◌, ℕ, ◌==◌, Bool, true, false, List, [], ◌∷◌, ◌++◌, refl, sym, ap, append_assoc, filter, flat_map, map, if◌then◌else◌}
+use Rattle.std.proofs.Common.{◌≡◌, ◌∙◌, ℕ, ◌==◌, Bool, true, false, List, [], ◌∷◌, ◌++◌, refl, sym, ap, append_assoc, filter, flat_map, map, Option, if◌then◌else◌}
 use Rattle.std.proofs.lemmas.List.Elements.{All-cons}
 use Rattle.std.proofs.lemmas.List.Splits.{slice_split_at}
+use Rattle.lin_parts.specs.declared.parts.Parts.{Parts}
+use Rattle.lin_log.specs.Language.{named_language}
 use Rattle.lin_log.specs.Laws.{is_quiet}
 use Rattle.lin_log.proofs.Quiet.{no-end}
+use Rattle.lin_values.specs.Coded.{CodedData}
+use Rattle.lin_bench.specs.LineWords.{spaced_words}
+use Rattle.lin_bench.proofs.LineWords.{all-quiet}
 use Rattle.lin_live.specs.Lines.{HasNoLf, but_last, last_one, pieces_at_lf}
+use Rattle.lin_live.specs.Told.{Ending, ending_words, hash_ending}
 use Rattle.lin_live.proofs.Cuts.{pieces-some}
 use Rattle.lin_tool.specs.laws.Transcripts.{IsRemark, with_line_end, is_said, lines_with_ends, without_remarks}
 
@@ -52,8 +58,14 @@ Goes t = (rest : List ℕ) → without_remarks (t ++ rest) ≡ without_remarks r
 pub stays-line : (body : List ℕ) → Quiet body → is_said (with_line_end body) ≡ true → Stays (with_line_end body)
 stays-line body h e rest = line-first body rest true (no-end body h) e
 
-pub a-remark : (words : List ℕ) → Quiet words → IsRemark (35 ∷ (words ++ 10 ∷ []))
+a-remark : (words : List ℕ) → Quiet words → IsRemark (35 ∷ (words ++ 10 ∷ []))
 a-remark words h = record { words = words; has_no_lf = no-end words h; whole = refl }
+
+-- each last line of an answer in a text, whatever its words are
+pub ending-remark : (c : Parts) (k : Option CodedData) (e : Ending) → IsRemark (hash_ending c k e)
+ending-remark c k e =
+    let l = named_language c in
+    let words = ending_words c k e in a-remark (spaced_words l words) (all-quiet l words)
 
 pub remark-goes : (t : List ℕ) → IsRemark t → Goes t
 remark-goes t r rest =

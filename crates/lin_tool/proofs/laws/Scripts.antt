@@ -1,5 +1,5 @@
 -- A text says what it says without its lines that begin with `#`; so a transcript says its log's steps.
-use Rattle.std.proofs.Common.{◌≡◌, ◌∙◌, ℕ, ◌+◌, ◌==◌, ◌-◌, Bool, true, false, not, List, [], ◌∷◌, ◌++◌, refl, sym, ap, append-nil, append_assoc, arith, filter, flat_map, length, slice_index, suc, take, Option, Some, None, Result, Ok, Err, if◌then◌else◌}
+use Rattle.std.proofs.Common.{◌≡◌, ◌∙◌, ℕ, ◌+◌, ◌==◌, ◌-◌, Bool, true, false, not, List, [], ◌∷◌, ◌++◌, refl, sym, ap, append-nil, append_assoc, arith, filter, flat_map, length, slice_index, subst, suc, take, Option, Some, None, Result, Ok, Err, if◌then◌else◌}
 use Rattle.std.specs.Prelude.{IfSome}
 use Rattle.std.specs.List.{All, AllByRecursion}
 use Rattle.std.specs.Str.Lines.{strip_carriage_return}
@@ -121,24 +121,35 @@ told_in Log c = plain
 told_in Named c = named_language c
 told_in Jsonl c = plain
 
-entries-say : (f : AnswerFormat) (c : Parts) (k : Option CodedData) (log : List LogEntry) → is_text f ≡ true → HasNames (named_language c) → All FitsEntry log
+-- the names that are told are words
+abbrev pub AreToldNames : AnswerFormat → Parts → Type 0
+AreToldNames Named c = HasNames (named_language c)
+AreToldNames f c = Unit {0}
+
+told-names : (f : AnswerFormat) (c : Parts) → HasNames (named_language c) → AreToldNames f c
+told-names Log c a = tt
+told-names Named c a = a
+told-names Jsonl c a = tt
+
+entries-say : (f : AnswerFormat) (c : Parts) (k : Option CodedData) (log : List LogEntry) → is_text f ≡ true → AreToldNames f c → All FitsEntry log
     → text_says (told_in f c) (entries_text f c k [] log) ≡ Ok (steps_of log)
 entries-say Log c k log text a fits = texts-again plain plain_replies log plain-names fits
 entries-say Named c k log text a fits = texts-again (named_language c) (reply_lines c k) log a fits
 entries-say Jsonl c k log text a fits = absurd (cc)
 
-pub transcript-says : (h : HandData) (ls : List (List ℕ)) → IsTranscript h ls → All FitsEntry (log_after h ls)
+pub transcript-says : (h : HandData) (ls : List (List ℕ)) → IsTranscript h ls → AreToldNames h.format h.cluster → All FitsEntry (log_after h ls)
     → text_says (told_in h.format h.cluster) (transcript reply h ls) ≡ Ok (steps_of (log_after h ls))
-transcript-says h ls t fits =
+transcript-says h ls t names fits =
     let l = told_in h.format h.cluster in
     remarks-say-nothing l (transcript reply h ls) (steps_of (log_after h ls))
     (ap (text_says l) (transcripts-are-logs h ls t)
-    ∙ entries-say h.format h.cluster (shown_coding h) (log_after h ls) t.texts.of_text t.texts.names fits)
+    ∙ entries-say h.format h.cluster (shown_coding h) (log_after h ls) t.of_text names fits)
 
 pub transcripts-are-scripts : TranscriptsAreScripts
 unfolding script
 transcripts-are-scripts h ls t fits is =
-    ap (λ f. without_reason (text_says (told_in f h.cluster) (transcript reply h ls))) (sym is) ∙ ap without_reason (transcript-says h ls t fits)
+    let names = subst (λ f. AreToldNames f h.cluster) (sym is) tt in
+    ap (λ f. without_reason (text_says (told_in f h.cluster) (transcript reply h ls))) (sym is) ∙ ap without_reason (transcript-says h ls t names fits)
 
 says-steps : (f : AnswerFormat) (c : Parts) (opening capacity : ℕ) (t : List ℕ) (steps : List (PortId × Step)) → text_says (told_in f c) t ≡ Ok steps
     → SaysSteps c opening capacity t steps
@@ -148,5 +159,6 @@ says-steps Named c opening capacity t steps h = named-texts c opening capacity t
 says-steps Jsonl c opening capacity t steps h = plain-scripts c opening capacity t steps (ap without_reason h)
 
 pub transcripts-are-bench-scripts : TranscriptsAreBenchScripts
-transcripts-are-bench-scripts h ls opening capacity t fits =
-    says-steps h.format h.cluster opening capacity (transcript reply h ls) (steps_of (log_after h ls)) (transcript-says h ls t fits)
+transcripts-are-bench-scripts h ls opening capacity t a fits =
+    let names = told-names h.format h.cluster a in
+    says-steps h.format h.cluster opening capacity (transcript reply h ls) (steps_of (log_after h ls)) (transcript-says h ls t names fits)

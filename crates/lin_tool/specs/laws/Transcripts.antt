@@ -31,15 +31,9 @@ is_said line = not (slice_index line 0 == 35)
 abbrev pub without_remarks : List ℕ → List ℕ
 without_remarks bytes = flat_map (λ line. line) (filter is_said (lines_with_ends bytes))
 
--- names are words, and a session answers in texts; where what signals mean is known, none is called as a mark
-pub record AnswersInTexts (h : HandData) : Type 0 where
-  pub of_text : is_text h.format ≡ true
-  pub names : HasNames (named_language h.cluster)
-  pub no_marks : IfSome h.coded (λ k. HasNoMarks h.cluster)
-
--- such a session begins, and none of its lines goes back to a mark
+-- a session that answers in texts begins, and none of its lines goes back to a mark
 pub record IsTranscript (h : HandData) (ls : List (List ℕ)) : Type 0 where
-  pub texts : AnswersInTexts h
+  pub of_text : is_text h.format ≡ true
   pub begins : h.bench.past ≡ []
   pub forward : AllByRecursion KeepsLog ls
 
@@ -58,11 +52,11 @@ TranscriptsAreScripts = (h : HandData) (ls : List (List ℕ)) → IsTranscript h
     → All FitsEntry (log_after h ls) → h.format ≡ Log
     → script (transcript reply h ls) ≡ Ok (steps_of (log_after h ls))
 
--- each transcript is a bench script of its run: it has no bad line, makes no slots of its own, and
--- expects nothing
+-- where names are words, each transcript is a bench script of its run: it has no bad line, makes no slots
+-- of its own, and expects nothing
 abbrev pub TranscriptsAreBenchScripts : Type 0
 TranscriptsAreBenchScripts = (h : HandData) (ls : List (List ℕ)) (opening capacity : ℕ)
-    → IsTranscript h ls → All FitsEntry (log_after h ls)
+    → IsTranscript h ls → HasNames (named_language h.cluster) → All FitsEntry (log_after h ls)
     → SaysSteps h.cluster opening capacity (transcript reply h ls) (steps_of (log_after h ls))
 
 -- a bench in hand that begins, with the same cluster, meanings and settings and without rules
@@ -77,11 +71,12 @@ abbrev pub AreShort : List ℕ → Type 0
 AreShort bytes =
     AllByRecursion (λ p. length (strip_carriage_return p) ≤ most_bytes) (pieces_at_lf bytes)
 
--- each transcript is an input again: answered in hand, its lines come to the same log, and none of
--- them is bad
+-- where names are words, and where what signals mean is known, none is called as a mark, each transcript is
+-- an input again: answered in hand, its lines come to the same log, and none of them is bad
 abbrev pub TranscriptsAreInputs : Type 0
 TranscriptsAreInputs = (h : HandData) (ls : List (List ℕ))
-    → IsTranscript h ls → All FitsEntry (log_after h ls) → AreShort (transcript reply h ls)
+    → IsTranscript h ls → HasNames (named_language h.cluster) → IfSome h.coded (λ k. HasNoMarks h.cluster)
+    → All FitsEntry (log_after h ls) → AreShort (transcript reply h ls)
     → (log_after (anew h) (lines (transcript reply h ls)) ≡ log_after h ls)
     × ((state_after reply (anew h) (lines (transcript reply h ls))).was_bad ≡ false)
 
@@ -92,7 +87,7 @@ pub record IsRemark (t : List ℕ) : Type 0 where
   pub whole : t ≡ 35 ∷ (words ++ 10 ∷ [])
 
 abbrev pub LastLinesAreRemarks : Type 0
-LastLinesAreRemarks = (h : HandData) (ls : List (List ℕ)) → AnswersInTexts h
+LastLinesAreRemarks = (h : HandData) (ls : List (List ℕ)) → is_text h.format ≡ true
     → AllByRecursion (λ a. IsRemark (last_line h.format h.cluster (shown_coding h) a.ending)) (answers h ls)
 
 -- the lines of an input have no LF in them

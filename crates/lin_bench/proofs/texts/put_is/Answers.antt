@@ -7,4 +7,4 @@ use Rattle.lin_bench.proofs.texts.put_is.Goals as goal
 
 pub returns-in_default : goal.returns-in_default
 returns-in_default g c =
-    same-growth (ap (cluster_text c.args.cluster.now) (few-words c.args.got.now c.in_default.not-StillPending)) (rw c.got_line.ensures at c.put_line.ensures)
+    same-growth (ap (cluster_text c.args.cluster.now) (few-words c.args.got.now c.in_default.not-StillPending)) (rw c.got_line.ensures at c.put_word_list.ensures)

@@ -21,7 +21,7 @@ loop-place-preserved g c =
     let words : ℕ → Value → List Word = λ s v. Said (signal_of x s).name ∷ Raw v ∷ [] in
     let more = said-more words answer ps i c.value_at-signal.result (omega arith) (c.value_at-signal.ensures.value no_place) in
     same-growth (sym (ap (named_words x) more ∙ named-append x (flat_map (signal_words x answer) (take i ps)) _))
-    (grows-more c.loop-place.invariant (rw (c.signal_name-name.ensures, c.value_word.ensures) at c.put_words.ensures))
+    (grows-more c.loop-place.invariant (rw c.signal_name-name.ensures at c.put_words.ensures))
 
 pub returns : goal.returns
 returns g c =

@@ -1,5 +1,6 @@
 use Rattle.std.proofs.Common.{◌∷◌, [], List, ℕ, ap, ◌∙◌, codes, map}
 use Rattle.std.specs.Prelude.{slice_index}
+use Rattle.lin_log.specs.CallerTexts.{seen_text}
 use Rattle.lin_log.specs.Language.{named_language}
 use Rattle.lin_log.specs.Words.{line, word_text}
 use Rattle.lin_text.proofs.Growing.{same-growth}
@@ -12,7 +13,7 @@ returns g c =
     let x = c.args.cluster.now in
     let l = named_language x in
     let answer = c.args.answer.now in
-    let way = c.args.way.now in
+    let way = seen_text c.args.way.now in
     let control = c.control_words in
     let texts : ℕ → ℕ → List (List ℕ) = λ byte length. map (word_text l) (control_words byte length) in
     same-growth

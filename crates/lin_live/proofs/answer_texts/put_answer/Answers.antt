@@ -1,11 +1,14 @@
-use Rattle.lin_text.proofs.Growing.{grows-more}
+use Rattle.lin_export.specs.LastSlot.{kept_slot}
+use Rattle.lin_text.proofs.Growing.{same-growth}
+use Rattle.lin_live.proofs.SaidWords.{ended-spaced}
 use Rattle.lin_live.proofs.answer_texts.put_answer.Goals as goal
 
 pub returns-in-Pending : goal.returns-in-Pending
-returns-in-Pending g c = rw c.in-Pending.is (grows-more c.put_byte.ensures (rw c.as_slice.ensures at c.put_idle.ensures))
+returns-in-Pending g c = rw c.in-Pending.is (rw c.as_slice.ensures at c.put_idle.ensures)
 
 pub returns-in-LastSlot : goal.returns-in-LastSlot
-returns-in-LastSlot g c = rw c.in-LastSlot.is (rw c.as_ref.ensures.value at c.put_last_slot.ensures)
+returns-in-LastSlot g c =
+    rw c.in-LastSlot.is (same-growth (ended-spaced c.args.cluster.now (kept_slot c.in-LastSlot.last)) (rw c.as_ref.ensures.value at c.put_last_slot.ensures))
 
 pub returns-in-Rules : goal.returns-in-Rules
-returns-in-Rules g c = rw c.in-Rules.is (grows-more c.put_byte-in-Rules.ensures (rw c.as_slice-in-Rules.ensures at c.put_rules.ensures))
+returns-in-Rules g c = rw c.in-Rules.is (rw c.as_slice-in-Rules.ensures at c.put_rules.ensures)

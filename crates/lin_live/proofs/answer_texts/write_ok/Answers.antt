@@ -4,6 +4,6 @@ use Rattle.lin_live.proofs.answer_texts.write_ok.Goals as goal
 
 pub returns : goal.returns
 returns g c =
-    let same = sym (c.put_ending.ensures.same ∙ c.new-out.ensures.same) in
-    let written = text-written c.new-out.ensures c.put_ending.ensures c.finish.ensures in
+    let same = sym (c.put_hash_line.ensures.same ∙ c.new-out.ensures.same) in
+    let written = text-written c.new-out.ensures c.put_hash_line.ensures c.finish.ensures in
     search rules

@@ -21,7 +21,7 @@ returns-in-Put g c = rw c.in-Put.is
     (rw append_assoc at (grows-more c.put_lone_node-in-Put.ensures (grows-last (rw c.as_slice.ensures.items at c.put_bytes.ensures))))
 
 pub returns-in-Seen : goal.returns-in-Seen
-returns-in-Seen g c = rw c.in-Seen.is (c.put_seen.ensures (g.N.Naming.language c.args.names.now))
+returns-in-Seen g c = rw c.in-Seen.is (c.put_seen_words.ensures (g.N.Naming.language c.args.names.now))
 
 pub returns-in-Message : goal.returns-in-Message
 returns-in-Message g c = rw c.in-Message.is

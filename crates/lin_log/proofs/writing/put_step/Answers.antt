@@ -1,5 +1,8 @@
 use Rattle.lin_text.proofs.Growing.{grows-more}
+use Rattle.lin_core.specs.Tables.{direction_word}
+use Rattle.lin_log.proofs.CallerTexts.{quiet-same}
 use Rattle.lin_log.proofs.Ends.{grows-last}
+use Rattle.lin_log.proofs.Quiet.{quiet-direction}
 use Rattle.lin_log.proofs.writing.put_step.Goals as goal
 
 pub returns-in-Send : goal.returns-in-Send
@@ -20,7 +23,7 @@ pub returns-in-Hurt : goal.returns-in-Hurt
 returns-in-Hurt g c = rw c.in-Hurt.is (grows-more c.put_text-in-Hurt.ensures (grows-last (rw c.as_slice-in-Hurt.ensures at c.put_bytes-in-Hurt.ensures)))
 
 pub returns-in-Timeout : goal.returns-in-Timeout
-returns-in-Timeout g c = rw c.in-Timeout.is
+returns-in-Timeout g c = rw (c.in-Timeout.is, quiet-same (direction_word c.in-Timeout.dir) (quiet-direction c.in-Timeout.dir))
     (grows-more c.put_text-in-Timeout.ensures (grows-more c.put_node-in-Timeout.ensures (grows-last (rw c.word.ensures at c.put_word.ensures))))
 
 pub returns-in-Switch : goal.returns-in-Switch

@@ -1,6 +1,7 @@
 use Rattle.std.proofs.Common.{◌∷◌, [], ◌++◌, List, ℕ, codes, flat_map, rules}
 use Rattle.std.specs.Fmt.{decimal}
 use Rattle.lin_parts.specs.Cluster.{named_table, table_of}
+use Rattle.lin_log.specs.CallerTexts.{seen_text}
 use Rattle.lin_log.specs.Words.{spaced_word}
 use Rattle.lin_schedule.specs.Cycles.{longest_cycle}
 use Rattle.lin_schedule.specs.Schedule.{total}
@@ -17,7 +18,7 @@ returns g c =
     let t = c.args.table in
     let slot : ℕ × ℕ = tightest_slot x t in
     let head : List (List ℕ) =
-    decimal t ∷ (named_table x t).name ∷ decimal (total (table_of x t)) ∷ decimal (longest_cycle x t)
+    decimal t ∷ seen_text (named_table x t).name ∷ decimal (total (table_of x t)) ∷ decimal (longest_cycle x t)
     ∷ decimal (permille (bits_of x t) x.speed (total (table_of x t))) ∷ [] in
     let first : Grows g.W.Write.contents c.args.out.now c.put_head.new.out (codes "timing" ++ flat_map spaced_word head) = search rules in
     let last : Grows g.W.Write.contents c.put_byte.new.self c.put_slack.new.out (slack slot.0 slot.1) = search rules in

@@ -2,7 +2,7 @@ use Rattle.std.proofs.Common.{◌∙◌, ◌≡◌, Err, ap, subst}
 use Rattle.std.proofs.lemmas.Result.{err_from_is_err_and}
 use Rattle.lin_live.specs.Serving.{WritesAlone}
 use Rattle.lin_live.specs.Told.{HandData, Is, asked_value, ending_text}
-use Rattle.lin_live.specs.Values.{Said, as_said}
+use Rattle.lin_live.specs.Values.{SaidValue, as_said}
 use Rattle.lin_live.proofs.LinesTold.{failed-alone}
 use Rattle.lin_live.proofs.held.HeldBench.ask.Goals as goal
 
@@ -13,7 +13,7 @@ returns-in_err-write_asked g c =
     let q = c.args.question in
     let said = subst (λ (h : HandData). as_said h.cluster value ≡ asked_value h q) c.self.view_is c.in_ok-value.ensures.said in
     let text =
-    ap (λ (s : Said). ending_text after (Is s)) said ∙ ap (λ (h : HandData). ending_text h (Is (asked_value h q))) c.take_slot-known.ensures.same in
+    ap (λ (s : SaidValue). ending_text after (Is s)) said ∙ ap (λ (h : HandData). ending_text h (Is (asked_value h q))) c.take_slot-known.ensures.same in
     let written =
     subst (λ t. WritesAlone (g.W.Write.contents c.args.writer.now) (g.W.Write.contents c.write_asked.new.writer) t c.write_asked.result) text c.write_asked.ensures in
     let p = err_from_is_err_and c.from_residual-in_err-write_asked.result c.from_residual-in_err-write_asked.ensures.1 in

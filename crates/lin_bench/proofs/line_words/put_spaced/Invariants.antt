@@ -1,8 +1,0 @@
-use Rattle.std.proofs.Common.{take, map}
-use Rattle.lin_text.specs.Written.{Grows}
-use Rattle.lin_bench.specs.LineWords.{as_word, spaced_words}
-use Rattle.lin_bench.proofs.line_words.put_spaced.Given as goal
-
-abbrev pub invariant-loop-word : goal.invariant-loop-word
-invariant-loop-word g l =
-    Grows g.W.Write.contents l.initial.out l.out (spaced_words (g.N.Naming.language l.names) (g.N.LineNaming.frames l.names) (map as_word (take l.word-index l.words)))
