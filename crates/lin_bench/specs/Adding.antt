@@ -1,10 +1,11 @@
 -- What a core keeps for its rules, and what making the steps that they add answers.
 use Rattle.std.specs.Prelude.{◌≡◌, Bool, true, false, ℕ, ◌<◌, ◌-◌, ◌^◌, List, [], ◌∷◌, ◌++◌, length, reverse, Option}
 use Rattle.std.specs.Prelude.{if◌then◌else◌, filter, is_some, map, slice_index, Some, None, Result, Ok, Err}
+use Rattle.std.specs.Option.{option_map_or}
 use Rattle.lin_parts.specs.Cluster.{nad, nodes}
 use Rattle.lin_parts.specs.declared.parts.Parts.{Parts}
 use Rattle.lin_core.specs.Core.{CoreData, IsAlike, entry_with_reply, past_of}
-use Rattle.lin_core.specs.History.{Slot, good_bytes, is_finish, open_slot}
+use Rattle.lin_core.specs.History.{Slot, good_bytes, header_and_first, is_finish, open_slot}
 use Rattle.lin_core.specs.Replies.{link_at, may}
 use Rattle.lin_core.specs.Runs.{entry_of}
 use Rattle.lin_core.specs.declared.event.Event.{Event}
@@ -15,6 +16,7 @@ use Rattle.lin_core.specs.declared.log.LogEntry.{LogEntry}
 use Rattle.lin_core.specs.declared.port.PortId.{PortId}
 use Rattle.lin_core.specs.declared.step.Step.{Step}
 use Rattle.lin_core.specs.declared.step.Step.TheVariants.{Finish}
+use Rattle.lin_transport.specs.Transport.{looks_at}
 use Rattle.lin_bench.specs.Added.{added_after, is_given_up, is_good_on, last_good, links_at, noted_by, rules_after, timeout_step}
 use Rattle.lin_bench.specs.Errors.{errors_told, is_damaged_seen}
 use Rattle.lin_bench.specs.Faults.{slots_finished}
@@ -35,6 +37,17 @@ abbrev pub AreEnds : CoreData → Direction → List ℕ → Type 0
 AreEnds core dir ends =
     (n : ℕ) → n < nodes core.cluster
     → slice_index ends n ≡ last_good core.cluster (past_of core) (link_at n dir)
+
+-- whether a node looks at frames to an address
+abbrev pub node_looks_at : Parts → ℕ → ℕ → Bool
+node_looks_at c address n =
+    option_map_or (λ k. looks_at (record { nad = k; all = true }) address) (nad c n) false
+
+-- of the nodes that look at frames to an address, and of no other, this time is kept
+abbrev pub HearsDown : Parts → ℕ → ℕ → List ℕ → List ℕ → Type 0
+HearsDown c address time old new =
+    (n : ℕ) → n < nodes c
+    → slice_index new n ≡ (if node_looks_at c address n then time else slice_index old n)
 
 abbrev pub IsTimed : Inside → Type 0
 IsTimed a =
@@ -77,6 +90,15 @@ pub record IsAfterFinish (old : CoreData) (by : PortId) (s : Slot) (new : CoreDa
   pub log : new.log ≡ old.log ++ entry_with_reply old by Finish ∷ []
   pub alike : IsAlike old new
   pub slot : open_slot (past_of old) ≡ Some s
+
+-- when the last good frames ended is kept anew, if the newest step of this core finished a slot that was
+-- for no service, where it was kept before
+abbrev pub HearsFinish : CoreData → Option ℕ → Option ℕ → Ends → Ends → Type 0
+HearsFinish core header node before after =
+    (old : CoreData) → (by : PortId) → (s : Slot) → IsAfterFinish old by s core
+    → s.service ≡ false → header_and_first s ≡ (header, node)
+    → AreEnds old Down before.downs → AreEnds old Up before.ups
+    → AreEnds core Down after.downs × AreEnds core Up after.ups
 
 -- the entry of a finish on a core with this history
 abbrev pub finish_of : CoreData → List LogEntry → PortId → LogEntry

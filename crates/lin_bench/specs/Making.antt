@@ -1,6 +1,6 @@
 -- What making steps on a core answers.
 use Rattle.std.specs.Prelude.{◌≡◌, Bool, ℕ, ◌<◌, ◌+◌, ◌-◌, ◌^◌, ◌≤◌, List, ◌++◌, false, length, true, Option}
-use Rattle.std.specs.Prelude.{Some, None, Result, Ok, Err}
+use Rattle.std.specs.Prelude.{Some, None, Result, Ok, Err, option_map}
 use Rattle.lin_parts.specs.declared.parts.Parts.{Parts}
 use Rattle.lin_core.specs.Core.{CoreData, IsAlike, past_of}
 use Rattle.lin_core.specs.declared.log.LogEntry.{LogEntry}
@@ -8,10 +8,12 @@ use Rattle.lin_core.specs.declared.port.PortId.{PortId}
 use Rattle.lin_core.specs.declared.step.Step.{Step}
 use Rattle.lin_bench.specs.Faults.{is_changed, struck}
 use Rattle.lin_bench.specs.Made.{comes, fails, never_ends}
+use Rattle.lin_bench.specs.Searches.{taken_by}
 use Rattle.lin_bench.specs.Slots.{Course, course_after, after_made, extent_steps, most, ended_slot_count}
 use Rattle.lin_bench.specs.declared.expected.Expected.{Expected}
 use Rattle.lin_bench.specs.declared.slot_runs.Ending.{Ending}
 use Rattle.lin_bench.specs.declared.taken.EventKind.{EventKind}
+use Rattle.lin_bench.specs.declared.taken.TakenEvents.{TakenEvents}
 use Rattle.lin_bench.specs.declared.rules.Rules.{Rules}
 use Rattle.lin_bench.specs.declared.line.Disturbance.{Disturbance}
 use Rattle.lin_bench.specs.declared.line.Extent.{Extent}
@@ -111,6 +113,13 @@ SlotsFail LogFull a how extent ends left =
     (ended_slot_count (extent_on a how extent ends) ≤ left → NoRoom a (extent_on a how extent ends))
     × (left < ended_slot_count (extent_on a how extent ends) → NoRoom a (first_on a how extent ends left))
 SlotsFail OutOfMemory a how extent ends left = Unit {0}
+
+-- whether what ends a line early is so in a course, with the events that are taken and the number of
+-- entries at the line's beginning
+abbrev pub line_ends : RuledData → TakenEvents → ℕ → Option Ending → Course → Bool
+line_ends old taken began ending =
+    ends_at old.core.cluster old.core.opening (taken_by old.core.log taken) began
+    (option_map ending_of ending)
 
 -- the slots of a line were made, and so many are left; or they are more than were left, and those
 -- were made

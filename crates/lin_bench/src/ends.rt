@@ -1,14 +1,11 @@
 //! When the last good frames of links ended.
 
-ghost use Rattle.std.specs.Prelude.{◌≡◌, ◌<◌, [], false, true, if◌then◌else◌, length, slice_index, ℕ, Some};
-ghost use Rattle.std.specs.Option.{option_map_or};
-ghost use Rattle.lin_parts.specs.Cluster.{nad, nodes};
+ghost use Rattle.std.specs.Prelude.{◌≡◌, ◌<◌, [], false, length, Some};
+ghost use Rattle.lin_parts.specs.Cluster.{nodes};
 ghost use Rattle.lin_core.specs.Core.{CoreData};
 ghost use Rattle.lin_core.specs.History.{Slot, good, header_and_first};
 ghost use Rattle.lin_core.specs.declared.link.Direction.TheVariants.{Down, Up};
-ghost use Rattle.lin_core.specs.declared.port.PortId.{PortId};
-ghost use Rattle.lin_transport.specs.Transport.{looks_at};
-ghost use Rattle.lin_bench.specs.Adding.{AreEnds, IsAfterFinish, AreHeardTimes, end_of};
+ghost use Rattle.lin_bench.specs.Adding.{AreEnds, AreHeardTimes, HearsDown, HearsFinish, end_of, node_looks_at};
 
 use crate::replies::{first_byte, good_bytes};
 use lin_core::{Core, Direction, MASTER_REQUEST, NODES, SLAVE_RESPONSE};
@@ -26,8 +23,7 @@ pub(crate) struct Ends {
 /// Whether the node that has this number looks at frames to an address.
 fn looks_at(cluster: &Cluster, node: u8, address: u8) -> bool
     requires { node < nodes cluster.now }
-    ensures { result ≡ option_map_or
-        (λ n. looks_at (record { nad = n; all = true }) address) (nad cluster.now node) false }
+    ensures { result ≡ node_looks_at cluster.now address node }
 {
     match cluster.nad(node) {
         Some(nad) => address == FUNCTIONAL || address == nad,
@@ -37,9 +33,7 @@ fn looks_at(cluster: &Cluster, node: u8, address: u8) -> bool
 
 /// Keeps that a good frame to an address ended at a time.
 fn hear_down(downs: &mut [u64; NODES], cluster: &Cluster, address: u8, time: u64)
-    ensures { (n : ℕ) → n < nodes cluster.now → slice_index downs.new n
-        ≡ (if option_map_or (λ k. looks_at (record { nad = k; all = true }) address)
-        (nad cluster.now n) false then time else slice_index downs.old n) }
+    ensures { HearsDown cluster.now address time downs.old downs.new }
 {
     for node in 0..cluster.nodes() {
         if looks_at(cluster, node as u8, address) {
@@ -91,10 +85,7 @@ impl Ends {
     /// slot was seen good: one with this header, in which this node answered first, and for no service.
     pub(crate) fn hear(&mut self, core: &Core, header: Option<u8>, node: Option<u8>)
         requires { 0 < length core.now.log }
-        ensures { (old : CoreData) → (by : PortId) → (s : Slot) → IsAfterFinish old by s core.now
-            → s.service ≡ false → header_and_first s ≡ (header, node)
-            → AreEnds old Down self.old.downs → AreEnds old Up self.old.ups
-            → AreEnds core.now Down self.new.downs × AreEnds core.now Up self.new.ups }
+        ensures { HearsFinish core.now header node self.old self.new }
     {
         if let Some(bytes) = good_bytes(core.newest()) {
             self.hear_good(core.cluster(), core.time(), header, node, bytes);

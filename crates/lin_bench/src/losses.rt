@@ -1,12 +1,11 @@
 //! Losses that no expectation has taken.
 
-ghost use Rattle.std.specs.Prelude.{◌≡◌, ◌++◌, ◌∷◌, List, count_by, flat_map, option_map, reverse, take, true};
+ghost use Rattle.std.specs.Prelude.{◌≡◌, count_by, option_map, reverse, true};
 ghost use Rattle.lin_core.specs.History.{events};
 ghost use Rattle.lin_core.specs.declared.event.Event.{Event};
-ghost use Rattle.lin_core.specs.declared.log.LogEntry.{LogEntry};
-ghost use Rattle.lin_bench.specs.Losses.{AreOf, is_left};
+ghost use Rattle.lin_bench.specs.Losses.{TellsIfLeft, TellsIfLossLeft, TellsLossIn};
 ghost use Rattle.lin_bench.specs.Searches.{AreClear, IsSearchState, taken_by};
-ghost use Rattle.lin_bench.specs.Verdicts.{first_loss, is_host, is_loss_left, is_of_kind, loss_after};
+ghost use Rattle.lin_bench.specs.Verdicts.{first_loss, is_host, is_loss_left, is_of_kind};
 ghost use Rattle.lin_bench.specs.declared.taken.EventKind.TheVariants.{Fates};
 
 use crate::taken::{EventKind, TakenEvents, events_of, last_end};
@@ -30,10 +29,7 @@ fn count_of(told: &[Event], kind: EventKind) -> usize
 
 /// Whether what became of a host's message isn't taken, by its entry and the events before it there.
 fn is_left(taken: &TakenEvents, host: u8, entry: usize, before: &[Event]) -> bool
-    ensures { (es : List LogEntry) → (e : Event) → (rest : List Event) → IsSearchState es taken.now
-        → AreOf es entry (before.now ++ e ∷ rest) → is_of_kind (Fates host) e ≡ true
-        → result ≡ is_left (taken_by es taken.now) host
-        (flat_map events (take entry es) ++ before.now) }
+    ensures { TellsIfLeft taken.now host entry before.now result }
 {
     let kind = EventKind::Fates { host };
     let end = last_end(taken, kind);
@@ -51,10 +47,7 @@ fn is_loss_left(
     before: &[Event],
     event: &Event,
 ) -> bool
-    ensures { (es : List LogEntry) → (rest : List Event) → IsSearchState es taken.now
-        → AreOf es entry (before.now ++ event.now ∷ rest)
-        → result ≡ is_loss_left which (taken_by es taken.now)
-        (flat_map events (take entry es) ++ before.now) event.now }
+    ensures { TellsIfLossLeft taken.now which entry before.now event.now result }
 {
     match event {
         Event::Lost { host, .. } => {
@@ -71,9 +64,7 @@ fn loss_in<'a>(
     entry: usize,
     told: &'a [Event],
 ) -> Option<&'a Event>
-    ensures { (es : List LogEntry) → IsSearchState es taken.now → AreOf es entry told.now
-        → option_map (λ e. e.now) result
-        ≡ loss_after which (taken_by es taken.now) (flat_map events (take entry es)) told.now }
+    ensures { TellsLossIn taken.now which entry told.now (option_map (λ e. e.now) result) }
 {
     for index in 0..told.len() {
         if is_loss_left(taken, which, entry, &told[..index], &told[index]) {

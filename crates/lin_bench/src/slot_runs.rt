@@ -6,7 +6,7 @@ ghost use Rattle.lin_core.specs.History.{is_in};
 ghost use Rattle.lin_core.specs.declared.step.Step.TheVariants.{Open};
 ghost use Rattle.lin_core.specs.Core.{past_of};
 ghost use Rattle.lin_core.specs.declared.port.PortId.TheVariants.{Bus};
-ghost use Rattle.lin_bench.specs.Making.{MakesSlots, MakesSteps, course_on, ending_of, ends_at};
+ghost use Rattle.lin_bench.specs.Making.{MakesSlots, MakesSteps, course_on, line_ends};
 ghost use Rattle.lin_bench.specs.Searches.{IsSearchState, taken_by};
 ghost use Rattle.lin_bench.specs.Slots.{decision, due_in, due_now, goes_on, hosts_waiting};
 ghost use Rattle.lin_bench.specs.Slots.{due_node, hurt_steps, is_opened, leave_nodes, most, goes_on_until};
@@ -217,8 +217,7 @@ fn is_ended(
     taken: &mut TakenEvents,
 ) -> Result<bool, AllocError>
     requires { IsSearchState ruled.now.core.log taken.old }
-    ensures ended { IfOk result (λ is. is ≡ ends_at ruled.now.core.cluster ruled.now.core.opening
-        (taken_by ruled.now.core.log taken.old) entries (option_map ending_of ending.entry)
+    ensures ended { IfOk result (λ is. is ≡ line_ends ruled.now taken.old entries ending.entry
         (course_on ruled.now)) }
     ensures taken { OnOk result
         (taken_by ruled.now.core.log taken.new ≡ taken_by ruled.now.core.log taken.old) }
@@ -248,8 +247,7 @@ fn is_going(
 ) -> Result<bool, AllocError>
     requires { IsSearchState ruled.now.core.log taken.old }
     ensures going { IfOk result (λ is. is ≡ goes_on_until ruled.now.core.cluster extent
-        (ends_at ruled.now.core.cluster ruled.now.core.opening (taken_by ruled.now.core.log taken.old)
-        entries (option_map ending_of ending.entry)) began (course_on ruled.now)) }
+        (line_ends ruled.now taken.old entries ending.entry) began (course_on ruled.now)) }
     ensures taken { OnOk result
         (taken_by ruled.now.core.log taken.new ≡ taken_by ruled.now.core.log taken.old) }
     ensures known { IsSearchState ruled.now.core.log taken.new }
@@ -274,8 +272,7 @@ pub(crate) fn slots(
 ) -> Result<Option<u32>, MakeFault>
     requires { IsSearchState ruled.old.core.log taken.old }
     ensures made { MakesSlots ruled.old how.now extent
-        (ends_at ruled.old.core.cluster ruled.old.core.opening (taken_by ruled.old.core.log taken.old)
-        (length (past_of ruled.old.core)) (option_map ending_of ending.entry)) left result ruled.new }
+        (line_ends ruled.old taken.old (length (past_of ruled.old.core)) ending.entry) left result ruled.new }
     ensures taken { OnOk result
         (taken_by ruled.new.core.log taken.new ≡ taken_by ruled.old.core.log taken.old) }
     ensures known { IsSearchState ruled.new.core.log taken.new }
