@@ -389,10 +389,13 @@ abbrev pub blocks_text : List ℕ → List Attributes → List (List Token) → 
 blocks_text source blocks ps =
     braced_section (codes "Node_attributes") blocks (with_parts (block_text source) ps 0 blocks)
 
+abbrev pub table_texts : List ℕ → List Table → List (List ℕ) → List (List Token) → List ℕ
+table_texts source tables names ps =
+    with_parts (λ p. table_text_by source p.0 p.1) ps 0 (zip tables names)
+
 abbrev pub tables_text : List ℕ → List Table → List (List ℕ) → List (List Token) → List ℕ
 tables_text source tables names ps =
-    braced_section (codes "Schedule_tables") tables
-    (with_parts (λ p. table_text_by source p.0 p.1) ps 0 (zip tables names))
+    braced_section (codes "Schedule_tables") tables (table_texts source tables names ps)
 
 -- the header and the nodes
 abbrev pub header_part : PlainData → List ℕ

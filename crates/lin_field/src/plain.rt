@@ -8,7 +8,7 @@ ghost use Rattle.lin_field.specs.Plain.{signal_text, frame_text, sporadic_text, 
 ghost use Rattle.lin_field.specs.Plain.{kept_line, kept_section, kept_sections, other_section};
 ghost use Rattle.lin_field.specs.Plain.{other_sections, language};
 ghost use Rattle.lin_field.specs.Plain.{attribute_text, kept_attributes, block_text, table_text_by};
-ghost use Rattle.lin_field.specs.Plain.{header_text, nodes_text, section_text, events_text, with_parts};
+ghost use Rattle.lin_field.specs.Plain.{header_text, nodes_text, section_text, events_text, table_texts, with_parts};
 ghost use Rattle.lin_field.specs.Plain.{blocks_text, tables_text, header_part, frames_part};
 ghost use Rattle.lin_field.specs.Plain.{tables_part, plain_of, plain_text, WritesPlainText};
 
@@ -325,8 +325,8 @@ fn put_tables<W: Write>(out: &mut TextWriter<'_, W>, source: &[u8], named: Named
 fn put_all_tables<W: Write>(out: &mut TextWriter<'_, W>, source: &[u8], named: NamedTables<'_>)
     requires { length named.names.now ≡ length named.tables.now }
     ensures { Grows W.contents out.old out.new
-        (with_parts (λ p. table_text_by source.now p.0 p.1) (map (λ p. p.now) named.entry.parts.now) 0
-        (zip named.entry.tables.now named.entry.names.now)) }
+        (table_texts source.now named.entry.tables.now named.entry.names.now
+        (map (λ p. p.now) named.entry.parts.now)) }
 {
     let NamedTables {
         tables,

@@ -13,7 +13,7 @@ use Rattle.lin_field.specs.GrammarLaws.{wide_int_takes}
 use Rattle.lin_sections.specs.Real.{real_units}
 use Rattle.lin_sections.specs.Texts.{shown_text}
 use Rattle.lin_values.specs.Value.{shortest}
-use Rattle.lin_sections.specs.Coding.{between_quotes, raw_value, next_raw_value, is_mark_next, sign, is_part, run_from, run, real, text_of_item, logical, physical, bcd, ascii, item, type_head, coded_line}
+use Rattle.lin_sections.specs.Coding.{between_quotes, raw_value, next_raw_value, is_mark_next, optional_sign, is_part, run_from, run, real, text_of_item, logical, physical, bcd, ascii, item, type_head, coded_line}
 use Rattle.lin_sections.proofs.PassedSteps.{tail-keeps}
 
 -- fewer than n tokens are left behind what is read, if it is read
@@ -51,7 +51,7 @@ value-leaves most n ts h =
 next_value-leaves : (most n : ℕ) (ts : List Symbol) → length ts < n → Leaves n (next_raw_value most ts)
 next_value-leaves most n ts h = after n ((mark kinds.Comma).read ts) _ (keeping n (mark_takes kinds.Comma).lawful ts h) (λ u less. value-leaves most n u.1 less)
 
-sign-keeps : (ts : List Symbol) → length (sign ts).1 ≤ length ts
+sign-keeps : (ts : List Symbol) → length (optional_sign ts).1 ≤ length ts
 sign-keeps ts =
     let less = tail-keeps ts in
     elim (is_mark_next (codes "-") ts) as (λ b. length (cond {A = Bool × List Symbol} b (true, tail ts) (cond (is_mark_next (codes "+") ts) (false, tail ts) (false, ts))).1 ≤ length ts) [
@@ -72,7 +72,7 @@ run-keeps line column (t ∷ ts) =
 
 real-leaves : (n : ℕ) (ts : List Symbol) → length ts < n → Leaves n (real ts)
 real-leaves n ts h =
-    let s = sign ts in
+    let s = optional_sign ts in
     let r = run s.1 in
     let p : length s.1 ≤ length ts = sign-keeps ts in
     let q : length r.1 ≤ length s.1 = run-keeps _ _ s.1 in

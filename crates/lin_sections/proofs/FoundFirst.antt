@@ -8,7 +8,7 @@ use Rattle.std.proofs.lemmas.List.Folds.{find-append}
 use Rattle.lin_frame.specs.Words.{numbers}
 use Rattle.lin_parts.specs.Cluster.{nad, node_of, nodes}
 use Rattle.lin_parts.specs.declared.parts.Parts.{Parts}
-use Rattle.lin_sections.specs.Requests.{address_of, is_named}
+use Rattle.lin_sections.specs.Requests.{address_of, is_responder_named}
 
 -- ---- numbers
 
@@ -45,15 +45,15 @@ no-number p n (suc i) h none =
 
 -- ---- the address of the node with a name
 
-named : (c : Parts) (name : List ℕ) (n : ℕ) (b : Bool) → 1 ≤ n → bytes_eq (node_of c n).name name ≡ b → is_named c name n ≡ b
+named : (c : Parts) (name : List ℕ) (n : ℕ) (b : Bool) → 1 ≤ n → bytes_eq (node_of c n).name name ≡ b → is_responder_named c name n ≡ b
 named c name n b h e = rw (lt-ltb 0 n h) e
 
-pub address-found : (c : Parts) (name : List ℕ) (n : ℕ) (own : Option ℕ) → 1 ≤ n → n < nodes c → bytes_eq (node_of c n).name name ≡ true → find (is_named c name) (numbers n) ≡ None → own ≡ nad c n → own ≡ address_of c name
+pub address-found : (c : Parts) (name : List ℕ) (n : ℕ) (own : Option ℕ) → 1 ≤ n → n < nodes c → bytes_eq (node_of c n).name name ≡ true → find (is_responder_named c name) (numbers n) ≡ None → own ≡ nad c n → own ≡ address_of c name
 address-found c name n own some less is none here =
-    here ∙ sym (ap (option_and_then (nad c)) (first-number (is_named c name) (nodes c) n less none (named c name n true some is)))
+    here ∙ sym (ap (option_and_then (nad c)) (first-number (is_responder_named c name) (nodes c) n less none (named c name n true some is)))
 
-pub not-named : (c : Parts) (name : List ℕ) (n : ℕ) → 1 ≤ n → bytes_eq (node_of c n).name name ≡ false → find (is_named c name) (numbers n) ≡ None → find (is_named c name) (numbers (n + 1)) ≡ None
-not-named c name n some isnt none = one-number-less (is_named c name) n none (named c name n false some isnt)
+pub not-named : (c : Parts) (name : List ℕ) (n : ℕ) → 1 ≤ n → bytes_eq (node_of c n).name name ≡ false → find (is_responder_named c name) (numbers n) ≡ None → find (is_responder_named c name) (numbers (n + 1)) ≡ None
+not-named c name n some isnt none = one-number-less (is_responder_named c name) n none (named c name n false some isnt)
 
-pub no-address : (c : Parts) (name : List ℕ) (n : ℕ) → nodes c ≤ n → find (is_named c name) (numbers n) ≡ None → None ≡ address_of c name
-no-address c name n all none = sym (ap (option_and_then (nad c)) (no-number (is_named c name) (nodes c) n all none))
+pub no-address : (c : Parts) (name : List ℕ) (n : ℕ) → nodes c ≤ n → find (is_responder_named c name) (numbers n) ≡ None → None ≡ address_of c name
+no-address c name n all none = sym (ap (option_and_then (nad c)) (no-number (is_responder_named c name) (nodes c) n all none))

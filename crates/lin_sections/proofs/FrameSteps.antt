@@ -7,7 +7,7 @@ use Rattle.std.proofs.lemmas.List.{flat_map_more, take_more}
 use Rattle.lin_cluster.specs.LintNames.{is_of_text}
 use Rattle.lin_parts.specs.declared.description.Table.{Table}
 use Rattle.lin_parts.specs.declared.description.TableEntry.{TableEntry}
-use Rattle.lin_sections.specs.FrameTimes.{is_entry_for, distances, longest, table_distances, time_to}
+use Rattle.lin_sections.specs.FrameTimes.{is_frame_entry, distances, longest, table_distances, time_to}
 
 -- ---- entries: what follows from one of them on
 
@@ -28,25 +28,25 @@ none-follows w es first = record {
 one-left : (es : List TableEntry) (i : ℕ) (e : TableEntry) → i < length es → e ≡ get_or es i e → drop i es ≡ e ∷ drop (i + 1) es
 one-left es i e h is = drop-cons es i e h ∙ (λ j. sym is j ∷ drop (sym (add-one i) j) es)
 
-farthest : (w : List ℕ) (e : TableEntry) (es others : List TableEntry) → longest (distances w (e ∷ es) others) ≡ cond (is_entry_for w e) (max (time_to w (es ++ others)) (longest (distances w es others))) (longest (distances w es others))
+farthest : (w : List ℕ) (e : TableEntry) (es others : List TableEntry) → longest (distances w (e ∷ es) others) ≡ cond (is_frame_entry w e) (max (time_to w (es ++ others)) (longest (distances w es others))) (longest (distances w es others))
 farthest w e es others =
-    elim (is_entry_for w e) as (λ b. longest (cond b (time_to w (es ++ others) ∷ distances w es others) (distances w es others)) ≡ cond b (max (time_to w (es ++ others)) (longest (distances w es others))) (longest (distances w es others))) [
+    elim (is_frame_entry w e) as (λ b. longest (cond b (time_to w (es ++ others) ∷ distances w es others) (distances w es others)) ≡ cond b (max (time_to w (es ++ others)) (longest (distances w es others))) (longest (distances w es others))) [
       | true ↦ refl
       | false ↦ refl
     ]
 
 pub one-follows : (w : List ℕ) (es : List TableEntry) (first left i next most now far : ℕ) (e : TableEntry) → left ≡ i + 1 → i < length es → e ≡ get_or es i e
-    → now ≡ e.delay.value + cond (is_entry_for w e) 0 next → far ≡ cond (is_entry_for w e) (max next most) most → now ≤ next + 2 ^ 32
+    → now ≡ e.delay.value + cond (is_frame_entry w e) 0 next → far ≡ cond (is_frame_entry w e) (max next most) most → now ≤ next + 2 ^ 32
     → Follows w es first left next most → Follows w es first i now far
 one-follows w es first left i next most now far e at h is here so bounded behind = record {
   within = omega arith;
   time = λ others from.
-      here ∙ ap (λ n. e.delay.value + cond (is_entry_for w e) 0 n) (behind.time others from ∙ ap (λ n. time_to w (drop n es ++ others)) at)
+      here ∙ ap (λ n. e.delay.value + cond (is_frame_entry w e) 0 n) (behind.time others from ∙ ap (λ n. time_to w (drop n es ++ others)) at)
       ∙ ap (λ fs. time_to w (fs ++ others)) (sym (one-left es i e h is));
   distance = λ others from.
       so
-      ∙ (λ j. cond (is_entry_for w e) (max (behind.time others from j) (behind.distance others from j)) (behind.distance others from j))
-      ∙ ap (λ n. cond (is_entry_for w e) (max (time_to w (drop n es ++ others)) (longest (distances w (drop n es) others))) (longest (distances w (drop n es) others))) at
+      ∙ (λ j. cond (is_frame_entry w e) (max (behind.time others from j) (behind.distance others from j)) (behind.distance others from j))
+      ∙ ap (λ n. cond (is_frame_entry w e) (max (time_to w (drop n es ++ others)) (longest (distances w (drop n es) others))) (longest (distances w (drop n es) others))) at
       ∙ sym (farthest w e (drop (i + 1) es) others)
       ∙ ap (λ fs. longest (distances w fs others)) (sym (one-left es i e h is));
   bound = let b : next + left * 2 ^ 32 ≤ first + length es * 2 ^ 32 = behind.bound in omega arith;

@@ -54,6 +54,10 @@ no_response_error d header bs n =
     when (publishes d n && not (has_attribute bs (codes "response_error") n)
     && option_map_or has_status (version_of d header n) false) (at_name NoResponseError n)
 
+-- of all responders
+abbrev pub no_response_errors : Description → Option (List ℕ) → List NodeAttributes → List Finding
+no_response_errors d header bs = flat_map (no_response_error d header bs) d.slaves
+
 -- ---- warnings at the word of an attribute (section 9.2.2.2)
 
 abbrev pub at_word : FindingKind → List Symbol → Finding
@@ -66,6 +70,10 @@ same_word ts us = bytes_eq (front us).text (front ts).text
 
 abbrev pub attribute_twice : List (List Symbol) → List Symbol → List Finding
 attribute_twice before ts = when (list_any (same_word ts) before) (at_word AttributeTwice ts)
+
+-- the same where a set has the words of the block
+abbrev pub twice_in : {V S : Type 0} → IndexMap (Bor (List ℕ)) V S → List Symbol → List Finding
+twice_in words ts = when (has_text words (front ts).text) (at_word AttributeTwice ts)
 
 -- 69 BadAttribute: no product identification, no time, or not one word
 
@@ -110,7 +118,7 @@ of_block d b = if is_node d b.node then told_by (of_attribute d b.node) [] b.att
 
 abbrev pub attribute_lints : Description → Option (List ℕ) → List NodeAttributes → List Finding
 attribute_lints d header bs =
-    flat_map (no_response_error d header bs) d.slaves ++ flat_map (of_block d) bs
+    no_response_errors d header bs ++ flat_map (of_block d) bs
 
 -- ---- what is kept
 
@@ -118,6 +126,11 @@ attribute_lints d header bs =
 abbrev pub HasWords : {V S : Type 0} → IndexMap (Bor (List ℕ)) V S → List (List Symbol) → Type 0
 HasWords words before =
     (q : List ℕ) → has_text words q ≡ list_any (λ us. bytes_eq (front us).text q) before
+
+-- what holds of the attributes whose words a set has
+abbrev pub WithWords : {V S : Type 0} → IndexMap (Bor (List ℕ)) V S → (List (List Symbol) → Type 0)
+    → Type 0
+WithWords words holds = (before : List (List Symbol)) → HasWords words before → holds before
 
 -- a description, and what its nodes are judged by
 

@@ -32,8 +32,8 @@ abbrev pub is_mark_next : List ℕ → List Symbol → Bool
 is_mark_next w ts = is_front (λ t. is_kind kinds.Other t.kind && bytes_eq t.text w) ts
 
 -- whether a `-` is next; it, or a `+`, is passed over
-abbrev pub sign : List Symbol → Bool × List Symbol
-sign ts =
+abbrev pub optional_sign : List Symbol → Bool × List Symbol
+optional_sign ts =
     if is_mark_next (codes "-") ts then (true, tail ts)
     else if is_mark_next (codes "+") ts then (false, tail ts)
     else (false, ts)
@@ -60,7 +60,7 @@ run ts = run_from (front ts).line (front ts).column ts
 -- number on
 abbrev pub real : List Symbol → Option (Decimal × List Symbol)
 real ts =
-    let s = sign ts
+    let s = optional_sign ts
     in let r = run s.1
     in option_map (λ n. (shortest s.0 n, r.1)) (real_units r.0)
 

@@ -28,8 +28,8 @@ command_of word =
 
 -- ---- from after the opening brace up to the closing one, where a byte is an INT up to 255
 -- bytes may end here, where so many more are needed
-abbrev pub is_end : ℕ → List Symbol → Bool
-is_end needed ts = needed == 0 && is_next CloseBrace ts
+abbrev pub is_end_of_bytes : ℕ → List Symbol → Bool
+is_end_of_bytes needed ts = needed == 0 && is_next CloseBrace ts
 
 -- behind bytes that were read: { ',' byte }* '}', so many more at least, and so many more at most
 abbrev pub more_bytes : List Number → ℕ → ℕ → List Symbol → Reading (List Number)
@@ -37,7 +37,7 @@ more_bytes bytes least zero ts = do
   e ← mark_next CloseBrace ts
   Ok (bytes, e.1)
 more_bytes bytes least (suc most) ts =
-    if is_end least ts then Ok (bytes, tail ts)
+    if is_end_of_bytes least ts then Ok (bytes, tail ts)
     else next_to 255 ts >>= λ b. more_bytes (bytes ++ b.0 ∷ []) (least - 1) most b.1
 
 -- what a call read is all these bytes

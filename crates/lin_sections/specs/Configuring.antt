@@ -9,7 +9,8 @@ use Rattle.lin_cluster.specs.declared.finding.Finding.{Finding}
 use Rattle.lin_cluster.specs.declared.finding.FindingKind.TheVariants.{BadCommand, UnknownCommand}
 use Rattle.lin_frame.specs.Words.{numbers}
 use Rattle.lin_ldf.specs.Forms.{front}
-use Rattle.lin_ldf.specs.Symbols.{Symbol}
+use Rattle.lin_ldf.specs.Stream.{start_of}
+use Rattle.lin_ldf.specs.Symbols.{symbols_in, Symbol}
 use Rattle.lin_ldf.specs.Words.{is_word_next, name_of, place_of}
 use Rattle.lin_parts.specs.Cluster.{nad, node_of, nodes}
 use Rattle.lin_parts.specs.Configured.{with_configuration}
@@ -92,12 +93,22 @@ section_warnings c ids ts =
     if is_group ts && is_word_next (codes "Schedule_tables") ts
     then flat_map (table_command_warnings c ids) (statements (inside ts)) else []
 
+-- of all sections of a text
+abbrev pub source_symbols : List ℕ → List Symbol
+source_symbols source = symbols_in source (start_of source).tokens
+
+abbrev pub all_requests : Parts → List NodeIdentity → List Symbol → List TableRequests
+all_requests c ids ts = flat_map (section_requests c ids) (statements ts)
+
+abbrev pub all_command_warnings : Parts → List NodeIdentity → List Symbol → List Finding
+all_command_warnings c ids ts = flat_map (section_warnings c ids) (statements ts)
+
 -- ---- the requests of the tables of a cluster, by their names
-abbrev pub table_named : List TableRequests → List ℕ → Option TableRequests
-table_named tables name = find (λ t. bytes_eq t.name.text name) tables
+abbrev pub table_requests_named : List TableRequests → List ℕ → Option TableRequests
+table_requests_named tables name = find (λ t. bytes_eq t.name.text name) tables
 
 abbrev pub requests_named : List TableRequests → List ℕ → List (Option (List ℕ))
-requests_named tables name = option_map_or (λ t. t.requests) (table_named tables name) []
+requests_named tables name = option_map_or (λ t. t.requests) (table_requests_named tables name) []
 
 abbrev pub requests_in : Parts → List TableRequests → List (List (Option (List ℕ)))
 requests_in c tables = map (λ t. requests_named tables t.name) c.tables
@@ -123,9 +134,9 @@ abbrev pub configured_by : Parts → List Symbol → Parts
 configured_by c ts =
     let ids = identities_by c ts
     in with_configuration c (identities_in c ids)
-    (requests_in c (flat_map (section_requests c ids) (statements ts)))
+    (requests_in c (all_requests c ids ts))
 
 abbrev pub warnings_by : Parts → List Symbol → List Finding
 warnings_by c ts =
     flat_map (warnings_unless (node_of c 0).name) (node_attributes ts)
-    ++ flat_map (section_warnings c (identities_by c ts)) (statements ts)
+    ++ all_command_warnings c (identities_by c ts) ts

@@ -9,7 +9,9 @@ use Rattle.std.specs.Str.{bytes_eq}
 use Rattle.lin_parts.specs.declared.place.Location.{Location}
 use Rattle.lin_sections.specs.Facts.{class_if_gone, class_if_new, label, overlap}
 use Rattle.lin_sections.specs.Moved.{moved_flags}
-use Rattle.lin_sections.specs.Numbering.{entry_id}
+use Rattle.indexmap.specs.IndexMap.{IndexMap}
+use denote.Ref.{Bor}
+use Rattle.lin_sections.specs.Numbering.{entry_id, ArePlaces}
 use Rattle.lin_sections.specs.declared.diff.difference.Difference.{Difference}
 use Rattle.lin_sections.specs.declared.diff.fact.Class.{Class}
 use Rattle.lin_sections.specs.declared.diff.fact.Class.TheVariants as classes
@@ -117,6 +119,12 @@ moved_entries olds places = map (was_moved places) (range_with_len 0 (length old
 abbrev pub is_moved_by : List ℕ → List EntryFact → EntryFact → Bool
 is_moved_by places olds e = option_map_or (was_moved places) (place_of_entry olds e) false
 
+-- the same by the flags of the entries, and by a map of their places
+abbrev pub TellsMoved : {S : Type 0} → List Bool → IndexMap (Bor (List ℕ)) ℕ S → EntryFact → Bool → Type 0
+TellsMoved moved m e is_moved =
+    (entries : List EntryFact) (places : List ℕ) → ArePlaces (map entry_id entries) m
+    → moved ≡ moved_entries entries places → is_moved ≡ is_moved_by places entries e
+
 abbrev pub is_moved_in : List EntryFact → List EntryFact → EntryFact → Bool
 is_moved_in olds news e = is_moved_by (old_places olds news) olds e
 
@@ -153,6 +161,13 @@ named_difference class kind old_place new_place old new = record {
   old = old;
   new = new;
 }
+
+-- of names with their places
+abbrev pub difference_between : Class → ThingKind → Option (Bor (List ℕ) × Location)
+    → Option (Bor (List ℕ) × Location) → DifferenceData
+difference_between class kind old new =
+    named_difference class kind (option_map (λ t. t.1) old) (option_map (λ t. t.1) new)
+    (option_map (λ t. t.0.now) old) (option_map (λ t. t.0.now) new)
 
 abbrev pub thing_difference : Class → ThingKind → Option Thing → Option Thing → DifferenceData
 thing_difference class kind old new =

@@ -9,20 +9,20 @@ use Rattle.lin_parts.specs.declared.description.Table.{Table}
 use Rattle.lin_parts.specs.declared.description.TableEntry.{TableEntry}
 
 -- an entry for the frame of this name, and not for the configuration of nodes
-abbrev pub is_entry_for : List ℕ → TableEntry → Bool
-is_entry_for w e = not e.has_group && bytes_eq e.name.text w
+abbrev pub is_frame_entry : List ℕ → TableEntry → Bool
+is_frame_entry w e = not e.has_group && bytes_eq e.name.text w
 
 -- until the end of the first of these entries for the frame, in microseconds; until the end of all if there
 -- is none
 abbrev pub time_to : List ℕ → List TableEntry → ℕ
 time_to w [] = 0
-time_to w (e ∷ es) = e.delay.value + (if is_entry_for w e then 0 else time_to w es)
+time_to w (e ∷ es) = e.delay.value + (if is_frame_entry w e then 0 else time_to w es)
 
 -- from the end of each entry for the frame to the end of the next one, where others follow these
 abbrev pub distances : List ℕ → List TableEntry → List TableEntry → List ℕ
 distances w [] others = []
 distances w (e ∷ es) others =
-    if is_entry_for w e then time_to w (es ++ others) ∷ distances w es others else distances w es others
+    if is_frame_entry w e then time_to w (es ++ others) ∷ distances w es others else distances w es others
 
 -- in a table of the text
 abbrev pub table_distances : List ℕ → Table → List ℕ

@@ -4,7 +4,8 @@ use Rattle.std.specs.Prelude.{ℕ, ◌++◌, Bool, List, [], ◌∷◌, codes, f
 use Rattle.std.specs.Fmt.{decimal}
 use Rattle.std.specs.Option.{option_map_or}
 use Rattle.lin_parts.specs.declared.place.Location.{Location}
-use Rattle.lin_sections.specs.Differences.{DifferenceData}
+use Rattle.lin_sections.specs.Differences.{differences_data, DifferenceData}
+use Rattle.lin_sections.specs.declared.diff.difference.Difference.{Difference}
 use Rattle.lin_sections.specs.Facts.{class_word, kind_word}
 use Rattle.lin_sections.specs.declared.diff.fact.Class.{Class}
 use Rattle.lin_sections.specs.declared.diff.fact.Class.TheVariants.{Bytes, Timing, Meaning, Compatible, Names}
@@ -47,3 +48,7 @@ difference_line old_file new_file d =
 abbrev pub difference_lines : List ℕ → List ℕ → Classes → List DifferenceData → List ℕ
 difference_lines old_file new_file classes ds =
     flat_map (difference_line old_file new_file) (filter (λ d. lists_class classes d.class) ds)
+
+abbrev pub differences_text : List ℕ → List ℕ → Classes → List Difference → List ℕ
+differences_text old_file new_file classes ds =
+    difference_lines old_file new_file classes (differences_data ds)

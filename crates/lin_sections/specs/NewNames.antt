@@ -105,6 +105,9 @@ only_in m key = option_and_then (λ o. option_map (λ n. n.now) o) (get_by (λ k
 abbrev pub keyed_name : Keyed → KeyedName
 keyed_name k = record { name = k.name.now; key = k.key }
 
+abbrev pub keyed_names : List Keyed → List KeyedName
+keyed_names ks = map keyed_name ks
+
 abbrev pub renames_data : Renames → RenamesData
 renames_data r = record {
   nodes = known_by r.nodes;
@@ -117,7 +120,7 @@ renames_data r = record {
 -- keys were added: those of the things that aren't among other names
 abbrev pub AddsKeys : KnownNames → List Keyed → List Keyed → List KeyedName → Type 0
 AddsKeys others before after things =
-    map keyed_name after ≡ map keyed_name before ++ alone (has_in others.map) things
+    keyed_names after ≡ keyed_names before ++ alone (has_in others.map) things
 
 -- the names of things with a key, as a list of things has them
 abbrev pub HasOnly : KeyNames → List KeyedName → List ℕ → Type 0

@@ -1,6 +1,6 @@
 -- The numbers of keys and words that come several times.
-use Rattle.std.specs.Prelude.{◌≡◌, ℕ, ◌+◌, ◌==◌, ◌++◌, List, [], ◌∷◌, codes, count_by, if◌then◌else◌, map}
-use Rattle.std.specs.Prelude.{Some, unwrap_or, zip}
+use Rattle.std.specs.Prelude.{◌≡◌, ◌<◌, ◌^◌, ℕ, ◌+◌, ◌==◌, ◌++◌, List, [], ◌∷◌, codes, count_by, if◌then◌else◌, map}
+use Rattle.std.specs.Prelude.{length, Some, unwrap_or, zip}
 use Rattle.std.specs.Fmt.{decimal}
 use Rattle.std.specs.List.{position_from}
 use Rattle.std.specs.Option.{option_map_or}
@@ -49,6 +49,13 @@ entry_id e = option_map_or (λ again. again) e.again e.word
 -- under each text, how many of some texts are this one
 abbrev pub AreTextCounts : {S : Type 0} → List (List ℕ) → IndexMap (Bor (List ℕ)) ℕ S → Type 0
 AreTextCounts texts m = (q : List ℕ) → unwrap_or (get_by (λ k. bytes_eq q k.now) m) 0 ≡ count_of texts q
+
+-- a text is counted
+abbrev pub CountsOneMore : {S : Type 0} → List ℕ → IndexMap (Bor (List ℕ)) ℕ S → IndexMap (Bor (List ℕ)) ℕ S
+    → Type 0
+CountsOneMore text before after =
+    (texts : List (List ℕ)) → length texts + 1 < 2 ^ 64 → AreTextCounts texts before
+    → AreTextCounts (texts ++ text ∷ []) after
 
 -- under each text, the place of the first of some texts that is this one
 abbrev pub ArePlaces : {S : Type 0} → List (List ℕ) → IndexMap (Bor (List ℕ)) ℕ S → Type 0

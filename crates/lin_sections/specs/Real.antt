@@ -5,6 +5,7 @@ use Rattle.std.specs.Prelude.{◌∷◌, ◌++◌, length, take, drop, fold, nat
 use Rattle.std.specs.Prelude.{option_and_then, option_map, if◌then◌else◌}
 use Rattle.std.specs.List.{list_all, prefix_len}
 use Rattle.std.specs.Char.{is_ascii_digit}
+use Rattle.lin_ldf.specs.Numbers.{point_at}
 
 abbrev pub digits_value : List ℕ → ℕ
 digits_value ds = fold (λ n c. 10 * n + (c - 48)) 0 ds
@@ -59,12 +60,9 @@ exponent (c ∷ cs) =
     if c == 45 then option_map (λ n. (0, n)) (exponent_size cs)
     else option_map (λ n. (n, 0)) (exponent_size (if c == 43 then cs else c ∷ cs))
 
--- where the first `e` or `E`, and the first point, stand; or the length
+-- where the first `e` or `E` stands, or the length
 abbrev pub exponent_at : List ℕ → ℕ
 exponent_at text = prefix_len (λ c. not (c == 101 || c == 69)) text
-
-abbrev pub point_at : List ℕ → ℕ
-point_at text = prefix_len (λ c. not (c == 46)) text
 
 -- up and down of a whole number's exponent
 abbrev pub shift_of : List ℕ → Option (ℕ × ℕ)

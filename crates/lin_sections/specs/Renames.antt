@@ -120,8 +120,8 @@ encoding_keys d = map encoding_key (first_types [] d.codings.types)
 -- ---- kind by kind
 -- (names that are known keep their new names)
 
-abbrev pub names_of : {A : Type 0} → (A → Name) → List A → List (List ℕ)
-names_of name_of all = map (λ x. (name_of x).text) all
+abbrev pub name_texts : {A : Type 0} → (A → Name) → List A → List (List ℕ)
+name_texts name_of all = map (λ x. (name_of x).text) all
 
 -- the new names of the things of a kind, by their names and keys in each LDF
 abbrev pub renamed_names : List (List ℕ) → List (List ℕ) → List KeyedName → List KeyedName → NameMap
@@ -139,10 +139,10 @@ with_node_names old new r = record r {
 }
 
 abbrev pub all_frame_names : ComparedData → List (List ℕ)
-all_frame_names d = names_of (λ f. f.name) d.description.frames
+all_frame_names d = name_texts (λ f. f.name) d.description.frames
 
 abbrev pub all_event_names : ComparedData → List (List ℕ)
-all_event_names d = names_of (λ e. e.name) d.description.events
+all_event_names d = name_texts (λ e. e.name) d.description.events
 
 abbrev pub with_frame_names : ComparedData → ComparedData → RenamesData → RenamesData
 with_frame_names old new r = record r {
@@ -157,7 +157,7 @@ with_event_names old new r = record r {
 }
 
 abbrev pub all_signal_names : ComparedData → List (List ℕ)
-all_signal_names d = names_of (λ s. s.name) d.description.signals
+all_signal_names d = name_texts (λ s. s.name) d.description.signals
 
 abbrev pub with_signal_names : ComparedData → ComparedData → RenamesData → RenamesData
 with_signal_names old new r = record r {
@@ -167,7 +167,7 @@ with_signal_names old new r = record r {
 }
 
 abbrev pub all_sporadic_names : ComparedData → List (List ℕ)
-all_sporadic_names d = names_of (λ s. s.name) d.description.sporadic
+all_sporadic_names d = name_texts (λ s. s.name) d.description.sporadic
 
 abbrev pub with_sporadic_names : ComparedData → ComparedData → RenamesData → RenamesData
 with_sporadic_names old new r = record r {
@@ -177,7 +177,7 @@ with_sporadic_names old new r = record r {
 }
 
 abbrev pub all_table_names : ComparedData → List (List ℕ)
-all_table_names d = names_of (λ t. t.name) d.description.tables
+all_table_names d = name_texts (λ t. t.name) d.description.tables
 
 abbrev pub with_table_names : ComparedData → ComparedData → RenamesData → RenamesData
 with_table_names old new r = record r {
@@ -187,7 +187,7 @@ with_table_names old new r = record r {
 }
 
 abbrev pub all_encoding_names : ComparedData → List (List ℕ)
-all_encoding_names d = names_of (λ t. t.name) d.codings.types
+all_encoding_names d = name_texts (λ t. t.name) d.codings.types
 
 abbrev pub with_encoding_names : ComparedData → ComparedData → RenamesData → RenamesData
 with_encoding_names old new r = record r {

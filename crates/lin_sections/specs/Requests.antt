@@ -51,11 +51,11 @@ abbrev pub pid_named : Parts → List ℕ → Option ℕ
 pid_named c name = option_or (frame_pid c name) (event_pid c name)
 
 -- the configured NAD of the responder with a name; node 0 is the commander
-abbrev pub is_named : Parts → List ℕ → ℕ → Bool
-is_named c name n = nat_lt 0 n && bytes_eq (node_of c n).name name
+abbrev pub is_responder_named : Parts → List ℕ → ℕ → Bool
+is_responder_named c name n = nat_lt 0 n && bytes_eq (node_of c n).name name
 
 abbrev pub address_of : Parts → List ℕ → Option ℕ
-address_of c name = option_and_then (nad c) (find (is_named c name) (numbers (nodes c)))
+address_of c name = option_and_then (nad c) (find (is_responder_named c name) (numbers (nodes c)))
 
 abbrev pub responder_address : Parts → Name → Result ℕ Finding
 responder_address c node = or_finding (address_of c node.text) (at_name NoResponder node)

@@ -3,11 +3,13 @@ use Rattle.std.specs.Prelude.{◌≡◌, ◌++◌, ℕ, List, [], false, filter,
 use Rattle.std.specs.List.{position_or_len}
 use Rattle.std.specs.Str.{bytes_eq}
 use Rattle.lin_parts.specs.declared.description.Frame.{Frame}
-use Rattle.lin_sections.specs.NewNames.{has_in, is_among, RenamesData}
+use Rattle.lin_parts.specs.declared.description.Signal.{Signal}
+use Rattle.lin_sections.specs.NewNames.{has_in, is_among, AddsKeys, RenamesData}
 use Rattle.lin_sections.specs.Numbering.{ArePlaces}
-use Rattle.lin_sections.specs.Renames.{all_places, all_signal_names, places_in}
+use Rattle.lin_sections.specs.Renames.{all_places, all_signal_names, places_in, signal_key}
 use Rattle.lin_sections.specs.SortedTexts.{insert_text}
 use Rattle.lin_sections.specs.Things.{ComparedData}
+use Rattle.lin_sections.specs.declared.diff.new_names.Keyed.{Keyed}
 use Rattle.lin_sections.specs.declared.diff.new_names.KnownNames.{KnownNames}
 use Rattle.lin_sections.specs.declared.diff.signals.Places.{Places}
 
@@ -64,6 +66,11 @@ WithPlaces p others signal holds =
     (names : List (List ℕ)) (all : List ℕ → List (List ℕ))
     → ArePlacesOf names all p → (has_in others.map signal ≡ false → is_among names signal ≡ true)
     → holds (all signal)
+
+-- keys were added: that of a signal, if it isn't among other names
+abbrev pub AddsSignalKey : Places → KnownNames → Signal → List Keyed → List Keyed → Type 0
+AddsSignalKey p others s before after =
+    WithPlaces p others s.name.text (λ all. AddsKeys others before after (signal_key s all))
 
 -- the places of the signals of an LDF that aren't among other names
 abbrev pub ArePlacesIn : ComparedData → KnownNames → RenamesData → Places → Type 0

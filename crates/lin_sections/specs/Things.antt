@@ -273,6 +273,9 @@ place_fact name p bits =
 abbrev pub placed_fact : Description → RenamesData → PlacedSignal → Fact
 placed_fact d r p = place_fact (name_in r.signals p.signal.text) p (bits_in d p)
 
+abbrev pub placed_facts : Description → RenamesData → List PlacedSignal → List Fact
+placed_facts d r ps = map (placed_fact d r) ps
+
 abbrev pub own_facts : Frame → List ℕ → SumKind → List Fact
 own_facts f publisher model =
     id_fact f.id
@@ -283,7 +286,7 @@ own_facts f publisher model =
 
 abbrev pub facts_of_frame : Description → RenamesData → Frame → SumKind → List Fact
 facts_of_frame d r f model =
-    own_facts f (name_in r.nodes f.publisher.text) model ++ map (placed_fact d r) f.placed
+    own_facts f (name_in r.nodes f.publisher.text) model ++ placed_facts d r f.placed
 
 -- whether an event-triggered frame lists the name of a frame: then the frame's first byte has an identifier
 abbrev pub is_event_member : List EventFrame → List ℕ → Bool

@@ -68,9 +68,12 @@ tokens_until at_semicolon n (t ∷ ts) =
     then []
     else t ∷ tokens_until at_semicolon (brace_depth n t.kind) ts
 
+abbrev pub words_until : Spelled → Bool → List Symbol → List (List ℕ)
+words_until s at_semicolon ts = tokens_words s (tokens_until at_semicolon 0 ts)
+
 -- a group, from its opening brace on
 abbrev pub group_words : Spelled → List Symbol → List (List ℕ)
-group_words s ts = codes "{" ∷ tokens_words s (tokens_until false 0 (tail ts)) ++ codes "}" ∷ []
+group_words s ts = codes "{" ∷ words_until s false (tail ts) ++ codes "}" ∷ []
 
 abbrev pub without_equals : List Symbol → List Symbol
 without_equals ts = if is_next kinds.Equals ts then tail ts else ts
@@ -83,7 +86,7 @@ or_yes (b ∷ bs) = b ∷ bs
 abbrev pub value_text : Spelled → List Symbol → List ℕ
 value_text s ts =
     if is_next kinds.OpenBrace ts then with_spaces (group_words s ts)
-    else or_yes (with_spaces (tokens_words s (tokens_until true 0 (without_equals ts))))
+    else or_yes (with_spaces (words_until s true (without_equals ts)))
 
 -- a configuration entry, from its word on
 abbrev pub command_text : RenamesData → List Symbol → List ℕ

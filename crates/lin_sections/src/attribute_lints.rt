@@ -1,23 +1,21 @@
 //! Warnings of the attributes of nodes (65 and 68 to 70).
 
-ghost use Rattle.std.specs.Prelude.{◌≡◌, ◌++◌, ◌||◌, ℕ, IfOk, List, OnOk, false, flat_map};
+ghost use Rattle.std.specs.Prelude.{◌≡◌, ◌++◌, ◌||◌, ℕ, IfOk, List, OnOk, false};
 ghost use Rattle.std.specs.Prelude.{is_some, not, option_and_then};
 ghost use Rattle.std.specs.List.{list_any};
 ghost use Rattle.std.specs.Option.{option_copied, option_map, option_map_or};
 ghost use Rattle.std.specs.Str.{bytes_eq};
-ghost use Rattle.lin_cluster.specs.FindingsNames.{is_node, same_name, when};
+ghost use Rattle.lin_cluster.specs.FindingsNames.{is_node, same_name};
 ghost use Rattle.lin_cluster.specs.LintNames.{has_text};
 ghost use Rattle.lin_cluster.specs.Models.{block_named};
 ghost use Rattle.lin_cluster.specs.Names.{NumbersFirst};
-ghost use Rattle.lin_cluster.specs.declared.finding.FindingKind.TheVariants.{AttributeTwice};
 ghost use Rattle.lin_ldf.specs.Forms.{front};
-ghost use Rattle.lin_ldf.specs.Symbols.{Symbol};
 ghost use Rattle.lin_ldf.specs.Words.{is_word_next};
-ghost use Rattle.lin_sections.specs.AttributeLints.{at_word, attribute_lints, bad_attribute};
+ghost use Rattle.lin_sections.specs.AttributeLints.{attribute_lints, bad_attribute};
 ghost use Rattle.lin_sections.specs.AttributeLints.{has_address, has_attribute, has_status, is_bad_attribute};
-ghost use Rattle.lin_sections.specs.AttributeLints.{is_below, is_too_short, no_response_error};
+ghost use Rattle.lin_sections.specs.AttributeLints.{is_below, is_too_short, no_response_error, no_response_errors};
 ghost use Rattle.lin_sections.specs.AttributeLints.{of_attribute, of_block, publishes};
-ghost use Rattle.lin_sections.specs.AttributeLints.{timeout_too_short, version_of, HasWords};
+ghost use Rattle.lin_sections.specs.AttributeLints.{timeout_too_short, twice_in, version_of, WithWords};
 
 use crate::attribute_blocks::{Attribute, NodeAttributes};
 use crate::frame_times::longest_distance;
@@ -323,8 +321,7 @@ fn add_slaves(
 ) -> Result<(), AllocError>
     requires { NumbersFirst (λ b. b.node) blocks.now numbers.now.map }
     ensures { OnOk result (found.new.items ≡ found.old.items
-        ++ flat_map (no_response_error nodes.now (option_map (λ v. v.now) version.entry) blocks.now)
-        nodes.now.slaves) }
+        ++ no_response_errors nodes.now (option_map (λ v. v.now) version.entry) blocks.now) }
 {
     for slave in nodes.slaves() {
         add_slave(found, nodes, version, blocks, numbers, slave)?;
@@ -339,8 +336,7 @@ fn add_twice<'a>(
     attribute: &Attribute<'a>,
 ) -> Result<(), AllocError>
     ensures found { OnOk result (found.new.items ≡ found.old.items
-        ++ when (has_text words.old.map (front attribute.now).text)
-        (at_word AttributeTwice attribute.now)) }
+        ++ twice_in words.old.map attribute.now) }
     ensures words { OnOk result ((q : List ℕ) → has_text words.new.map q
         ≡ (has_text words.old.map q || bytes_eq (front attribute.now).text q)) }
 {
@@ -384,9 +380,8 @@ fn add_attribute<'a>(
     words: &mut Texts<'a>,
     attribute: &Attribute<'a>,
 ) -> Result<(), AllocError>
-    ensures found { OnOk result ((before : List (List Symbol))
-        → HasWords words.old.map before
-        → found.new.items ≡ found.old.items ++ of_attribute nodes.now node.now before attribute.now) }
+    ensures found { OnOk result (WithWords words.old.map (λ before. found.new.items
+        ≡ found.old.items ++ of_attribute nodes.now node.now before attribute.now)) }
     ensures words { OnOk result ((q : List ℕ) → has_text words.new.map q
         ≡ (has_text words.old.map q || bytes_eq (front attribute.now).text q)) }
 {

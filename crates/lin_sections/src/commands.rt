@@ -3,7 +3,7 @@
 
 ghost use Rattle.std.specs.Prelude.{◌≡◌, IfOk, OnOk};
 ghost use Rattle.lin_sections.specs.Commands.{arguments, byte_arguments, command_of, frame_arguments};
-ghost use Rattle.lin_sections.specs.Commands.{is_end, more_bytes, node_arguments, AreBytes, HasBytes};
+ghost use Rattle.lin_sections.specs.Commands.{is_end_of_bytes, more_bytes, node_arguments, AreBytes, HasBytes};
 ghost use Rattle.lin_sections.specs.Commands.{ReadsMoreBytes};
 ghost use Rattle.lin_sections.specs.Stops.{Stops};
 
@@ -56,8 +56,8 @@ pub(crate) fn command_of(word: &[u8]) -> Option<Command>
 }
 
 /// Whether bytes may end here, where so many more are needed.
-fn is_end(parser: &Parser<'_>, needed: usize) -> bool
-    ensures { result ≡ is_end needed parser.now }
+fn is_end_of_bytes(parser: &Parser<'_>, needed: usize) -> bool
+    ensures { result ≡ is_end_of_bytes needed parser.now }
 {
     needed == 0 && parser.is_at(TokenKind::CloseBrace)
 }
@@ -75,7 +75,7 @@ fn more_bytes(
     ensures bytes { OnOk result (AreBytes bytes.new.items) }
 {
     for count in 0..most {
-        if is_end(parser, least.saturating_sub(count)) {
+        if is_end_of_bytes(parser, least.saturating_sub(count)) {
             parser.skip();
             return Ok(());
         }

@@ -10,7 +10,7 @@ ghost use Rattle.lin_sections.specs.Configuring.{command_request, command_warnin
 ghost use Rattle.lin_sections.specs.Configuring.{entry_request, entry_warnings, identities_in, identity_at};
 ghost use Rattle.lin_sections.specs.Configuring.{identity_in};
 ghost use Rattle.lin_sections.specs.Configuring.{requests_in, requests_named, section_requests};
-ghost use Rattle.lin_sections.specs.Configuring.{section_warnings, table_named, table_requests, table_command_warnings};
+ghost use Rattle.lin_sections.specs.Configuring.{all_command_warnings, all_requests, section_warnings, source_symbols, table_requests_named, table_requests, table_command_warnings};
 ghost use Rattle.lin_sections.specs.Configuring.{warnings_by};
 ghost use Rattle.lin_sections.specs.Lines.{token_lines};
 ghost use Rattle.lin_sections.specs.Statements.{statements};
@@ -184,11 +184,9 @@ fn read_tables(
     warned: &mut Vec<Finding>,
 ) -> Result<Vec<TableRequests>, AllocError>
     ensures tables { IfOk result (λ tables. tables.items
-        ≡ flat_map (section_requests cluster.now identities.now)
-        (statements (symbols_in source.now (start_of source.now).tokens))) }
+        ≡ all_requests cluster.now identities.now (source_symbols source.now)) }
     ensures warned { OnOk result (warned.new.items ≡ warned.old.items
-        ++ flat_map (section_warnings cluster.now identities.now)
-        (statements (symbols_in source.now (start_of source.now).tokens))) }
+        ++ all_command_warnings cluster.now identities.now (source_symbols source.now)) }
 {
     let mut tables = Vec::new(alloc);
     let mut parser = Parser::new(alloc, source);
@@ -200,8 +198,8 @@ fn read_tables(
 }
 
 /// Returns the first table with a name.
-fn table_named<'a>(tables: &'a [TableRequests], name: &[u8]) -> Option<&'a TableRequests>
-    ensures { option_copied result ≡ table_named tables.now name.now }
+fn table_requests_named<'a>(tables: &'a [TableRequests], name: &[u8]) -> Option<&'a TableRequests>
+    ensures { option_copied result ≡ table_requests_named tables.now name.now }
 {
     tables
         .iter()
@@ -212,7 +210,7 @@ fn table_named<'a>(tables: &'a [TableRequests], name: &[u8]) -> Option<&'a Table
 fn requests_named<'a>(tables: &'a [TableRequests], name: &[u8]) -> &'a [Option<[u8; 8]>]
     ensures { result.now ≡ requests_named tables.now name.now }
 {
-    match table_named(tables, name) {
+    match table_requests_named(tables, name) {
         Some(table) => table.requests.as_slice(),
         None => &[],
     }

@@ -3,7 +3,7 @@
 ghost use Rattle.std.specs.Prelude.{◌≡◌, ◌≤◌, ◌<◌, ◌+◌, ◌*◌, ◌^◌, ◌++◌, List, length, max, if◌then◌else◌};
 ghost use Rattle.lin_cluster.specs.LintNames.{has_dot, is_of_text};
 ghost use Rattle.lin_parts.specs.declared.description.TableEntry.{TableEntry};
-ghost use Rattle.lin_sections.specs.FrameTimes.{is_entry_for, distances, longest, longest_distance};
+ghost use Rattle.lin_sections.specs.FrameTimes.{is_frame_entry, distances, longest, longest_distance};
 ghost use Rattle.lin_sections.specs.FrameTimes.{table_distances, time_to};
 
 use lin_parts::description::{Description, Table, TableEntry};
@@ -18,7 +18,7 @@ struct Ahead {
 
 /// Whether an entry is for the frame of a name, and not for the configuration of nodes.
 fn carries(name: &[u8], entry: &TableEntry) -> bool
-    ensures { result ≡ is_entry_for name.now entry.now }
+    ensures { result ≡ is_frame_entry name.now entry.now }
 {
     !entry.has_group && entry.name.text.as_slice() == name
 }
@@ -40,9 +40,9 @@ fn is_of_text(table: &Table) -> bool
 fn from_entry(name: &[u8], entry: &TableEntry, behind: Ahead) -> Ahead
     requires { behind.next < 2 ^ 127 }
     ensures next { result.next
-        ≡ entry.now.delay.value + (if is_entry_for name.now entry.now then 0 else behind.next) }
+        ≡ entry.now.delay.value + (if is_frame_entry name.now entry.now then 0 else behind.next) }
     ensures longest { result.longest
-        ≡ (if is_entry_for name.now entry.now then max behind.next behind.longest else behind.longest) }
+        ≡ (if is_frame_entry name.now entry.now then max behind.next behind.longest else behind.longest) }
     ensures more { result.next ≤ behind.next + 2 ^ 32 }
 {
     let delay = u128::from(entry.delay.value);

@@ -4,9 +4,10 @@ ghost use Rattle.std.specs.Prelude.{◌≡◌, ◌+◌, ◌-◌, ◌^◌, ◌<�
 ghost use Rattle.std.specs.Prelude.{option_map, true};
 ghost use Rattle.std.specs.Char.{is_ascii_digit};
 ghost use Rattle.lin_ldf.specs.Forms.{Gives, is_front};
-ghost use Rattle.lin_sections.specs.Coding.{is_part, may_be_part, real, run, sign};
+ghost use Rattle.lin_ldf.specs.Numbers.{point_at};
+ghost use Rattle.lin_sections.specs.Coding.{is_part, may_be_part, optional_sign, real, run};
 ghost use Rattle.lin_sections.specs.Real.{HasRoom, digit_units, digits_units, exponent, exponent_at};
-ghost use Rattle.lin_sections.specs.Real.{exponent_size, mantissa_units, point_at, real_units, shift_of};
+ghost use Rattle.lin_sections.specs.Real.{exponent_size, mantissa_units, real_units, shift_of};
 ghost use Rattle.lin_values.specs.Value.{IsInLimits, IsShortest};
 
 use lin_ldf::{LdfFault, Parser, TokenKind};
@@ -162,7 +163,7 @@ fn real_units(text: &[u8]) -> Option<u128>
 
 /// Whether a sign is next; it is passed over.
 fn is_negative(parser: &mut Parser<'_>) -> bool
-    ensures { (result, parser.new) ≡ sign parser.old }
+    ensures { (result, parser.new) ≡ optional_sign parser.old }
 {
     let is_minus = parser.is_at(TokenKind::Other) && parser.text() == b"-".as_slice();
     let is_plus = parser.is_at(TokenKind::Other) && parser.text() == b"+".as_slice();

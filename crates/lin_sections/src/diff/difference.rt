@@ -1,7 +1,7 @@
 //! A difference between two LDFs.
 
-ghost use Rattle.std.specs.Prelude.{◌≡◌, option_map};
-ghost use Rattle.lin_sections.specs.Differences.{difference_data, named_difference};
+ghost use Rattle.std.specs.Prelude.{◌≡◌};
+ghost use Rattle.lin_sections.specs.Differences.{difference_between, difference_data};
 
 use crate::diff::fact::{Class, Thing, ThingKind};
 use lin_parts::Location;
@@ -32,9 +32,7 @@ pub(crate) fn thing_difference<'t>(
     old: Option<(&'t [u8], Location)>,
     new: Option<(&'t [u8], Location)>,
 ) -> Difference<'t>
-    ensures { difference_data result ≡ named_difference class kind
-        (option_map (λ t. t.1) old.entry) (option_map (λ t. t.1) new.entry)
-        (option_map (λ t. t.0.now) old.entry) (option_map (λ t. t.0.now) new.entry) }
+    ensures { difference_data result ≡ difference_between class kind old.entry new.entry }
 {
     let (old_name, old_place) = match old {
         Some((name, place)) => (Some(name), Some(place)),

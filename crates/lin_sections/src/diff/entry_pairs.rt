@@ -2,13 +2,13 @@
 
 ghost use Rattle.std.specs.Prelude.{◌≡◌, ◌++◌, ◌∷◌, ◌==◌, ◌&&◌, ◌||◌, [], ℕ, Bool, false, IfOk, List, OnOk, flat_map, map, option_map, slice_index_or};
 ghost use Rattle.std.specs.List.{range_with_len};
-ghost use Rattle.std.specs.Option.{option_map_or};
+ghost use Rattle.std.specs.Option.{option_copied, option_map_or};
 ghost use Rattle.lin_sections.specs.Differences.{delay_difference, difference_data, differences_data, entry_difference, moved_entries, new_entry};
 ghost use Rattle.lin_sections.specs.Differences.{place_of_entry, old_entry, old_places, pair_differences, was_moved};
 ghost use Rattle.lin_sections.specs.declared.diff.fact.EntryFact.{EntryFact};
 ghost use Rattle.lin_sections.specs.Numbering.{entry_id, ArePlaces};
 ghost use Rattle.lin_sections.specs.Differences.{AddsDifferences};
-ghost use Rattle.lin_sections.specs.Differences.{entry_differences, is_moved_by, AreFlags};
+ghost use Rattle.lin_sections.specs.Differences.{entry_differences, AreFlags, TellsMoved};
 
 use crate::diff::chain::moved;
 use crate::diff::difference::Difference;
@@ -43,7 +43,7 @@ fn entry_difference<'t>(
     new: Option<&'t EntryFact<'_>>,
 ) -> Difference<'t>
     ensures { difference_data result ≡ entry_difference things.entry.0.now things.entry.1.now entry.now
-        (option_map (λ e. e.now) old.entry) (option_map (λ e. e.now) new.entry) }
+        (option_copied old.entry) (option_copied new.entry) }
 {
     Difference {
         class: Class::Timing,
@@ -172,9 +172,7 @@ fn flag_at(flags: &[bool], place: usize) -> bool
 
 /// Whether an entry of the old table was moved. `moved` has a flag for each place of that table.
 fn is_moved(moved: &[bool], olds: &Index<'_>, entry: &EntryFact<'_>) -> bool
-    ensures { (entries : List EntryFact) (places : List ℕ)
-        → ArePlaces (map entry_id entries) olds.now.map → moved.now ≡ moved_entries entries places
-        → result ≡ is_moved_by places entries entry.now }
+    ensures { TellsMoved moved.now olds.now.map entry.now result }
 {
     match olds.place_of(entry.id()) {
         Some(place) => flag_at(moved, place),

@@ -43,7 +43,7 @@ fn fact_difference<'t>(
     new: Option<&'t Fact<'_>>,
 ) -> Difference<'t>
     ensures { difference_data result ≡ fact_difference class things.entry.0.now things.entry.1.now fact.now
-        (option_map (λ f. f.now) old.entry) (option_map (λ f. f.now) new.entry) }
+        (option_copied old.entry) (option_copied new.entry) }
 {
     Difference {
         class,

@@ -11,7 +11,7 @@ ghost use Rattle.lin_sections.specs.Renames.{event_keys, frame_keys, number_key,
 ghost use Rattle.lin_sections.specs.SortedTexts.{sorted_texts};
 ghost use Rattle.lin_sections.specs.Things.{bits_in, signal_bits, compared_data, event_thing, frame_thing, id_fact};
 ghost use Rattle.lin_sections.specs.Things.{frame_things, is_event_member, member_names, model_text, own_facts, place_fact};
-ghost use Rattle.lin_sections.specs.Things.{place_of_first, placed_fact, sporadic_thing, table_facts, taken_bits};
+ghost use Rattle.lin_sections.specs.Things.{place_of_first, placed_facts, sporadic_thing, table_facts, taken_bits};
 ghost use Rattle.lin_sections.specs.NewNames.{AddsKeys};
 ghost use Rattle.lin_sections.specs.Renames.{AreKeys};
 
@@ -173,8 +173,8 @@ impl<'b, 'a> FrameLookups<'b, 'a> {
         all: &[PlacedSignal],
     ) -> Result<(), AllocError>
         requires { AreFrameLookups self.now }
-        ensures { OnOk result (found.new.items ≡ found.old.items ++ map
-            (placed_fact self.now.facts.now.ldf.description.now (renames_data self.now.renames.now)) all.now) }
+        ensures { OnOk result (found.new.items ≡ found.old.items
+            ++ placed_facts self.now.facts.now.ldf.description.now (renames_data self.now.renames.now) all.now) }
     {
         for placed in all {
             let name = self.renames.signals.of(placed.signal.text.as_slice());

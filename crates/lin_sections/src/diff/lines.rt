@@ -3,8 +3,8 @@
 ghost use Rattle.std.specs.Prelude.{◌≡◌, ◌∷◌, [], option_map};
 ghost use Rattle.std.specs.List.{list_any};
 ghost use Rattle.lin_text.specs.Written.{Grows, WritesText};
-ghost use Rattle.lin_sections.specs.Differences.{difference_data, differences_data};
-ghost use Rattle.lin_sections.specs.ListedDifferences.{difference_line, difference_lines, lists_class, part};
+ghost use Rattle.lin_sections.specs.Differences.{difference_data};
+ghost use Rattle.lin_sections.specs.ListedDifferences.{difference_line, difference_lines, differences_text, lists_class, part};
 ghost use Rattle.lin_sections.specs.ListedDifferences.{after_space, file_place, fact_value_word};
 
 use crate::diff::difference::Difference;
@@ -133,7 +133,7 @@ fn put_listed<W: Write>(
     classes: Classes,
 )
     ensures { Grows W.contents out.old out.new
-        (difference_lines old_file.now new_file.now classes (differences_data differences.now)) }
+        (differences_text old_file.now new_file.now classes differences.now) }
 {
     for difference in differences {
         put_if_listed(out, old_file, new_file, difference, classes);
@@ -156,7 +156,7 @@ pub fn write_differences<W: Write>(
     writer: &mut W,
 ) -> Result<(), WriteFailed>
     ensures { WritesText (W.contents writer.old) (W.contents writer.new) result
-        (difference_lines old_file.now new_file.now classes (differences_data differences.now)) }
+        (differences_text old_file.now new_file.now classes differences.now) }
 {
     let mut buffer = TextBuffer::empty();
     let mut out = TextWriter::new(writer, &mut buffer);

@@ -1,7 +1,7 @@
 //! The numbers of repeated keys and words.
 
-ghost use Rattle.std.specs.Prelude.{◌≡◌, ◌+◌, ◌++◌, ◌∷◌, ◌<◌, ◌^◌, [], ℕ, IfOk, List, OnOk, length, map};
-ghost use Rattle.lin_sections.specs.Numbering.{again_text, all_numbered, count_of, repeats, number_if_repeated, AreTextCounts};
+ghost use Rattle.std.specs.Prelude.{◌≡◌, ◌+◌, ◌<◌, ◌^◌, ℕ, IfOk, List, OnOk, map};
+ghost use Rattle.lin_sections.specs.Numbering.{again_text, all_numbered, count_of, repeats, number_if_repeated, AreTextCounts, CountsOneMore};
 
 use crate::diff::fact_text::put_number;
 use indexmap::IndexMap;
@@ -41,8 +41,7 @@ impl<'a> TextCounts<'a> {
     fn count(&mut self, text: &'a [u8]) -> Result<usize, AllocError>
         ensures count { IfOk result (λ n. (texts : List (List ℕ)) → AreTextCounts texts self.old.map
             → n ≡ count_of texts text.now) }
-        ensures more { OnOk result ((texts : List (List ℕ)) → length texts + 1 < 2 ^ 64
-            → AreTextCounts texts self.old.map → AreTextCounts (texts ++ text.now ∷ []) self.new.map) }
+        ensures more { OnOk result (CountsOneMore text.now self.old.map self.new.map) }
     {
         let count = self.map.get(&text).copied().unwrap_or(0);
         self.map.insert(text, count.saturating_add(1))?;

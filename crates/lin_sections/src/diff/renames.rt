@@ -1,11 +1,11 @@
 //! The things that have another name in the new LDF. They are found kind by kind, because the key of a
 //! thing contains the new names of things of earlier kinds.
 
-ghost use Rattle.std.specs.Prelude.{◌≡◌, ℕ, IfOk, List, OnOk, map};
+ghost use Rattle.std.specs.Prelude.{◌≡◌, ℕ, IfOk, List, OnOk};
 ghost use Rattle.std.specs.Option.{option_or};
-ghost use Rattle.lin_sections.specs.NewNames.{any_name, keyed_name, known_by, new_names, no_renames};
+ghost use Rattle.lin_sections.specs.NewNames.{any_name, keyed_names, known_by, new_names, no_renames};
 ghost use Rattle.lin_sections.specs.NewNames.{renames_data};
-ghost use Rattle.lin_sections.specs.Renames.{RenamesBy};
+ghost use Rattle.lin_sections.specs.Renames.{name_texts, RenamesBy};
 ghost use Rattle.lin_sections.specs.Renames.{all_renames, with_encoding_names, with_event_names, with_frame_names};
 ghost use Rattle.lin_sections.specs.Renames.{with_node_names, with_signal_names, with_sporadic_names, with_table_names};
 ghost use Rattle.lin_sections.specs.Things.{compared_data, IsReadOf};
@@ -56,7 +56,7 @@ fn add_names<'a, T: Named>(
     news: &Vec<Keyed<'a>>,
 ) -> Result<(), AllocError>
     ensures { OnOk result (AddsNames names.old names.new
-        (new_names (map (λ x. (T.name_of x).text) all.now) (map keyed_name olds.now.items) (map keyed_name news.now.items))) }
+        (new_names (name_texts T.name_of all.now) (keyed_names olds.now.items) (keyed_names news.now.items))) }
 {
     names.add_renamed(alloc, olds.as_slice(), news.as_slice())?;
     names.add_all(all)

@@ -11,9 +11,8 @@ ghost use Rattle.lin_sections.specs.SortedTexts.{insert_text};
 ghost use Rattle.lin_sections.specs.Things.{array_text, compared_data, encoding_facts, encoding_of};
 ghost use Rattle.lin_sections.specs.Things.{initial_fact, is_subscriber, signal_thing, size_text};
 ghost use Rattle.lin_sections.specs.Things.{value_facts, with_subscriber, IsReadOf};
-ghost use Rattle.lin_sections.specs.NewNames.{AddsKeys};
 ghost use Rattle.lin_sections.specs.Renames.{AreKeys};
-ghost use Rattle.lin_sections.specs.SignalPlaces.{AddsPlaces, FindsPlaces, WithPlaces, ArePlacesIn};
+ghost use Rattle.lin_sections.specs.SignalPlaces.{AddsPlaces, AddsSignalKey, FindsPlaces, ArePlacesIn};
 
 use crate::diff::compared::LdfFacts;
 use crate::diff::fact::{Class, Fact, Thing, ThingKind, add_fact};
@@ -372,8 +371,7 @@ fn add_key_if_alone<'a>(
     others: &KnownNames<'_>,
     places: &Places<'_>,
 ) -> Result<(), AllocError>
-    ensures { OnOk result (WithPlaces places.now others.now signal.now.name.text
-        (λ all. AddsKeys others.now keys.old.items keys.new.items (signal_key signal.now all))) }
+    ensures { OnOk result (AddsSignalKey places.now others.now signal.now keys.old.items keys.new.items) }
 {
     let name = signal.name.text.as_slice();
     if others.has(name) {

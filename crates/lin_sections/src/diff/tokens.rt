@@ -11,7 +11,7 @@ ghost use Rattle.lin_sections.specs.FactTexts.{with_word};
 ghost use Rattle.lin_sections.specs.NewNames.{renames_data};
 ghost use Rattle.lin_sections.specs.Texts.{shown_text};
 ghost use Rattle.lin_sections.specs.TokenTexts.{command_text, group_words, lines_of_header, number_token};
-ghost use Rattle.lin_sections.specs.TokenTexts.{spelling_of, token_text, tokens_until, tokens_words};
+ghost use Rattle.lin_sections.specs.TokenTexts.{spelling_of, token_text, tokens_words, words_until};
 ghost use Rattle.lin_sections.specs.TokenTexts.{value_text};
 ghost use Rattle.lin_values.specs.Shown.{quoted_text};
 
@@ -161,7 +161,7 @@ fn put_tokens<'a>(
     spelling: Spelling<'_, 'a>,
 ) -> Result<(), AllocError>
     ensures { OnOk result (text.new.items ≡ fold with_word text.old.items
-        (tokens_words (spelling_of spelling.entry) (tokens_until ends_at_semicolon 0 parser.old))) }
+        (words_until (spelling_of spelling.entry) ends_at_semicolon parser.old)) }
 {
     let left = parser.left();
     let mut depth = 0usize;
