@@ -9,9 +9,9 @@ use Rattle.std.proofs.lemmas.List.Folds.{list_any_none}
 use Rattle.lin_core.proofs.slots.ClusterFrames.{all-cons}
 use Rattle.lin_log.specs.CallerTexts.{seen_text}
 use Rattle.lin_values.specs.Shown.{decimal_shown, fraction, last_digits, sign}
-use Rattle.lin_values.specs.Value.{IsReadable}
+use Rattle.lin_values.specs.Value.{IsExact}
 use Rattle.lin_values.specs.declared.decimals.Decimal.{Decimal}
-use Rattle.lin_values.proofs.Powers.{first-digit, rest-below, ten-below}
+use Rattle.lin_values.proofs.Powers.{first-digit, rest-below}
 use Rattle.lin_export.specs.Csv.{needs_quotes, text_cell}
 use Rattle.lin_export.specs.Json.{escaped_bytes, escaped_byte}
 
@@ -43,12 +43,10 @@ sign-plain : (negative : Bool) → ArePlain (sign negative)
 sign-plain true = ((omega arith, omega arith), tt)
 sign-plain false = tt
 
-pub shown-plain : (d : Decimal) → IsReadable d → ArePlain (decimal_shown d)
-shown-plain d readable =
-    let few = ten-below (14 + d.places) 38 (let p = readable.0 in omega arith) in
-    let digits = readable.1 in
+pub shown-plain : (d : Decimal) → IsExact d → ArePlain (decimal_shown d)
+shown-plain d exact =
+    let digits = exact.1 in
     let whole = div-le_self d.digits (10 ^ d.places) in
-    let large = ten-below 38 64 (omega arith) in
     both-plain (sign d.negative) (decimal (d.digits / 10 ^ d.places) ++ fraction d.places (d.digits % 10 ^ d.places)) (sign-plain d.negative)
     (both-plain (decimal (d.digits / 10 ^ d.places)) (fraction d.places (d.digits % 10 ^ d.places)) (decimal-plain (d.digits / 10 ^ d.places) (omega arith))
     (fraction-plain d.places (d.digits % 10 ^ d.places) (rest-below d.places d.digits)))

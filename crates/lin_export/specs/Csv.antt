@@ -12,7 +12,7 @@ use Rattle.lin_frame.specs.declared.value.Value.TheVariants.{Scalar, Bytes}
 use Rattle.lin_parts.specs.Cluster.{entry_kind, line_of, named_table, node_of, signal_of}
 use Rattle.lin_parts.specs.declared.parts.Parts.{Parts}
 use Rattle.lin_core.specs.History.{Slot, finished_slot, good_bytes, seen_of, time}
-use Rattle.lin_core.specs.Signals.{heard_value}
+use Rattle.lin_core.specs.Signals.{ArePointwise, heard_value}
 use Rattle.lin_core.specs.Tables.{look_of, look_word}
 use Rattle.lin_core.specs.declared.event.Seen.{Seen}
 use Rattle.lin_core.specs.declared.log.LogEntry.{LogEntry}
@@ -100,6 +100,10 @@ column_names c k = flat_map (signal_names c k) (numbers (length c.signals))
 
 abbrev pub column_cells : Parts → Option CodedData → (ℕ → Value) → List (List ℕ)
 column_cells c k values = flat_map (signal_cells k values) (numbers (length c.signals))
+
+-- something holds for the values of all signals
+abbrev pub IfPointwise : List Value → ((ℕ → Value) → Type 0) → Type 0
+IfPointwise values holds = (g : ℕ → Value) → ArePointwise g values → holds g
 
 -- the names of the columns: those of each run, then those of the signals
 abbrev pub head_line : Parts → Option CodedData → List ℕ

@@ -1,7 +1,9 @@
 -- What contracts see of the code's types of an object.
-use Rattle.std.specs.Prelude.{ℕ, Option, option_map}
+use Rattle.std.specs.Borrow.{Bor}
+use Rattle.std.specs.Prelude.{ℕ, List, Option, map, option_map}
 use Rattle.lin_parts.specs.declared.place.Location.{Location}
-use Rattle.lin_export.specs.CheckObject.{FoundData, ProblemData}
+use Rattle.lin_values.specs.declared.codings.CodingType.{CodingType}
+use Rattle.lin_export.specs.CheckObject.{FoundData, ProblemData, check_object}
 use Rattle.lin_export.specs.WhereTold.{given_coding}
 use Rattle.lin_export.specs.declared.object.Found.{Found}
 use Rattle.lin_export.specs.declared.object.problems.Problem.{Problem}
@@ -29,3 +31,9 @@ problem_data p =
       place = place_data p.place;
       token = p.token;
     }
+
+-- the object of what was found
+abbrev pub object_found : List ℕ → ℕ → Option (Bor Found) → Option (Bor (List CodingType)) → List Problem → List ℕ
+object_found file status found encodings problems =
+    check_object file status (option_map (λ f. found_data f.now) found) (option_map (λ e. e.now) encodings)
+    (map problem_data problems)

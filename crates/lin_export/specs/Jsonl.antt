@@ -394,3 +394,7 @@ pub record ObjectTrackData : Type 0 where
 pub record IsObjectTrackOf (c : Parts) (past : List LogEntry) (t : ObjectTrackData) : Type 0 where
   pub track : t.track ≡ track_of c past
   pub last : AreCounts (settled_count past) t.last
+
+-- something holds for the entries that were read
+abbrev pub IfObjectTrackOf : Parts → ObjectTrackData → (List LogEntry → Type 0) → Type 0
+IfObjectTrackOf c t holds = (past : List LogEntry) → IsObjectTrackOf c past t → holds past

@@ -17,6 +17,9 @@ pub record PutsGroups {W : Type 0} (contents : W → Option (List ℕ)) (old : T
 abbrev pub AreCounts : (ℕ → ℕ) → List ℕ → Type 0
 AreCounts count kept = (h : ℕ) → h < 256 → slice_index kept h ≡ count h
 
+abbrev pub IfCounts : List ℕ → ((ℕ → ℕ) → Type 0) → Type 0
+IfCounts kept holds = (count : ℕ → ℕ) → AreCounts count kept → holds count
+
 -- What is kept of the entries that were read: the last time in the text, and how many messages of
 -- each host wait.
 pub record KeepsChanges (c : Parts) (k : Option CodedData) (past : List LogEntry) (last : ℕ)

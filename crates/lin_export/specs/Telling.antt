@@ -1,5 +1,5 @@
 -- What a log is written as.
-use Rattle.std.specs.Prelude.{ℕ, List, [], ◌∷◌, ◌++◌, reverse}
+use Rattle.std.specs.Prelude.{ℕ, List, [], ◌∷◌, ◌++◌, drop, reverse, take}
 use Rattle.lin_core.specs.declared.log.LogEntry.{LogEntry}
 
 -- what each entry says on those before it, which stand the newest first, as in histories
@@ -18,3 +18,7 @@ entries_as format log = each_entry format.says [] log ++ format.ends (reverse lo
 
 abbrev pub log_as : LogFormat → List LogEntry → List ℕ
 log_as format log = format.begins ++ entries_as format log
+
+-- the entries of a log from one on
+abbrev pub entries_from : LogFormat → List LogEntry → ℕ → List ℕ
+entries_from format log from = each_entry format.says (reverse (take from log)) (drop from log)

@@ -1,5 +1,5 @@
 -- What is kept of a log, as far as it was read.
-use Rattle.std.specs.Prelude.{ℕ, ◌+◌, List, [], ◌∷◌, Option, option_map}
+use Rattle.std.specs.Prelude.{◌≡◌, ℕ, ◌+◌, List, [], ◌∷◌, Option, option_map}
 use Rattle.std.specs.Option.{option_map_or}
 use Rattle.lin_parts.specs.declared.parts.Parts.{Parts}
 use Rattle.lin_core.specs.History.{Slot, done, finished_slot, open_slot, time}
@@ -46,3 +46,7 @@ track_of c past = record {
   slots = finished_slot_count past;
   hurt = hurt_in past;
 }
+
+-- something holds for the entries that were read
+abbrev pub IfTrackOf : Parts → TrackData → (List LogEntry → Type 0) → Type 0
+IfTrackOf c track holds = (past : List LogEntry) → track ≡ track_of c past → holds past

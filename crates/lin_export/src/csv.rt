@@ -6,7 +6,7 @@ ghost use Rattle.lin_core.specs.Signals.{heard_value, ArePointwise};
 ghost use Rattle.lin_frame.specs.declared.value.Value.{Value};
 ghost use Rattle.lin_text.specs.Written.{Grows, WritesText};
 ghost use Rattle.lin_export.specs.Cells.{cell_text};
-ghost use Rattle.lin_export.specs.Csv.{after_comma, column_cells, column_names, csv, head_line, hex_cell, marked_cell};
+ghost use Rattle.lin_export.specs.Csv.{IfPointwise, after_comma, column_cells, column_names, csv, head_line, hex_cell, marked_cell};
 ghost use Rattle.lin_export.specs.Csv.{node_name, nodes_cell, response_cells, csv_row, schedule_cells};
 ghost use Rattle.lin_export.specs.Csv.{signal_cells, signal_names};
 ghost use Rattle.lin_export.specs.Csv.{slot_cells, spaced_name, value_cell};
@@ -156,9 +156,8 @@ fn put_values<W: Write>(
     requires values { length values.now ≡ length cluster.now.signals }
     requires kept { FitKept (given_coding coded) (length cluster.now.signals) kept.old.items }
     ensures kept { FitKept (given_coding coded.entry) (length cluster.now.signals) kept.new.items }
-    ensures text { (g : ℕ → Value) → ArePointwise g values.now
-        → Grows W.contents out.old out.new
-        (flat_map after_comma (column_cells cluster.now (given_coding coded.entry) g)) }
+    ensures text { IfPointwise values.now (λ g. Grows W.contents out.old out.new
+        (flat_map after_comma (column_cells cluster.now (given_coding coded.entry) g))) }
 {
     match coded {
         Some(coded) => put_coded_values(out, cluster, coded, values, kept),

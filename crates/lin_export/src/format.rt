@@ -1,14 +1,14 @@
 //! What all formats have in common: something before the entries of a log, something for each, and
 //! something after them.
 
-ghost use Rattle.std.specs.Prelude.{◌≡◌, ◌∷◌, ◌<◌, ◌^◌, [], List, OnOk, drop, reverse, take};
+ghost use Rattle.std.specs.Prelude.{◌≡◌, ◌∷◌, ◌<◌, ◌^◌, [], List, OnOk, reverse, take};
 ghost use Rattle.lin_core.specs.declared.log.LogEntry.{LogEntry};
 ghost use Rattle.lin_parts.specs.declared.parts.Parts.{Parts};
 ghost use Rattle.lin_text.specs.Written.{Grows, WritesText};
 ghost use Rattle.lin_export.specs.Putting.{PutsAll};
-ghost use Rattle.lin_export.specs.Telling.{LogFormat, each_entry, entries_as, log_as};
-ghost use Rattle.lin_export.specs.Track.{track_of};
-ghost use Rattle.lin_export.specs.TrackedEntries.{IsAfter};
+ghost use Rattle.lin_export.specs.Telling.{LogFormat, entries_as, entries_from, log_as};
+ghost use Rattle.lin_export.specs.Track.{IfTrackOf, track_of};
+ghost use Rattle.lin_export.specs.TrackedEntries.{IfAfter, says_next};
 
 use crate::fault::ExportFault;
 use crate::track::{Track, TrackedEntry};
@@ -36,19 +36,15 @@ pub(crate) trait EntryFormat {
         requires fits { fits self.old next.now.cluster.now }
         ensures fits { fits self.new next.now.cluster.now }
         ensures same { text self.new ≡ text self.old }
-        ensures keeps { (past : List LogEntry) → IsAfter next.now past
-            → keeps self.old next.now.cluster.now past
-            → keeps self.new next.now.cluster.now (next.now.entry.now ∷ past) }
-        ensures text { (past : List LogEntry) → IsAfter next.now past
-            → keeps self.old next.now.cluster.now past
-            → Grows W.contents out.old out.new
-            ((text self.old next.now.cluster.now).says next.now.entry.now past) };
+        ensures keeps { IfAfter next.now (λ past. keeps self.old next.now.cluster.now past
+            → keeps self.new next.now.cluster.now (next.now.entry.now ∷ past)) }
+        ensures text { IfAfter next.now (λ past. keeps self.old next.now.cluster.now past
+            → Grows W.contents out.old out.new (says_next (text self.old) next.now past)) };
 
     /// Puts what stands after the entries.
     fn put_end<W: Write>(&self, out: &mut TextWriter<'_, W>, cluster: &Cluster, track: &Track)
-        ensures { (past : List LogEntry) → track.now ≡ track_of cluster.now past
-            → keeps self.now cluster.now past
-            → Grows W.contents out.old out.new ((text self.now cluster.now).ends past) };
+        ensures { IfTrackOf cluster.now track.now (λ past. keeps self.now cluster.now past
+            → Grows W.contents out.old out.new ((text self.now cluster.now).ends past)) };
 }
 
 /// Puts the entries of a log from one on, with the track of those before it, which then is that of
@@ -65,8 +61,7 @@ pub(crate) fn put_entries<F: EntryFormat, W: Write>(
     requires fits { F.fits format.old cluster.now }
     requires keeps { F.keeps format.old cluster.now (reverse (take from log.now.entries)) }
     ensures text { PutsAll W.contents out.old out.new result
-        (each_entry (F.text format.old cluster.now).says (reverse (take from log.now.entries))
-        (drop from log.now.entries)) }
+        (entries_from (F.text format.old cluster.now) log.now.entries from) }
     ensures track { OnOk result (track.new ≡ track_of cluster.now (reverse log.now.entries)) }
     ensures keeps { OnOk result (F.keeps format.new cluster.now (reverse log.now.entries)) }
     ensures same { F.text format.new ≡ F.text format.old }

@@ -1,6 +1,6 @@
 //! Logs with names.
 
-ghost use Rattle.std.specs.Prelude.{◌≡◌, ◌∷◌, ◌<◌, ⊤, [], IfOk, OnOk, codes, drop, flat_map, length};
+ghost use Rattle.std.specs.Prelude.{◌≡◌, ◌∷◌, ◌<◌, ⊤, [], IfOk, OnOk, codes, flat_map, length};
 ghost use Rattle.std.specs.Prelude.{map, option_map, reverse, take};
 ghost use Rattle.std.specs.Option.{option_to_list};
 ghost use Rattle.lin_parts.specs.Cluster.{frame_name};
@@ -12,7 +12,7 @@ ghost use Rattle.lin_log.specs.Words.{line, reply_line, word_text};
 ghost use Rattle.lin_log.specs.Words.Word.{Said};
 ghost use Rattle.lin_text.specs.Written.{Grows, WritesText};
 ghost use Rattle.lin_export.specs.Named.{words_after_event, control_words, frame_signal_words, frame_words, good_words};
-ghost use Rattle.lin_export.specs.Named.{named_entries, named_event, named_from, named_line, named_log};
+ghost use Rattle.lin_export.specs.Named.{named_event, named_from, named_line, named_log};
 ghost use Rattle.lin_export.specs.Named.{named_words, refusal_words, request_words, slot_names};
 ghost use Rattle.lin_export.specs.Named.{sporadic_frame_under, time_words, transport, transport_words, who_word};
 ghost use Rattle.lin_export.specs.NamedWords.{event_text, line_or_none, named_entry};
@@ -404,8 +404,7 @@ pub fn named_text(
 ) -> Result<Vec<u8>, AllocError>
     requires { track.old ≡ track_of cluster.now (reverse (take from log.now.entries)) }
     ensures text { IfOk result (λ text. text.items
-        ≡ named_entries cluster.now (given_coding coded.entry)
-        (reverse (take from log.now.entries)) (drop from log.now.entries)) }
+        ≡ named_from cluster.now (given_coding coded.entry) log.now.entries from) }
     ensures track { OnOk result (track.new ≡ track_of cluster.now (reverse log.now.entries)) }
 {
     let mut text = Vec::new(alloc);

@@ -2,10 +2,11 @@
 
 ghost use Rattle.std.specs.Prelude.{◌<◌, flat_map, length, option_map};
 ghost use Rattle.lin_text.specs.Written.{Grows};
-ghost use Rattle.lin_export.specs.Named.{frame_values, named_line, seen_values, slot_values, told_values};
+ghost use Rattle.lin_export.specs.Named.{frame_values, named_line, seen_values, slot_values};
 ghost use Rattle.lin_export.specs.Named.{value_lines, written_values};
+ghost use Rattle.lin_export.specs.NamedWords.{told_text, written_text};
 ghost use Rattle.lin_export.specs.Open.{tracked_slot};
-ghost use Rattle.lin_export.specs.WhereTold.{given_coding, where_told};
+ghost use Rattle.lin_export.specs.WhereTold.{given_coding};
 
 use crate::frame_places::{place_count, value_at};
 use crate::line_meanings::put_line_meaning;
@@ -99,9 +100,8 @@ pub(crate) fn put_told<W: Write>(
     slot: &Option<OpenSlot>,
     event: &Event,
 )
-    ensures { Grows W.contents out.old out.new (flat_map (named_line cluster.now)
-        (told_values cluster.now (given_coding coded.entry) (option_map tracked_slot slot.now)
-        event.now)) }
+    ensures { Grows W.contents out.old out.new (told_text cluster.now
+        (given_coding coded.entry) (option_map tracked_slot slot.now) event.now) }
 {
     if let Some(coded) = coded {
         put_event_values(out, cluster, coded, slot, event);
@@ -136,9 +136,8 @@ pub(crate) fn put_written<W: Write>(
     coded: Option<&Coded>,
     step: &Step,
 )
-    ensures { Grows W.contents out.old out.new (flat_map (named_line cluster.now)
-        (where_told (given_coding coded.entry)
-        (λ d. written_values cluster.now d step.now))) }
+    ensures { Grows W.contents out.old out.new
+        (written_text cluster.now (given_coding coded.entry) step.now) }
 {
     if let Some(coded) = coded {
         put_written_values(out, cluster, coded, step);

@@ -1,10 +1,10 @@
 //! What `check` finds in an LDF, as one object of JSON (RFC 8259).
 
-ghost use Rattle.std.specs.Prelude.{flat_map, map, option_map};
+ghost use Rattle.std.specs.Prelude.{flat_map, option_map};
 ghost use Rattle.lin_text.specs.Written.{Grows, WritesText};
-ghost use Rattle.lin_export.specs.CheckObject.{check_object, cluster_members, empty_members, found_members, header_value};
+ghost use Rattle.lin_export.specs.CheckObject.{cluster_members, empty_members, found_members, header_value};
 ghost use Rattle.lin_export.specs.Csv.{after_comma};
-ghost use Rattle.lin_export.specs.Found.{found_data, problem_data};
+ghost use Rattle.lin_export.specs.Found.{found_data, object_found};
 
 use crate::json::{Member, put_key, put_members, put_text_value};
 use crate::object::declaration_lists::{Declarations, put_declarations};
@@ -101,8 +101,7 @@ fn put_object<W: Write>(
     problems: &[Problem],
 )
     ensures { Grows W.contents out.old out.new
-        (check_object file.now status (option_map (λ f. found_data f.now) found.entry)
-        (option_map (λ e. e.now) encodings.entry) (map problem_data problems.now)) }
+        (object_found file.now status found.entry encodings.entry problems.now) }
 {
     out.put(b"{\"version\":");
     out.put_number(1_u64);
@@ -138,8 +137,7 @@ pub fn write_object<W: Write>(
     writer: &mut W,
 ) -> Result<(), WriteFailed>
     ensures { WritesText (W.contents writer.old) (W.contents writer.new) result
-        (check_object file.now status (option_map (λ f. found_data f.now) found.entry)
-        (option_map (λ e. e.now) encodings.entry) (map problem_data problems.now)) }
+        (object_found file.now status found.entry encodings.entry problems.now) }
 {
     let mut buffer = TextBuffer::empty();
     let mut out = TextWriter::new(writer, &mut buffer);

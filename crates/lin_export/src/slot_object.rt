@@ -14,7 +14,7 @@ ghost use Rattle.lin_export.specs.Jsonl.{signals_member, slot_line};
 ghost use Rattle.lin_export.specs.Look.{seen_as};
 ghost use Rattle.lin_export.specs.Members.{member_shown};
 ghost use Rattle.lin_export.specs.Open.{tracked_slot};
-ghost use Rattle.lin_export.specs.PutsGroups.{AreCounts};
+ghost use Rattle.lin_export.specs.PutsGroups.{AreCounts, IfCounts};
 ghost use Rattle.lin_export.specs.WhereTold.{given_coding};
 
 use crate::frame_places::{place_count, value_at};
@@ -323,9 +323,8 @@ pub(crate) fn put_slot<'a, W: Write>(
     last: &[u32; HOSTS],
     slot: &OpenSlot,
 )
-    ensures { (count : ℕ → ℕ) → AreCounts count last.now
-        → Grows W.contents out.old out.new
-        (slot_line cluster.now (given_coding coded.entry) track.now count (tracked_slot slot.now)) }
+    ensures { IfCounts last.now (λ n. Grows W.contents out.old out.new
+        (slot_line cluster.now (given_coding coded.entry) track.now n (tracked_slot slot.now))) }
 {
     put_type(out, "slot");
     put_schedule(out, cluster, track.slots(), track.time(), slot);

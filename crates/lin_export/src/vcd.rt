@@ -1,13 +1,12 @@
 //! Logs as changes of values over time (IEEE 1364-2005, section 18, value change dump).
 
-ghost use Rattle.std.specs.Prelude.{◌≡◌, ◌<◌, ◌-◌, ◌==◌, ◌^◌, if◌then◌else◌, ⊤, ℕ, List, length};
+ghost use Rattle.std.specs.Prelude.{◌≡◌, ◌<◌, ◌-◌, ◌==◌, ◌^◌, if◌then◌else◌, ⊤, ℕ, length};
 ghost use Rattle.std.specs.Prelude.{slice_index};
-ghost use Rattle.lin_core.specs.declared.log.LogEntry.{LogEntry};
 ghost use Rattle.lin_text.specs.Written.{Grows, WritesText};
 ghost use Rattle.lin_export.specs.Look.{seen_as};
 ghost use Rattle.lin_export.specs.Open.{tracked_slot};
 ghost use Rattle.lin_export.specs.PutsGroups.{AreCounts, KeepsChanges, PutsGroups};
-ghost use Rattle.lin_export.specs.TrackedEntries.{IsAfter, next_groups};
+ghost use Rattle.lin_export.specs.TrackedEntries.{IfAfter, next_groups};
 ghost use Rattle.lin_export.specs.Vcd.{count_after, counted_all, count_group, entry_changes};
 ghost use Rattle.lin_export.specs.Vcd.{event_group, event_groups, frame_changes, vcd_head, header_change};
 ghost use Rattle.lin_export.specs.Vcd.{heard_group, end_stamp, later, one_more};
@@ -152,9 +151,8 @@ fn put_step<W: Write>(
     next: &TrackedEntry<'_>,
 )
     requires { next.now.track.now.time < 2 ^ 63 }
-    ensures { (past : List LogEntry) → IsAfter next.now past
-        → PutsGroups W.contents out.old out.new last.old last.new
-        (next_groups next.now (given_coding coded.entry) past) }
+    ensures { IfAfter next.now (λ past. PutsGroups W.contents out.old out.new last.old last.new
+        (next_groups next.now (given_coding coded.entry) past)) }
 {
     let cluster = next.cluster;
     let track = next.track;

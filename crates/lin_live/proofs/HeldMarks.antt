@@ -29,7 +29,7 @@ use Rattle.lin_live.specs.Heard.{IsHeard}
 use Rattle.lin_live.specs.Held.{new_hand}
 use Rattle.lin_live.specs.Marking.{Marked, bench_at_place, is_other, mark_place, start_name, with_mark}
 use Rattle.lin_live.specs.Serving.{WritesAnswer}
-use Rattle.lin_live.specs.Told.{Bad, Fine, HandData, Is, IsFullFor, asked_value, ending_text, gone_back, heard_answer, heard_as, heard_reply, without_byte_order_mark, written}
+use Rattle.lin_live.specs.Told.{Bad, Fine, HandData, Is, IsFullFor, asked_value, bad_reply, ending_text, gone_back, heard_answer, heard_as, heard_reply, without_byte_order_mark, written}
 use Rattle.lin_live.specs.declared.answer_format.AnswerFormat.{AnswerFormat}
 use Rattle.lin_live.specs.declared.fault.Fault.{Fault}
 use Rattle.lin_live.specs.declared.fault.Fault.TheVariants.{LogFull, OutOfMemory, ReadFailed, WriteFailed}
@@ -279,15 +279,12 @@ passes o m h u old new result some is w =
     (answered-by (h, ending_text h Fine) (with_marks h m, ending_text (with_marks h m) Fine) ⊥ ⊥ h (with_marks h m) old new result refl (λ f. f) (λ e. refl) w)
 
 -- a line was refused
-abbrev pub refusing : HandData → Reason → HandData × List ℕ
-refusing h why = (record h { was_bad = true }, ending_text h (Bad why))
-
 pub refused-by : (o : Option HandData) (v w : Option (Vec NamedMark)) (h u t : HandData) (why : Reason) (old new : Option (List ℕ)) (result : Result Unit Fault)
-    → w ≡ v → o ≡ Some h → with_marks (held_of o) (mark_items v) ≡ u → WritesAnswer (refusing h why) ⊥ t old new result → WritesAnswer (refusing u why) ⊥ (with_marks t (mark_items w)) old new result
+    → w ≡ v → o ≡ Some h → with_marks (held_of o) (mark_items v) ≡ u → WritesAnswer (bad_reply h why) ⊥ t old new result → WritesAnswer (bad_reply u why) ⊥ (with_marks t (mark_items w)) old new result
 refused-by o v w h u t why old new result same some is k =
     let m = mark_items w in
-    subst (λ (x : HandData). WritesAnswer (refusing x why) ⊥ (with_marks t m) old new result) (taken-view o v w h u same some is)
-    (answered-by (refusing h why) (refusing (with_marks h m) why) ⊥ ⊥ t (with_marks t m) old new result refl (λ f. f) (λ e. ap (λ (x : HandData). with_marks x m) e) k)
+    subst (λ (x : HandData). WritesAnswer (bad_reply x why) ⊥ (with_marks t m) old new result) (taken-view o v w h u same some is)
+    (answered-by (bad_reply h why) (bad_reply (with_marks h m) why) ⊥ ⊥ t (with_marks t m) old new result refl (λ f. f) (λ e. ap (λ (x : HandData). with_marks x m) e) k)
 
 -- a question was answered
 abbrev pub asking : HandData → Question → HandData × List ℕ
@@ -361,7 +358,7 @@ gone-start h t name old new result e is w =
 
 -- to no mark
 pub gone-none : (h t : HandData) (name : List ℕ) (old new : Option (List ℕ)) (result : Result Unit Fault) → bytes_eq name start_name ≡ false
-    → mark_place h.marks name ≡ None → WritesAnswer (refusing h (NoMark name)) ⊥ t old new result → WritesAnswer (heard_reply h (GoBack name)) ⊥ t old new result
+    → mark_place h.marks name ≡ None → WritesAnswer (bad_reply h (NoMark name)) ⊥ t old new result → WritesAnswer (heard_reply h (GoBack name)) ⊥ t old new result
 gone-none h t name old new result e unknown w =
     subst (λ (b : Bool). WritesAnswer (written h (gone_back h name (if b then Some (initial_bench, []) else option_and_then (bench_at_place h.marks) (mark_place h.marks name)))) ⊥ t old new result) (sym e)
     (subst (λ (o : Option ℕ). WritesAnswer (written h (gone_back h name (option_and_then (bench_at_place h.marks) o))) ⊥ t old new result) (sym unknown)

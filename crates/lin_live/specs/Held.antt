@@ -1,5 +1,6 @@
 -- What contracts see of a bench that a hand holds.
-use Rattle.std.specs.Prelude.{◌≡◌, ◌++◌, ℕ, Box, Bool, false, List, [], IfSome, Option, drop, reverse, take}
+use Rattle.std.specs.Prelude.{◌≡◌, ◌++◌, ℕ, Box, Bool, false, List, [], IfSome, Option, Result, drop, reverse, take}
+use Rattle.std.specs.Borrow.{Bor}
 use Rattle.std.specs.Global.{Global}
 use Rattle.lin_values.specs.Coded.{CodedData}
 use Rattle.lin_core.specs.Core.{CoreData}
@@ -12,10 +13,15 @@ use Rattle.lin_bench.specs.declared.got.Verdict.{Verdict}
 use Rattle.lin_export.specs.Jsonl.{IsObjectTrackOf, ObjectTrackData}
 use Rattle.lin_export.specs.LastSlot.{IsKeptOf}
 use Rattle.lin_export.specs.Track.{track_of}
-use Rattle.lin_live.specs.Told.{Ending, Failed, Fine, Limit, Refused}
-use Rattle.lin_live.specs.Told.{HandData, ending_text, entries_text, hash_ending, shown_coding, verdict_ending}
+use Rattle.lin_export.specs.WhereTold.{given_coding}
+use Rattle.lin_text.specs.Written.{WritesText}
+use Rattle.lin_text.specs.declared.fault.WriteFailed.{WriteFailed}
+use Rattle.lin_live.specs.Told.{Ending, Failed, Fine, Is, Limit, Refused}
+use Rattle.lin_live.specs.Told.{HandData, ending_text, entries_text, hash_ending, object_ending, shown_coding, verdict_ending}
+use Rattle.lin_live.specs.Values.{as_said}
 use Rattle.lin_live.specs.declared.answer_format.AnswerFormat.{AnswerFormat}
 use Rattle.lin_live.specs.declared.answer_objects.LineEnding.{LineEnding}
+use Rattle.lin_live.specs.declared.answer_value.AnswerValue.{AnswerValue}
 use Rattle.lin_live.specs.declared.answer_objects.LineEnding.TheVariants as code
 use Rattle.lin_live.specs.declared.fault.Fault.{Fault}
 use Rattle.lin_live.specs.declared.fault.Fault.TheVariants.{LogFull, OutOfMemory}
@@ -47,12 +53,29 @@ abbrev pub hash_line_ending : CoreData → ℕ → Option CodedData → Verdict 
 hash_line_ending core from k verdict =
     hash_ending core.cluster k (verdict_ending core.cluster verdict (drop from core.log))
 
+-- the texts of a line's entries and of how the line ends were written; or a beginning of them
+abbrev pub WritesLine : Option (List ℕ) → Option (List ℕ) → Result Unit WriteFailed → List ℕ → CoreData → ℕ → Verdict → Type 0
+WritesLine old new result entries core from verdict =
+    (k : Option CodedData) → WritesText old new result (entries ++ hash_line_ending core from k verdict)
+
+-- the answer to a question, by the value that the code has for it
+abbrev pub value_line : Parts → Option (Bor CodedData) → AnswerValue → List ℕ
+value_line c coded value = hash_ending c (given_coding coded) (Is (as_said c value))
+
+abbrev pub value_object : Parts → Option (Bor CodedData) → AnswerValue → List ℕ
+value_object c coded value = object_ending c (given_coding coded) (Is (as_said c value))
+
 -- how a line ends; the texts of a failed check have a space before them
 abbrev pub ending_of : LineEnding → Ending
 ending_of code.Fine = Fine
 ending_of code.Limit = Limit
 ending_of (code.Failed what got) = Failed (drop 1 what.items) (drop 1 got.items)
 ending_of (code.Refused why) = Refused why
+
+-- objects and that of how a line ends were written; or a beginning of them
+abbrev pub WritesLineObject : Option (List ℕ) → Option (List ℕ) → Result Unit WriteFailed → List ℕ → LineEnding → Type 0
+WritesLineObject old new result objects ending =
+    (c : Parts) (k : Option CodedData) → WritesText old new result (objects ++ object_ending c k (ending_of ending))
 
 -- the entries of a session's log from one on, in a format
 abbrev pub entries_from : AnswerFormat → HandData → ℕ → List ℕ

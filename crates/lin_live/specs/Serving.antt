@@ -1,9 +1,10 @@
 -- What a loop that answers lines has done to its state, its reader and its writer, whose bytes are
 -- spoken of where they are known.
-use Rattle.std.specs.Prelude.{◌≡◌, ℕ, List, [], ◌∷◌, ◌++◌, Option, IfSome, Result, Ok, Err}
+use Rattle.std.specs.Prelude.{◌≡◌, ℕ, List, [], ◌∷◌, ◌++◌, Option, IfSome, Result, Ok, Err, option_map}
+use Rattle.std.specs.Borrow.{Bor}
 use Rattle.std.specs.Io.KnownBytes.{Appends, Consumes}
 use Rattle.std.specs.Str.Lines.{strip_carriage_return}
-use Rattle.lin_live.specs.Lines.{ended_lines, last_line, lines, after_last_lf}
+use Rattle.lin_live.specs.Lines.{HasNoLf, ended_lines, last_line, lines, after_last_lf}
 use Rattle.lin_live.specs.Transcript.{state_after, short, transcript}
 use Rattle.lin_live.specs.Begun.{bytes_within_line}
 use Rattle.lin_live.specs.declared.fault.Fault.{Fault}
@@ -90,3 +91,38 @@ abbrev pub ServesEnd : {S : Type 0} → (S → Option (List ℕ) → S × List �
 ServesEnd reply full s t old new bytes (Ok done) = Answers reply s t old new (last_line bytes)
 ServesEnd reply full s t old new bytes (Err fault) =
     FailsToServe reply full s old new (last_line bytes) fault
+
+-- ---- the same, where the code has the state, the reader and the writer, and the beginning of a line
+abbrev pub RepliesTo : {S : Type 0} → (S → Option (List ℕ) → S × List ℕ)
+    → (S → Option (List ℕ) → Type 0) → S → S → Option (List ℕ) → Option (List ℕ)
+    → Option (Bor (List ℕ)) → Result Unit Fault → Type 0
+RepliesTo reply full s t old new line result =
+    Replies reply full s t old new (option_map (λ l. l.now) line) result
+
+abbrev pub AnswersBegun : {A S W : Type 0} → (S → Option (List ℕ) → S × List ℕ)
+    → (S → Option (List ℕ) → Type 0) → (A → S) → (W → Option (List ℕ)) → A → A → W → W
+    → Option (List ℕ) → Result Unit Fault → Type 0
+AnswersBegun reply full state contents a b old new begun result =
+    (bytes : List ℕ) → begun ≡ bytes_within_line bytes
+    → IsAnswered reply full (state a) (state b) (contents old) (contents new) bytes result
+
+abbrev pub FeedsBegun : {A S W : Type 0} → (S → Option (List ℕ) → S × List ℕ)
+    → (S → Option (List ℕ) → Type 0) → (A → S) → (W → Option (List ℕ)) → A → A → W → W
+    → Option (List ℕ) → Option (List ℕ) → List ℕ → Result Unit Fault → Type 0
+FeedsBegun reply full state contents a b old new begun left piece result =
+    (bytes : List ℕ) → begun ≡ bytes_within_line bytes → HasNoLf bytes
+    → Feeds reply full (state a) (state b) (contents old) (contents new) left bytes piece result
+
+abbrev pub ServesBegun : {A S W : Type 0} → (S → Option (List ℕ) → S × List ℕ)
+    → (S → Option (List ℕ) → Type 0) → (A → S) → (W → Option (List ℕ)) → A → A → W → W
+    → Option (List ℕ) → Result Unit Fault → Type 0
+ServesBegun reply full state contents a b old new begun result =
+    (bytes : List ℕ) → begun ≡ bytes_within_line bytes
+    → ServesEnd reply full (state a) (state b) (contents old) (contents new) bytes result
+
+abbrev pub RunsLive : {A S R W : Type 0} → (S → Option (List ℕ) → S × List ℕ)
+    → (S → Option (List ℕ) → Type 0) → (A → S) → (R → Option (List ℕ)) → (W → Option (List ℕ))
+    → A → A → R → R → W → W → Result Unit Fault → Type 0
+RunsLive reply full state remaining contents a b known left old new result =
+    IsLive reply full (state a) (state b) (remaining known) (remaining left) (contents old)
+    (contents new) result

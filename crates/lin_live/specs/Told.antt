@@ -81,9 +81,11 @@ verdict_ending c verdict es = steps_ending (first_refusal es)
 abbrev pub hash_line : Language → List Word → List ℕ
 hash_line l words = 35 ∷ (spaced_words l words ++ 10 ∷ [])
 
+abbrev pub bad_line_words : Reason → List Word
+bad_line_words why = Fixed (codes "bad line:") ∷ Said (question_reason_text why) ∷ []
+
 abbrev pub ending_words : Parts → Option CodedData → Ending → List Word
-ending_words c k (Bad why) =
-    Fixed (codes "bad line:") ∷ Said (question_reason_text why) ∷ []
+ending_words c k (Bad why) = bad_line_words why
 ending_words c k (Is answer) = Fixed (codes "is") ∷ said_words c k answer
 ending_words c k Limit = Fixed (codes "slot limit") ∷ []
 ending_words c k (Failed what got) =
@@ -173,6 +175,10 @@ asked_value h asked = said h.cluster h.opening h.bench.past h.bench.rules asked
 -- the last line of an answer of a session
 abbrev pub ending_text : HandData → Ending → List ℕ
 ending_text h ending = last_line h.format h.cluster (shown_coding h) ending
+
+-- what a bad line makes of a session, and the answer to it
+abbrev pub bad_reply : HandData → Reason → HandData × List ℕ
+bad_reply h why = (record h { was_bad = true }, ending_text h (Bad why))
 
 -- where what is expected in words isn't so, what the value means
 abbrev pub verdict_with_meaning : Option CodedData → Verdict → Verdict

@@ -7,6 +7,7 @@ use Rattle.lin_frame.specs.Words.{numbers}
 use Rattle.lin_frame.specs.declared.value.Value.{Value}
 use Rattle.lin_parts.specs.Cluster.{nad, nodes}
 use Rattle.lin_parts.specs.declared.parts.Parts.{Parts}
+use Rattle.lin_core.specs.Core.{past_of}
 use Rattle.lin_core.specs.History.{asleep, time}
 use Rattle.lin_core.specs.Links.{waiting}
 use Rattle.lin_core.specs.Next.{next_slot}
@@ -19,6 +20,7 @@ use Rattle.lin_log.specs.Words.Word.{Fixed, Lines, Mark, Node, Number, Raw, Said
 use Rattle.lin_values.specs.Coded.{CodedData}
 use Rattle.lin_values.specs.Meaning.{meaning_if_coded as meaning_of}
 use Rattle.lin_values.specs.Shown.{shown as meaning_text}
+use Rattle.lin_bench.specs.Bench.{BenchData}
 use Rattle.lin_bench.specs.Slots.{pending}
 use Rattle.lin_bench.specs.LineWords.{spaced_words}
 use Rattle.lin_bench.specs.Texts.{all_pending_words}
@@ -79,6 +81,10 @@ said c opening past rules Version = Versions
 said c opening past rules Nodes = AllNodes
 said c opening past rules LastSlot = Ended (last_slot c past)
 said c opening past rules Rules = RuleLines (lines_of_rules c rules)
+
+-- that of a bench
+abbrev pub said_of : BenchData → Question → SaidValue
+said_of bench asked = said bench.core.cluster bench.core.opening (past_of bench.core) bench.rules asked
 
 -- the answer that a value of the code stands for
 abbrev pub as_said : Parts → AnswerValue → SaidValue

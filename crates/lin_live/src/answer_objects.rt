@@ -4,16 +4,16 @@ ghost use Rattle.std.specs.Prelude.{◌≡◌, ◌++◌, ◌<◌, ◌≤◌, IfO
 ghost use Rattle.std.specs.Prelude.{flat_map, length, map, reverse, take};
 ghost use Rattle.lin_export.specs.Csv.{after_comma};
 ghost use Rattle.lin_export.specs.Json.{printable_text, with_commas};
-ghost use Rattle.lin_export.specs.Jsonl.{objects_of};
+ghost use Rattle.lin_export.specs.Jsonl.{objects_from};
 ghost use Rattle.lin_export.specs.Members.{member_shown};
 ghost use Rattle.lin_export.specs.WhereTold.{given_coding};
 ghost use Rattle.lin_frame.specs.Words.{numbers};
 ghost use Rattle.lin_parts.specs.Cluster.{nodes};
 ghost use Rattle.lin_parts.specs.declared.parts.Parts.{Parts};
 ghost use Rattle.lin_text.specs.Written.{Grows, WritesText};
-ghost use Rattle.lin_live.specs.Held.{IsBoxedTrackOf, ending_of};
+ghost use Rattle.lin_live.specs.Held.{IsBoxedTrackOf, WritesLineObject, ending_of, value_object};
 ghost use Rattle.lin_live.specs.Serving.{WritesAlone};
-ghost use Rattle.lin_live.specs.Told.{Bad, Is, answer_beginning, answer_object, object_ending, question_reason_text};
+ghost use Rattle.lin_live.specs.Told.{Bad, answer_beginning, answer_object, object_ending, question_reason_text};
 ghost use Rattle.lin_live.specs.Told.{steps_ending, verdict_ending};
 ghost use Rattle.lin_live.specs.Values.{as_said, node_value, said_members, said_text, versions_value};
 ghost use Rattle.lin_values.specs.Coded.{CodedData};
@@ -212,7 +212,7 @@ fn write_said<W: Write>(
 ) -> Result<(), WriteFailed>
     requires { words.now ≡ said_text cluster.now None (as_said cluster.now value.now) }
     ensures { WritesText (W.contents writer.old) (W.contents writer.new) result
-        (object_ending cluster.now (given_coding coded.entry) (Is (as_said cluster.now value.now))) }
+        (value_object cluster.now coded.entry value.now) }
 {
     let mut out = TextWriter::new(writer, buffer);
     put_end(&mut out, "is");
@@ -231,7 +231,7 @@ pub(crate) fn write_value_object<W: Write>(
     value: &AnswerValue,
 ) -> Result<(), Fault>
     ensures { WritesAlone (W.contents writer.old) (W.contents writer.new)
-        (object_ending cluster.now (given_coding coded.entry) (Is (as_said cluster.now value.now))) result }
+        (value_object cluster.now coded.entry value.now) result }
 {
     let words = words_of(alloc, buffer, cluster, value)?;
     write_said(writer, buffer, cluster, coded, value, words.as_slice())?;
@@ -259,8 +259,7 @@ pub(crate) fn with_objects(
     requires there { from ≤ length core.now.log }
     requires track { IfSome objects (IsBoxedTrackOf core.now.cluster (reverse (take from core.now.log))) }
     ensures text { IfOk result (λ made. made.0.items
-        ≡ objects_of core.now.cluster (given_coding coded.entry)
-        (reverse (take from core.now.log)) (drop from core.now.log)) }
+        ≡ objects_from core.now.cluster (given_coding coded.entry) core.now.log from) }
     ensures track { IfOk result (λ made.
         IsBoxedTrackOf core.now.cluster (reverse core.now.log) made.1) }
 {
@@ -321,8 +320,8 @@ pub(crate) fn write_line_object<W: Write>(
     told: &[u8],
     ending: &LineEnding,
 ) -> Result<(), WriteFailed>
-    ensures { (c : Parts) (k : Option CodedData) → WritesText (W.contents writer.old)
-        (W.contents writer.new) result (told.now ++ object_ending c k (ending_of ending.now)) }
+    ensures { WritesLineObject (W.contents writer.old) (W.contents writer.new) result
+        told.now ending.now }
 {
     match ending {
         LineEnding::Fine => write_object(writer, buffer, told, "ok", &[]),

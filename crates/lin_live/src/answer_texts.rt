@@ -1,21 +1,21 @@
 //! The answers to lines.
 
-ghost use Rattle.std.specs.Prelude.{◌≡◌, ◌++◌, ◌∷◌, ◌≤◌, ◌<◌, ◌==◌, [], IfOk, IfSome, Option, codes, drop};
+ghost use Rattle.std.specs.Prelude.{◌≡◌, ◌∷◌, ◌≤◌, ◌<◌, ◌==◌, [], IfOk, IfSome, Option, codes, drop};
 ghost use Rattle.std.specs.Prelude.{flat_map, if◌then◌else◌, length, map, reverse, take};
-ghost use Rattle.lin_export.specs.Named.{named_entries};
+ghost use Rattle.lin_export.specs.Named.{named_from};
 ghost use Rattle.lin_export.specs.Track.{track_of};
 ghost use Rattle.lin_export.specs.WhereTold.{given_coding};
 ghost use Rattle.lin_frame.specs.Words.{numbers};
 ghost use Rattle.lin_log.specs.Language.{named_language, plain};
 ghost use Rattle.lin_log.specs.Shown.{as_word};
 ghost use Rattle.lin_log.specs.Words.{text};
-ghost use Rattle.lin_log.specs.Words.Word.{Fixed, Said};
+ghost use Rattle.lin_log.specs.Words.Word.{Fixed};
 ghost use Rattle.lin_parts.specs.Cluster.{nodes};
 ghost use Rattle.lin_parts.specs.declared.parts.Parts.{Parts};
 ghost use Rattle.lin_text.specs.Written.{Grows, WritesText};
-ghost use Rattle.lin_live.specs.Held.{hash_line_ending};
+ghost use Rattle.lin_live.specs.Held.{WritesLine, hash_line_ending, value_line};
 ghost use Rattle.lin_bench.specs.LineWords.{spaced_words};
-ghost use Rattle.lin_live.specs.Told.{Is, hash_ending, hash_line, question_reason_text, question_reason_words};
+ghost use Rattle.lin_live.specs.Told.{bad_line_words, hash_ending, hash_line, question_reason_text, question_reason_words};
 ghost use Rattle.lin_live.specs.Told.{steps_ending};
 ghost use Rattle.lin_live.specs.Values.{addressed_node, as_said, idle_words, node_words, rule_words, said_text};
 ghost use Rattle.lin_live.specs.Values.{slot_words, value_words};
@@ -104,7 +104,7 @@ pub(crate) fn write_bad<W: Write>(
     reason: &Reason,
 ) -> Result<(), WriteFailed>
     ensures { WritesText (W.contents writer.old) (W.contents writer.new) result
-        (hash_line plain (Fixed (codes "bad line:") ∷ Said (question_reason_text reason.now) ∷ [])) }
+        (hash_line plain (bad_line_words reason.now)) }
 {
     let mut out = TextWriter::new(writer, buffer);
     out.put_text("# bad line: ");
@@ -256,7 +256,7 @@ pub(crate) fn write_value<W: Write>(
     value: &AnswerValue,
 ) -> Result<(), WriteFailed>
     ensures { WritesText (W.contents writer.old) (W.contents writer.new) result
-        (hash_ending cluster.now (given_coding coded.entry) (Is (as_said cluster.now value.now))) }
+        (value_line cluster.now coded.entry value.now) }
 {
     let mut out = TextWriter::new(writer, buffer);
     out.put_text("# is");
@@ -315,8 +315,8 @@ pub(crate) fn write_line<W: Write>(
     from: usize,
     verdict: &Verdict,
 ) -> Result<(), WriteFailed>
-    ensures { (k : Option CodedData) → WritesText (W.contents writer.old) (W.contents writer.new) result
-        (text (drop from core.now.log) ++ hash_line_ending core.now from k verdict.now) }
+    ensures { WritesLine (W.contents writer.old) (W.contents writer.new) result
+        (text (drop from core.now.log)) core.now from verdict.now }
 {
     let mut out = TextWriter::new(writer, buffer);
     put_entries(&mut out, core.log(), from);
@@ -338,8 +338,7 @@ pub(crate) fn with_names(
     requires track { IfSome track (λ track.
         track ≡ track_of core.now.cluster (reverse (take from core.now.log))) }
     ensures text { IfOk result (λ made. made.0.items
-        ≡ named_entries core.now.cluster (given_coding coded.entry)
-        (reverse (take from core.now.log)) (drop from core.now.log)) }
+        ≡ named_from core.now.cluster (given_coding coded.entry) core.now.log from) }
     ensures track { IfOk result (λ made.
         made.1 ≡ track_of core.now.cluster (reverse core.now.log)) }
 {
@@ -351,21 +350,21 @@ pub(crate) fn with_names(
     Ok((text, track))
 }
 
-/// Writes a text of the entries of a line, which are those of the log from one on, and what it came
-/// to.
-pub(crate) fn write_told_line<W: Write>(
+/// Writes the text of the entries of a line with names, which are those of the log from one on, and how
+/// the line ends.
+pub(crate) fn write_named_line<W: Write>(
     writer: &mut W,
     buffer: &mut TextBuffer,
     core: &Core,
     from: usize,
-    told: &[u8],
+    entries: &[u8],
     verdict: &Verdict,
 ) -> Result<(), WriteFailed>
-    ensures { (k : Option CodedData) → WritesText (W.contents writer.old) (W.contents writer.new) result
-        (told.now ++ hash_line_ending core.now from k verdict.now) }
+    ensures { WritesLine (W.contents writer.old) (W.contents writer.new) result
+        entries.now core.now from verdict.now }
 {
     let mut out = TextWriter::new(writer, buffer);
-    out.put(told);
+    out.put(entries);
     put_verdict_ending(&mut out, core, from, verdict);
     out.finish()
 }

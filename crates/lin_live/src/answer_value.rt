@@ -4,7 +4,7 @@ ghost use Rattle.std.specs.Prelude.{◌≡◌, IfOk, IfSome};
 ghost use Rattle.lin_core.specs.Core.{past_of};
 ghost use Rattle.lin_export.specs.LastSlot.{IsKeptOf};
 ghost use Rattle.lin_live.specs.Asked.{IsAskable};
-ghost use Rattle.lin_live.specs.Values.{KeepsLastSlot, Words, as_said, next_words, said};
+ghost use Rattle.lin_live.specs.Values.{KeepsLastSlot, Words, as_said, next_words, said_of};
 
 use crate::question::Question;
 use lin_bench::{Bench, Pending};
@@ -72,9 +72,8 @@ pub(crate) fn value_of(
 ) -> Result<AnswerValue, AllocError>
     requires askable { IsAskable bench.now.core.cluster question }
     requires known { IfSome known (IsKeptOf bench.now.core.cluster bench.now.core.log) }
-    ensures said { IfOk result (λ value. as_said bench.now.core.cluster value
-        ≡ said bench.now.core.cluster bench.now.core.opening (past_of bench.now.core)
-        bench.now.rules question) }
+    ensures said { IfOk result
+        (λ value. as_said bench.now.core.cluster value ≡ said_of bench.now question) }
     ensures last { IfOk result (KeepsLastSlot bench.now.core.cluster bench.now.core.log) }
 {
     let core = bench.core();

@@ -1,7 +1,7 @@
 //! What answers lines.
 
-ghost use Rattle.std.specs.Prelude.{◌≤◌, ℕ, List, Option, IfSome, length, option_map};
-ghost use Rattle.lin_live.specs.Serving.{Replies};
+ghost use Rattle.std.specs.Prelude.{◌≤◌, ℕ, List, Option, IfSome, length};
+ghost use Rattle.lin_live.specs.Serving.{RepliesTo};
 
 use crate::fault::Fault;
 use lin_text::TextBuffer;
@@ -37,6 +37,6 @@ pub trait Answering {
         buffer: &mut TextBuffer,
     ) -> Result<(), Fault>
         requires short { IfSome line (λ l. length l.now ≤ 16777216) }
-        ensures { Replies Self.reply Self.is_full (Self.state self.old) (Self.state self.new)
-            (W.contents writer.old) (W.contents writer.new) (option_map (λ l. l.now) line.entry) result };
+        ensures { RepliesTo Self.reply Self.is_full (Self.state self.old) (Self.state self.new)
+            (W.contents writer.old) (W.contents writer.new) line.entry result };
 }

@@ -10,7 +10,7 @@ ghost use Rattle.lin_live.specs.Heard.{IsHeard};
 ghost use Rattle.lin_live.specs.Held.{new_hand};
 ghost use Rattle.lin_live.specs.Marking.{mark_place, with_mark};
 ghost use Rattle.lin_live.specs.Serving.{WritesAnswer};
-ghost use Rattle.lin_live.specs.Told.{Bad, Fine, HandData, Is, IsFull, IsFullFor, asked_value, ending_text};
+ghost use Rattle.lin_live.specs.Told.{Fine, HandData, Is, IsFull, IsFullFor, asked_value, bad_reply, ending_text};
 ghost use Rattle.lin_live.specs.Told.{heard_as, heard_reply, reply, without_byte_order_mark};
 ghost use Rattle.lin_live.specs.declared.heard.Heard.TheVariants.{GoBack, Make, SetMark};
 
@@ -160,7 +160,7 @@ impl Hand {
         writer: &mut W,
         buffer: &mut TextBuffer,
     ) -> Result<(), Fault>
-        ensures { WritesAnswer (record self.old { was_bad = true }, ending_text self.old (Bad reason.now))
+        ensures { WritesAnswer (bad_reply self.old reason.now)
             ⊥ self.new (W.contents writer.old) (W.contents writer.new) result }
     {
         let Some(held) = &mut self.held else {

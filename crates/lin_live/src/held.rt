@@ -11,7 +11,7 @@ ghost use Rattle.lin_live.specs.Hand.{IsOpening};
 ghost use Rattle.lin_live.specs.Heard.{IsHeard};
 ghost use Rattle.lin_live.specs.Held.{IsBoxedTrackOf, IsKept, earlier, entries_from, line_text};
 ghost use Rattle.lin_live.specs.Serving.{WritesAlone, WritesAnswer};
-ghost use Rattle.lin_live.specs.Told.{Bad, Fine, HandData, Is, IsFullFor, asked_value, ending_text};
+ghost use Rattle.lin_live.specs.Told.{Fine, HandData, Is, IsFullFor, asked_value, bad_reply, ending_text};
 ghost use Rattle.lin_live.specs.Told.{heard_as, heard_reply, is_limit, is_unmet_verdict};
 ghost use Rattle.lin_live.specs.Told.{verdict_with_meaning, without_byte_order_mark};
 ghost use Rattle.lin_live.specs.Values.{KeepsLastSlot, as_said};
@@ -24,7 +24,7 @@ use crate::answer_objects::{
     write_value_object,
 };
 use crate::answer_texts::{
-    with_names, write_bad, write_line, write_ok, write_told_line, write_value,
+    with_names, write_bad, write_line, write_named_line, write_ok, write_value,
 };
 use crate::answer_value::{AnswerValue, value_of};
 use crate::fault::Fault;
@@ -76,9 +76,11 @@ impl Model for HeldBench {
     ghost invariant = { IsFollowed };
 }
 
-/// The tracks of a log for writing further entries, if they are at hand.
+/// The tracks of the entries of a log before one, if they are at hand.
 #[derive(Drop)]
 struct KeptTracks {
+    /// The place of this entry, from which on entries are written.
+    from: usize,
     track: Option<Track>,
     objects: Option<Box<ObjectTrack>>,
 }
@@ -269,7 +271,7 @@ impl HeldBench {
         writer: &mut W,
         buffer: &mut TextBuffer,
     ) -> Result<(), Fault>
-        ensures { WritesAnswer (record self.old { was_bad = true }, ending_text self.old (Bad reason.now))
+        ensures { WritesAnswer (bad_reply self.old reason.now)
             ⊥ self.new (W.contents writer.old) (W.contents writer.new) result }
     {
         self.was_bad = true;
@@ -394,29 +396,31 @@ impl HeldBench {
         Ok(text)
     }
 
-    /// Tells the entries from one on, and what their line came to, where what is kept of those before
-    /// is at hand or isn't.
-    fn tell<W: Write>(
+    /// Writes the answer to a line that was made: its entries, and how it ends.
+    fn write_line_answer<W: Write>(
         &mut self,
         alloc: Global,
         kept: KeptTracks,
-        from: usize,
         verdict: Verdict,
         writer: &mut W,
         buffer: &mut TextBuffer,
     ) -> Result<(), Fault>
-        requires there { from ≤ length self.old.bench.past }
-        requires kept { IsKept self.old.cluster (earlier from self.old.bench.past) kept }
-        ensures { WritesAnswer (self.old, line_text self.old from verdict)
+        requires there { kept.from ≤ length self.old.bench.past }
+        requires kept { IsKept self.old.cluster (earlier kept.from self.old.bench.past) kept }
+        ensures { WritesAnswer (self.old, line_text self.old kept.from verdict)
             ⊥ self.new (W.contents writer.old) (W.contents writer.new) result }
     {
-        let KeptTracks { track, objects } = kept;
+        let KeptTracks {
+            from,
+            track,
+            objects,
+        } = kept;
         match self.format {
             AnswerFormat::Log => write_line(writer, buffer, self.bench.core(), from, &verdict)?,
             AnswerFormat::Named => {
                 let text = self.names_from(alloc, track, from)?;
-                let told = text.as_slice();
-                write_told_line(writer, buffer, self.bench.core(), from, told, &verdict)?;
+                let entries = text.as_slice();
+                write_named_line(writer, buffer, self.bench.core(), from, entries, &verdict)?;
             }
             AnswerFormat::Jsonl => {
                 let text = self.objects_from(alloc, objects, from)?;
@@ -437,7 +441,7 @@ impl HeldBench {
         }
     }
 
-    /// Makes a line, and tells its entries and what it came to.
+    /// Makes a line, and writes the answer to it.
     pub(crate) fn make<W: Write>(
         &mut self,
         alloc: Global,
@@ -450,6 +454,7 @@ impl HeldBench {
     {
         let from = self.bench.core().log().len();
         let kept = KeptTracks {
+            from,
             track: self.track.take(),
             objects: self.objects.take(),
         };
@@ -459,6 +464,6 @@ impl HeldBench {
         self.last_slot = last_slot;
         self.keep(&verdict);
         let told = self.in_words(alloc, verdict)?;
-        self.tell(alloc, kept, from, told, writer, buffer)
+        self.write_line_answer(alloc, kept, told, writer, buffer)
     }
 }

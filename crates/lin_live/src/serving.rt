@@ -1,9 +1,6 @@
 //! The loop.
 
-ghost use Rattle.std.specs.Prelude.{◌≡◌, ℕ, List};
-ghost use Rattle.lin_live.specs.Begun.{bytes_within_line};
-ghost use Rattle.lin_live.specs.Lines.{HasNoLf};
-ghost use Rattle.lin_live.specs.Serving.{Feeds, ServesEnd, IsAnswered, IsLive};
+ghost use Rattle.lin_live.specs.Serving.{AnswersBegun, FeedsBegun, RunsLive, ServesBegun};
 
 use crate::answering::Answering;
 use crate::begun::Begun;
@@ -21,9 +18,8 @@ fn answer_line<S: Answering, W: Write>(
     writer: &mut W,
     buffer: &mut TextBuffer,
 ) -> Result<(), Fault>
-    ensures { (bytes : List ℕ) → begun.now ≡ bytes_within_line bytes
-        → IsAnswered S.reply S.is_full (S.state state.old) (S.state state.new)
-        (W.contents writer.old) (W.contents writer.new) bytes result }
+    ensures { AnswersBegun S.reply S.is_full S.state W.contents state.old state.new
+        writer.old writer.new begun.now result }
 {
     state.answer(alloc, begun.line(), writer, buffer)?;
     match writer.flush() {
@@ -41,9 +37,8 @@ fn feed<S: Answering, W: Write>(
     writer: &mut W,
     buffer: &mut TextBuffer,
 ) -> Result<(), Fault>
-    ensures { (bytes : List ℕ) → begun.old ≡ bytes_within_line bytes → HasNoLf bytes
-        → Feeds S.reply S.is_full (S.state state.old) (S.state state.new) (W.contents writer.old)
-        (W.contents writer.new) begun.new bytes piece.now result }
+    ensures { FeedsBegun S.reply S.is_full S.state W.contents state.old state.new
+        writer.old writer.new begun.old begun.new piece.now result }
 {
     let mut rest = piece;
     while let Some(end) = memchr(b'\n', rest) {
@@ -65,9 +60,8 @@ fn finish<S: Answering, W: Write>(
     writer: &mut W,
     buffer: &mut TextBuffer,
 ) -> Result<(), Fault>
-    ensures { (bytes : List ℕ) → begun.now ≡ bytes_within_line bytes
-        → ServesEnd S.reply S.is_full (S.state state.old) (S.state state.new)
-        (W.contents writer.old) (W.contents writer.new) bytes result }
+    ensures { ServesBegun S.reply S.is_full S.state W.contents state.old state.new
+        writer.old writer.new begun.now result }
 {
     if begun.is_nothing() {
         return Ok(());
@@ -95,9 +89,8 @@ pub fn live<S: Answering, R: Read, W: Write>(
     reader: &mut R,
     writer: &mut W,
 ) -> Result<(), Fault>
-    ensures { IsLive S.reply S.is_full (S.state state.old) (S.state state.new)
-        (R.remaining reader.old) (R.remaining reader.new) (W.contents writer.old)
-        (W.contents writer.new) result }
+    ensures { RunsLive S.reply S.is_full S.state R.remaining W.contents state.old state.new
+        reader.old reader.new writer.old writer.new result }
 {
     let mut begun = Begun::new(alloc);
     let mut buffer = [0u8; 65_536];

@@ -1,7 +1,6 @@
 //! What the values of signals mean, as lines.
 
 ghost use Rattle.std.specs.Prelude.{◌≡◌, ◌<◌, ◌≤◌, flat_map, length, option_map, true};
-ghost use Rattle.lin_parts.specs.Cluster.{signal_of};
 ghost use Rattle.lin_log.specs.Words.{spaced_word};
 ghost use Rattle.lin_text.specs.Written.{Grows, WritesText};
 ghost use Rattle.lin_export.specs.ListedSignals.{coding_line, encoding_word, has_numbers, initial_line, item_line};

@@ -9,4 +9,4 @@ loop-one-init g c = grows-nothing c.args.out.now
 
 pub loop-one-preserved : goal.loop-one-preserved
 loop-one-preserved g c =
-    grows-next (λ (p : PlacedItem). item_line c.args.array c.args.signal p.item) c.args.items.now c.loop-one.one-index c.one-item.result c.one-item.is (omega arith) c.loop-one.invariant c.put_item.ensures
+    grows-next (λ (p : PlacedItem). item_line c.args.has_numbers c.args.signal p.item) c.args.items.now c.loop-one.one-index c.one-item.result c.one-item.is (omega arith) c.loop-one.invariant c.put_item.ensures

@@ -4,9 +4,13 @@ use Rattle.lin_log.specs.Words.{spaced_word}
 use Rattle.lin_log.proofs.Ends.{grows-ended}
 use Rattle.lin_text.proofs.Growing.{grows-more, same-growth}
 use Rattle.lin_text.specs.Written.{Grows}
+use Rattle.lin_values.proofs.Fitting.{fits-below}
 use Rattle.lin_export.specs.ListedSignals.{decimal_word, unit_words}
 use Rattle.lin_export.proofs.ListedLines.{head-and-members}
 use Rattle.lin_export.proofs.listing.signals.put_range.Goals as goal
+
+pub new-requires : goal.new-requires
+new-requires g c = fits-below c.args.range.now.min c.args.range.now.max c.args.range.now.scale c.args.range.now.offset c.requires.order c.requires.fits
 
 pub returns : goal.returns
 returns g c =

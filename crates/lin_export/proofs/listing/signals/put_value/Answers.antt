@@ -9,4 +9,4 @@ pub returns : goal.returns
 returns g c =
     let head : List (List ℕ) = decimal c.args.signal ∷ decimal c.args.value ∷ [] in
     same-growth (head-and-members (codes "value") head (text_or_number c.args.value c.args.text.now ∷ []))
-    (grows-more (rw (c.from.ensures, c.from-2.ensures) at c.put_head.ensures) (grows-more c.put_text_or_number.ensures c.put_byte.ensures))
+    (grows-more (rw c.from.ensures at c.put_head.ensures) (grows-more c.put_text_or_number.ensures c.put_byte.ensures))

@@ -7,4 +7,4 @@ use Rattle.lin_export.proofs.object.encodings.put_logical.Goals as goal
 pub returns : goal.returns
 returns g c =
     let members = count_member (codes "value") c.args.value ∷ member (codes "text") (text_value c.args.text.now) ∷ [] in
-    grows-values (kind_member (codes "logical")) c.put_first.ensures (puts-all members (rw c.from.ensures at c.put_members.ensures)) c.put_byte.ensures
+    grows-values (kind_member (codes "logical")) c.put_first.ensures (puts-all members c.put_members.ensures) c.put_byte.ensures

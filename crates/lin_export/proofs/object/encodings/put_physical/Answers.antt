@@ -9,7 +9,7 @@ pub returns : goal.returns
 returns g c =
     let values = count_member (codes "low") c.args.min ∷ count_member (codes "high") c.args.max ∷ [] in
     grows-values (kind_member (codes "physical")) c.put_first.ensures
-    (puts-more (puts-all values (rw (c.from.ensures, c.from-2.ensures) at c.put_members.ensures))
+    (puts-more (puts-all values c.put_members.ensures)
     (puts-more (puts-one (member (codes "scale") (quoted_text (decimal_shown c.args.scale.now))) c.put_coefficient.ensures)
     (puts-more (puts-one (member (codes "offset") (quoted_text (decimal_shown c.args.offset.now))) c.put_coefficient-2.ensures)
     (puts-one (member (codes "unit") (text_value c.args.unit.now)) c.put_member.ensures))))

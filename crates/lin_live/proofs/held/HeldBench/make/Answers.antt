@@ -10,17 +10,17 @@ use Rattle.lin_live.proofs.LinesTold.{from-there, kept-there, line-grown, line-t
 use Rattle.lin_live.proofs.Replying.{tells-anyway}
 use Rattle.lin_live.proofs.held.HeldBench.make.Goals as goal
 
-pub tell-requires-clause-there : goal.tell-requires-clause-there
-tell-requires-clause-there g c =
+pub write_line_answer-requires-clause-there : goal.write_line_answer-requires-clause-there
+write_line_answer-requires-clause-there g c =
     let from = c.len-from.ensures.len ∙ ap length (c.log.ensures.entries ∙ ap (λ (k : CoreData). k.log) c.core.ensures) in
     subst (λ (h : HandData). c.len-from.result ≤ length h.bench.past) (sym c.keep.ensures)
     (from-there c.self.inside c.make.new.self c.len-from.result
     (line-grown c.self.inside c.renew_slots.new.self c.make.new.self c.args.line c.in_ok-verdict.verdict c.renew_slots.ensures c.in_ok-verdict.ensures) from)
 
-pub tell-requires-clause-kept : goal.tell-requires-clause-kept
-tell-requires-clause-kept g c =
+pub write_line_answer-requires-clause-kept : goal.write_line_answer-requires-clause-kept
+write_line_answer-requires-clause-kept g c =
     let from = c.len-from.ensures.len ∙ ap length (c.log.ensures.entries ∙ ap (λ (k : CoreData). k.log) c.core.ensures) in
-    let kept : KeptTracks = record { track = c.take.result; objects = c.take-2.result } in
+    let kept : KeptTracks = record { from = c.len-from.result; track = c.take.result; objects = c.take-2.result } in
     subst (λ (h : HandData). IsKept h.cluster (earlier c.len-from.result h.bench.past) kept) (sym c.keep.ensures)
     (kept-there c.self.inside c.renew_slots.new.self c.make.new.self c.args.line c.in_ok-verdict.verdict c.len-from.result kept
     c.renew_slots.ensures c.in_ok-verdict.ensures from c.take.ensures.value c.take-2.ensures.value c.self.invariant)
@@ -53,12 +53,12 @@ returns g c =
     let same = line-told-so c.self.inside c.renew_slots.new.self c.make.new.self c.args.line c.in_ok-verdict.verdict c.in_ok-told.told c.len-from.result c.keep.new.self
     c.renew_slots.ensures c.in_ok-verdict.ensures from c.keep.ensures told in
     let old = g.W.Write.contents c.args.writer.now in
-    let new = g.W.Write.contents c.tell.new.writer in
+    let new = g.W.Write.contents c.write_line_answer.new.writer in
     let h = held_data c.self.inside in
     let full = 2 ^ 32 - 1 < length (made h.cluster h.opening h.capacity h.bench c.args.line).0.past in
     subst
     (λ (x : HandData). WritesAnswer (written x (after_line x (made x.cluster x.opening x.capacity x.bench c.args.line)))
-    (2 ^ 32 - 1 < length (made x.cluster x.opening x.capacity x.bench c.args.line).0.past) c.tell.new.self old new c.tell.result)
+    (2 ^ 32 - 1 < length (made x.cluster x.opening x.capacity x.bench c.args.line).0.past) c.write_line_answer.new.self old new c.write_line_answer.result)
     c.self.view_is
-    (subst (λ (p : HandData × List ℕ). WritesAnswer p full c.tell.new.self old new c.tell.result) same
-    (tells-anyway (telling c.keep.new.self c.len-from.result c.in_ok-told.told) full c.tell.new.self old new c.tell.result c.tell.ensures))
+    (subst (λ (p : HandData × List ℕ). WritesAnswer p full c.write_line_answer.new.self old new c.write_line_answer.result) same
+    (tells-anyway (telling c.keep.new.self c.len-from.result c.in_ok-told.told) full c.write_line_answer.new.self old new c.write_line_answer.result c.write_line_answer.ensures))

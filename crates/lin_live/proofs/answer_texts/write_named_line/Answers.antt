@@ -1,6 +1,6 @@
 use Rattle.std.proofs.Common.{◌∙◌, sym, rules}
 use Rattle.lin_text.proofs.Growing.{grows-more, text-written}
-use Rattle.lin_live.proofs.answer_texts.write_told_line.Goals as goal
+use Rattle.lin_live.proofs.answer_texts.write_named_line.Goals as goal
 
 pub returns : goal.returns
 returns g c = λ k.
