@@ -211,8 +211,12 @@ impl Campaign<'_, '_> {
         ensures { PutsAll W.contents out.old out.new result
             (in_page is_page (object_with self.now rows.now shown.now)) }
     {
-        let (singles, count) = (rows.singles, rows.count());
-        jsonl::put_head(out, self.alloc, self.script, singles, count, shown, is_page)
+        let size = CampaignSize {
+            script: self.script,
+            singles: rows.singles,
+            rows: rows.count(),
+        };
+        jsonl::put_head(out, self.alloc, size, shown, is_page)
     }
 
     /// The object of the campaign, which the first part alone has. An error means out of memory.
@@ -271,7 +275,6 @@ impl Campaign<'_, '_> {
     /// `OutOfMemory` and `WriteFailed`, where what was written is a beginning.
     fn write_head<W: Write>(
         &self,
-        buffer: &mut TextBuffer,
         table: &RowSource<'_>,
         shown: &ShownRow<'_>,
         writer: &mut W,
@@ -280,7 +283,8 @@ impl Campaign<'_, '_> {
         ensures { WritesText (W.contents writer.old) (W.contents writer.new) result
             (head_of self.now table.now shown.now.core.now.cluster (row_data shown.now)) }
     {
-        let mut out = TextWriter::new(writer, buffer);
+        let mut buffer = TextBuffer::empty();
+        let mut out = TextWriter::new(writer, &mut buffer);
         let put = self.put_head(&mut out, table, shown);
         put?;
         out.finish()?;
@@ -319,7 +323,6 @@ impl Campaign<'_, '_> {
     /// `OutOfMemory` and `WriteFailed`, where what was written is a beginning.
     fn write_row<W: Write>(
         &self,
-        buffer: &mut TextBuffer,
         shown: &ShownRow<'_>,
         calm: Option<&Row>,
         writer: &mut W,
@@ -327,7 +330,8 @@ impl Campaign<'_, '_> {
         ensures { WritesText (W.contents writer.old) (W.contents writer.new) result
             (row_without self.now shown.now calm.entry) }
     {
-        let mut out = TextWriter::new(writer, buffer);
+        let mut buffer = TextBuffer::empty();
+        let mut out = TextWriter::new(writer, &mut buffer);
         let put = self.put_row(&mut out, shown, calm);
         // (a row for which memory runs out isn't finished: it would be a part of one)
         put?;
@@ -351,15 +355,12 @@ impl Campaign<'_, '_> {
     ///
     /// # Errors
     /// `WriteFailed`, where what was written is a beginning.
-    fn write_tail<W: Write>(
-        &self,
-        buffer: &mut TextBuffer,
-        writer: &mut W,
-    ) -> Result<(), WriteFailed>
+    fn write_tail<W: Write>(&self, writer: &mut W) -> Result<(), WriteFailed>
         ensures { WritesText (W.contents writer.old) (W.contents writer.new) result
             (text_after_rows self.now.format) }
     {
-        let mut out = TextWriter::new(writer, buffer);
+        let mut buffer = TextBuffer::empty();
+        let mut out = TextWriter::new(writer, &mut buffer);
         self.put_tail(&mut out);
         out.finish()?;
         flush(writer)
@@ -375,7 +376,6 @@ impl Campaign<'_, '_> {
         number: u64,
         cluster: Cluster,
         counts: &mut RowCounts,
-        buffer: &mut TextBuffer,
         writer: &mut W,
     ) -> Result<Cluster, Fault>
         requires ready { IsReady self.now cluster }
@@ -398,7 +398,7 @@ impl Campaign<'_, '_> {
             core: &play.core,
             judgements: play.judgements.as_slice(),
         };
-        self.write_row(buffer, &shown, Some(table.calm), writer)?;
+        self.write_row(&shown, Some(table.calm), writer)?;
         counts.count(number, &play.row)?;
         Ok(play.core.into_cluster())
     }
@@ -421,7 +421,6 @@ impl Campaign<'_, '_> {
         &self,
         table: &RowSource<'_>,
         core: &Core,
-        buffer: &mut TextBuffer,
         writer: &mut W,
     ) -> Result<(), ExportFault>
         requires table { IsTable table.now }
@@ -436,11 +435,11 @@ impl Campaign<'_, '_> {
             core,
             judgements: table.judgements,
         };
-        self.write_head(buffer, table, &shown, writer)?;
+        self.write_head(table, &shown, writer)?;
         if !self.shows_calm(table) {
             return Ok(());
         }
-        self.write_row(buffer, &shown, None, writer)
+        self.write_row(&shown, None, writer)
     }
 
     /// Plays, writes and counts the rows of a part except row 0. Returns the cluster.
@@ -452,7 +451,6 @@ impl Campaign<'_, '_> {
         table: &RowSource<'_>,
         cluster: Cluster,
         counts: &mut RowCounts,
-        buffer: &mut TextBuffer,
         writer: &mut W,
         errors: &mut E,
     ) -> Result<Cluster, Fault>
@@ -468,7 +466,7 @@ impl Campaign<'_, '_> {
         let (from, to) = table.rows.bounds(table.part);
         let mut handed = cluster;
         for number in first_disturbed(from)..to {
-            handed = self.one_row(table, number, handed, counts, buffer, writer)?;
+            handed = self.one_row(table, number, handed, counts, writer)?;
             table.watch(number - from + 1, to - from, errors);
         }
         Ok(handed)
@@ -515,7 +513,6 @@ impl Campaign<'_, '_> {
         table: &RowSource<'_>,
         cluster: &Cluster,
         counts: &RowCounts,
-        buffer: &mut TextBuffer,
         errors: &mut E,
     ) -> Result<(), AllocError>
         requires table { IsTable table.now }
@@ -523,8 +520,14 @@ impl Campaign<'_, '_> {
             (E.contents errors.old) (E.contents errors.new)) }
     {
         let faults = self.worst_faults(table, counts)?;
-        let mut out = TextWriter::new(errors, buffer);
-        counts.put_lines(&mut out, self.script, cluster, table.judgements);
+        let script = JudgedScript {
+            name: self.script,
+            cluster,
+            judgements: table.judgements,
+        };
+        let mut buffer = TextBuffer::empty();
+        let mut out = TextWriter::new(errors, &mut buffer);
+        counts.put_lines(&mut out, script);
         counts.put_numbers(&mut out, cluster, faults.as_slice());
         let _ = out.finish();
         Ok(())
@@ -606,13 +609,12 @@ fn write_table<W: Write, E: Write>(
         (W.contents writer.old) (W.contents writer.new)
         (E.contents errors.old) (E.contents errors.new) }
 {
-    let mut buffer = TextBuffer::empty();
     let mut counts = RowCounts::new(campaign.alloc, table.judgements)?;
-    campaign.write_first(table, &core, &mut buffer, writer)?;
+    campaign.write_first(table, &core, writer)?;
     let cluster = core.into_cluster();
-    let cluster = campaign.write_rows(table, cluster, &mut counts, &mut buffer, writer, errors)?;
-    campaign.write_tail(&mut buffer, writer)?;
-    campaign.write_counts(table, &cluster, &counts, &mut buffer, errors)?;
+    let cluster = campaign.write_rows(table, cluster, &mut counts, writer, errors)?;
+    campaign.write_tail(writer)?;
+    campaign.write_counts(table, &cluster, &counts, errors)?;
     if is_denied(plan, &counts, table.judgements) {
         Err(Fault::Denied)
     } else {

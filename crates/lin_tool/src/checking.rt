@@ -13,7 +13,7 @@ use std::io;
 /// Writes on standard output a line for each node, each signal and each schedule table of the
 /// cluster that the LDF text in the file at `path` describes, and after them the lists that are
 /// wanted, that of signals where encodings are read; where the path is `-`, that on standard input.
-/// The timing of schedule tables comes last, for messages with `timing` data bytes, at most 4,095.
+/// The timing of schedule tables comes last.
 ///
 /// # Errors
 /// Those of `cluster_at`, after which nothing was written; those of `write_lists` and `write_timing`.
@@ -23,13 +23,12 @@ pub fn check<R: AllocGlobal + Files + Input + Print>(
     reading: Reading,
     extras: Extras,
     lists: Lists,
-    timing: Option<u16>,
     notes: &mut Notes<'_>,
 ) -> Result<(), Fault> {
     let Described { cluster, coded } = cluster_at(rt, path, reading, extras, notes)?;
     let mut writer = io::writer(rt);
     write_lists(&cluster, coded.as_ref(), lists, &mut writer)?;
-    if let Some(bytes) = timing {
+    if let Some(bytes) = lists.timing {
         write_timing(rt.alloc(), &cluster, bytes.min(4095), &mut writer)?;
     }
     Ok(())

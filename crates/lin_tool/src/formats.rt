@@ -86,9 +86,7 @@ pub fn write_shown<W: Write>(
         Format::Jsonl(script) => write_objects(alloc, shown, script, core, writer),
         Format::Pcap => write_pcap(alloc, cluster, log, writer),
         Format::Vcd => write_vcd(alloc, cluster, coded, log, writer),
-        Format::Html(file) => {
-            write_page(alloc, core, coded, file, shown.script, judgements, writer)
-        }
+        Format::Html(file) => write_page(alloc, shown, file, core, writer),
         Format::Junit(file) => write_junit(alloc, file, cluster, log, judgements, writer),
     }
 }

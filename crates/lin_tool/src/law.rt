@@ -23,8 +23,8 @@ pub fn named_logs_say_the_same()
 ///
 /// A transcript by numbers is a script of its run. If names are words, and no two nodes, signals or schedule
 /// tables have the same name, each transcript is a bench script of its run. It is also an input whose lines
-/// lead to the same log, if no signal with an encoding is called `=` or `~`. In these three cases the numbers
-/// and bytes of the log's entries are within their types, as each `LogEntry` has them.
+/// lead to the same log; if encodings are known, no signal is called `=` or `~` then. In these three cases the
+/// numbers and bytes of the log's entries are within their types, as each `LogEntry` has them.
 ///
 /// All this holds of bad lines too, if no line goes back to a mark. The lines of each input have no LF.
 pub fn transcripts_are_logs()

@@ -21,6 +21,8 @@ pub struct Lists {
     pub slots: bool,
     /// Its signals, with what their values mean.
     pub signals: bool,
+    /// The timing of its schedule tables, for messages with this many data bytes, at most 4,095.
+    pub timing: Option<u16>,
 }
 
 /// Writes the lines of frames and their places, where they are wanted.
@@ -90,8 +92,8 @@ fn write_wanted_signals<W: Write>(
     }
 }
 
-/// Writes the list of `write_list`, and after it those that are wanted: frames, the maps of their bits,
-/// slots, and signals, if what their values mean is known. It takes no memory.
+/// Writes the list of `write_list`, and after it those that are wanted, except the timing: frames, the maps
+/// of their bits, slots, and signals, if what their values mean is known. It takes no memory.
 ///
 /// # Errors
 /// `WriteFailed`, where what was written is the beginning of the lines. A failed write is tried

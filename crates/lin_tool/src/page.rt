@@ -13,16 +13,15 @@ mod pieces;
 pub(crate) mod summary;
 mod unmet;
 
+use crate::formats::Shown;
 use crate::page::data::{write_cluster, write_data_head, write_log_head};
 use crate::page::pieces::{HEAD, MIDDLE, TAIL};
 use crate::page::summary::put_summary;
 use crate::page::unmet::write_unmet_lines;
-use lin_bench::Judgement;
 use lin_core::Core;
 use lin_export::{ExportFault, write_first_slots};
 use lin_log::write_log;
 use lin_text::{TextBuffer, TextWriter, WriteFailed, write_out};
-use lin_values::Coded;
 use std::alloc::Global;
 use std::io::Write;
 
@@ -33,24 +32,23 @@ use std::io::Write;
 /// `OutOfMemory`, `WriteFailed`; what was written then is the beginning of it.
 fn write_data<W: Write>(
     alloc: Global,
-    core: &Core,
-    coded: Option<&Coded>,
+    shown: &Shown<'_, '_>,
     file: &[u8],
-    script: Option<&str>,
-    judgements: &[Judgement],
+    core: &Core,
     writer: &mut W,
 ) -> Result<(), ExportFault>
     ensures { WritesText (W.contents writer.old) (W.contents writer.new) result
-        (page_data script.entry core.now.cluster (given_coding coded.entry) file.now core.now.log
-        judgements.now) }
+        (page_data shown.now.script core.now.cluster (given_coding shown.now.coded) file.now core.now.log
+        shown.now.judgements.now) }
 {
     let cluster = core.cluster();
     let log = core.log();
     write_data_head(cluster, file, writer)?;
     write_cluster(alloc, cluster, writer)?;
-    write_log_head(cluster, coded, writer)?;
+    write_log_head(cluster, shown.coded, writer)?;
     write_log(log, writer)?;
-    write_unmet_lines(alloc, script, cluster, log, judgements, writer)
+    let judgements = shown.judgements;
+    write_unmet_lines(alloc, shown.script, cluster, log, judgements, writer)
 }
 
 /// Writes what stands between the data and the first slots: the numbers that a reader without
@@ -84,19 +82,17 @@ fn write_middle<W: Write>(core: &Core, writer: &mut W) -> Result<(), WriteFailed
 ///   write of 0 bytes.
 pub(crate) fn write_page<W: Write>(
     alloc: Global,
-    core: &Core,
-    coded: Option<&Coded>,
+    shown: &Shown<'_, '_>,
     file: &[u8],
-    script: Option<&str>,
-    judgements: &[Judgement],
+    core: &Core,
     writer: &mut W,
 ) -> Result<(), ExportFault>
     ensures { WritesText (W.contents writer.old) (W.contents writer.new) result
-        (page script.entry core.now.cluster (given_coding coded.entry) file.now core.now.log
-        judgements.now) }
+        (page shown.now.script core.now.cluster (given_coding shown.now.coded) file.now core.now.log
+        shown.now.judgements.now) }
 {
     write_out(writer, HEAD.as_bytes())?;
-    write_data(alloc, core, coded, file, script, judgements, writer)?;
+    write_data(alloc, shown, file, core, writer)?;
     write_middle(core, writer)?;
     write_first_slots(alloc, core.cluster(), core.log(), writer)?;
     write_out(writer, TAIL.as_bytes())?;

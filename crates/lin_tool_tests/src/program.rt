@@ -104,6 +104,7 @@ const SIGNALS: Lists = Lists {
     maps: false,
     slots: false,
     signals: true,
+    timing: None,
 };
 
 /// The lists of a cluster, and what is said on standard error.
@@ -373,6 +374,7 @@ fn lists_end_where_a_write_fails(rt: HostRuntime) -> Result<(), Fail> {
         maps: true,
         slots: true,
         signals: true,
+        timing: None,
     };
     let mut whole = Vec::new(alloc);
     write_lists(&cluster, coded.as_ref(), all, &mut whole)?;

@@ -44,14 +44,12 @@ pub(crate) enum Request<'a> {
         script: Option<&'a str>,
     },
     /// `linsim check FILE [--field] [--frames] [--map] [--slots] [--physical [--signals]]
-    /// [--timing [--bytes N]] [--lint] [--configuration] [--deny KINDS] [--allow KINDS]`. `timing` is
-    /// the number of data bytes of messages, `None` without `--timing`.
+    /// [--timing [--bytes N]] [--lint] [--configuration] [--deny KINDS] [--allow KINDS]`
     Check {
         file: &'a str,
         reading: Reading,
         extras: Extras,
         lists: Lists,
-        timing: Option<u16>,
     },
     /// `linsim check FILE --to json [--field] [--physical] [--lint] [--configuration] [--deny KINDS]
     /// [--allow KINDS]`
@@ -345,8 +343,8 @@ fn request_of<'a>(matches: &ArgMatches<'a>) -> Option<Request<'a>> {
                 maps: found.get_flag("map"),
                 slots: found.get_flag("slots"),
                 signals: found.get_flag("signals"),
+                timing: timing_of(found),
             },
-            timing: timing_of(found),
         }),
         Some(("diff", found)) => Some(Request::Diff {
             old: found.get_str("old").unwrap_or(""),

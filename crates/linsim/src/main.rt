@@ -62,8 +62,7 @@ fn perform<
             reading,
             extras,
             lists,
-            timing,
-        } => lin_tool::check(rt, file, reading, extras, lists, timing, notes),
+        } => lin_tool::check(rt, file, reading, extras, lists, notes),
         Request::CheckObject {
             file,
             reading,

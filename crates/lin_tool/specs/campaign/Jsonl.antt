@@ -21,6 +21,7 @@ use Rattle.lin_tool.specs.campaign.FaultNames.{fault_text}
 use Rattle.lin_tool.specs.campaign.Shown.{RowData}
 use Rattle.lin_tool.specs.campaign.Slots.{finished_slots}
 use Rattle.lin_tool.specs.campaign.Text.{frame_of_single}
+use Rattle.lin_tool.specs.declared.campaign.jsonl.CampaignSize.{CampaignSize}
 use Rattle.lin_tool.specs.declared.campaign.row.LostMessage.{LostMessage}
 use Rattle.lin_tool.specs.declared.campaign.row.RefusedStep.{RefusedStep}
 use Rattle.lin_tool.specs.declared.campaign.row.Row.{Row}
@@ -64,6 +65,9 @@ head_object c script singles rows p =
     ∷ decimal_member (codes "rows") rows
     ∷ member (codes "lines") (json_array (map (expectation c p.log) p.judgements))
     ∷ [])
+
+abbrev pub sized_object : CampaignSize → Parts → RowData → List ℕ
+sized_object size c p = head_object c size.script.now size.singles size.rows p
 
 -- ---- a row
 abbrev pub single_members : Parts → Option Single → List (List ℕ)

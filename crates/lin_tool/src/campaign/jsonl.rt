@@ -13,9 +13,9 @@ ghost use Rattle.lin_export.specs.Json.{with_commas};
 ghost use Rattle.lin_export.specs.Putting.{PutsAll};
 ghost use Rattle.lin_tool.specs.Placing.{AtMoment};
 ghost use Rattle.lin_tool.specs.campaign.Jsonl.{failure_objects, ended_members, expectation, failure_object};
-ghost use Rattle.lin_tool.specs.campaign.Jsonl.{head_object, last_of, letter, letters, next_letter};
+ghost use Rattle.lin_tool.specs.campaign.Jsonl.{last_of, letter, letters, next_letter};
 ghost use Rattle.lin_tool.specs.campaign.Jsonl.{loss_object, decimal_member, outcome_members, single_members, refusal_object};
-ghost use Rattle.lin_tool.specs.campaign.Jsonl.{row_object, verdict_part};
+ghost use Rattle.lin_tool.specs.campaign.Jsonl.{row_object, sized_object, verdict_part};
 ghost use Rattle.lin_tool.specs.campaign.Page.{in_page};
 ghost use Rattle.lin_tool.specs.campaign.Shown.{row_data};
 ghost use Rattle.lin_tool.specs.campaign.Slots.{Follows, kept_slot};
@@ -107,25 +107,31 @@ fn put_expectations<W: Write>(
     Ok(())
 }
 
+/// The name of a campaign's script, and the numbers of its single faults and of its rows.
+#[derive(Clone, Copy)]
+pub(crate) struct CampaignSize<'a> {
+    pub script: &'a str,
+    pub singles: usize,
+    pub rows: u64,
+}
+
 /// The object of the campaign with this undisturbed play. An error means out of memory.
 fn put_campaign<W: Write>(
     out: &mut TextWriter<'_, W>,
     alloc: Global,
-    script: &str,
-    singles: usize,
-    rows: u64,
+    size: CampaignSize<'_>,
     shown: &ShownRow<'_>,
 ) -> Result<(), AllocError>
     ensures { PutsAll W.contents out.old out.new result
-        (head_object shown.now.core.now.cluster script.now singles rows (row_data shown.now)) }
+        (sized_object size.entry shown.now.core.now.cluster (row_data shown.now)) }
 {
     put_type(out, "campaign");
     put_member(out, Member::Number("version", 1));
-    put_member(out, Member::Printable("script", script.as_bytes()));
+    put_member(out, Member::Printable("script", size.script.as_bytes()));
     put_key(out, "slots");
     out.put_number(shown.row.slots);
-    put_member(out, Member::Number("faults", singles as u64));
-    put_member(out, Member::Number("rows", rows));
+    put_member(out, Member::Number("faults", size.singles as u64));
+    put_member(out, Member::Number("rows", size.rows));
     put_key(out, "lines");
     out.put_byte(b'[');
     let cluster = shown.core.cluster();
@@ -389,18 +395,16 @@ fn put_row<W: Write>(
 /// Returns the object of the campaign. An error means out of memory.
 fn campaign_text(
     alloc: Global,
-    script: &str,
-    singles: usize,
-    rows: u64,
+    size: CampaignSize<'_>,
     shown: &ShownRow<'_>,
 ) -> Result<Vec<u8>, AllocError>
     ensures { IfOk result (λ v. v.items
-        ≡ head_object shown.now.core.now.cluster script.now singles rows (row_data shown.now)) }
+        ≡ sized_object size.entry shown.now.core.now.cluster (row_data shown.now)) }
 {
     let mut text = Vec::new(alloc);
     let mut buffer = TextBuffer::empty();
     let mut out = TextWriter::new(&mut text, &mut buffer);
-    put_campaign(&mut out, alloc, script, singles, rows, shown)?;
+    put_campaign(&mut out, alloc, size, shown)?;
     match out.finish() {
         Ok(()) => Ok(text),
         Err(_) => Err(AllocError),
@@ -427,21 +431,19 @@ fn row_text(alloc: Global, shown: &ShownRow<'_>) -> Result<Vec<u8>, AllocError>
 pub(crate) fn put_head<W: Write>(
     out: &mut TextWriter<'_, W>,
     alloc: Global,
-    script: &str,
-    singles: usize,
-    rows: u64,
+    size: CampaignSize<'_>,
     shown: &ShownRow<'_>,
     is_page: bool,
 ) -> Result<(), AllocError>
-    ensures { PutsAll W.contents out.old out.new result (in_page is_page
-        (head_object shown.now.core.now.cluster script.now singles rows (row_data shown.now))) }
+    ensures { PutsAll W.contents out.old out.new result
+        (in_page is_page (sized_object size.entry shown.now.core.now.cluster (row_data shown.now))) }
 {
     if is_page {
-        let text = campaign_text(alloc, script, singles, rows, shown)?;
+        let text = campaign_text(alloc, size, shown)?;
         put_object_text(out, text.as_slice());
         Ok(())
     } else {
-        put_campaign(out, alloc, script, singles, rows, shown)
+        put_campaign(out, alloc, size, shown)
     }
 }
 

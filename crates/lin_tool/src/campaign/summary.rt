@@ -34,6 +34,14 @@ struct LineCount {
     last: u64,
 }
 
+/// The name of a script, and the judgements of its undisturbed play on a cluster.
+#[derive(Clone, Copy)]
+pub(crate) struct JudgedScript<'a> {
+    pub name: &'a str,
+    pub cluster: &'a Cluster,
+    pub judgements: &'a [Judgement],
+}
+
 /// A row that breaks the most lines.
 #[derive(Clone, Copy)]
 pub(crate) struct Worst {
@@ -349,7 +357,7 @@ impl RowCounts {
         self.some_uncounted(judgements)
     }
 
-    /// RowCounts the verdict of a row, and the lines that it breaks. An error means out of memory.
+    /// Counts the verdict of a row, and the lines that it breaks. An error means out of memory.
     pub(crate) fn count(&mut self, number: u64, row: &Row) -> Result<(), AllocError>
         requires few { self.old.rows + 1 < 2 ^ 64 }
         ensures rows { OnOk result (self.new.rows ≡ self.old.rows + 1) }
@@ -370,24 +378,22 @@ impl RowCounts {
     fn put_count<W: Write>(
         &self,
         out: &mut TextWriter<'_, W>,
-        script: &str,
-        cluster: &Cluster,
-        judgements: &[Judgement],
+        script: JudgedScript<'_>,
         line: u64,
         one: LineCount,
     )
-        ensures { (rows : List Row) → IsCountOf judgements.now rows line one
+        ensures { (rows : List Row) → IsCountOf script.entry.judgements.now rows line one
             → self.now.rows ≡ length rows
-            → Grows W.contents out.old out.new
-            (line_count_text script.now cluster.now judgements.now rows line) }
+            → Grows W.contents out.old out.new (line_count_text script.entry.name.now
+            script.entry.cluster.now script.entry.judgements.now rows line) }
     {
-        out.put_text(script);
+        out.put_text(script.name);
         out.put_numbered(b':', line);
         out.put_text(": ");
         out.put_number(one.broken);
         out.put_text(" of ");
         out.put_number(self.rows);
-        put_expectation(out, cluster, judgements, one.judgement);
+        put_expectation(out, script.cluster, script.judgements, one.judgement);
         out.put_text(mark(one.broken, self.rows));
         out.put_byte(b'\n');
     }
@@ -396,19 +402,17 @@ impl RowCounts {
     fn put_if_counted<W: Write>(
         &self,
         out: &mut TextWriter<'_, W>,
-        script: &str,
-        cluster: &Cluster,
-        judgements: &[Judgement],
+        script: JudgedScript<'_>,
         line: usize,
     )
         requires { line < length self.now.lines }
-        ensures { (rows : List NumberedRow) → AreCountsOf judgements.now rows self.now
-            → Grows W.contents out.old out.new
-            (line_if_counted script.now cluster.now judgements.now (rows_of rows) line) }
+        ensures { (rows : List NumberedRow) → AreCountsOf script.entry.judgements.now rows self.now
+            → Grows W.contents out.old out.new (line_if_counted script.entry.name.now
+            script.entry.cluster.now script.entry.judgements.now (rows_of rows) line) }
     {
         let one = self.lines[line];
         if either(one.judgement.is_some(), one.broken > 0) {
-            self.put_count(out, script, cluster, judgements, line as u64, one);
+            self.put_count(out, script, line as u64, one);
         }
     }
 
@@ -416,16 +420,14 @@ impl RowCounts {
     pub(crate) fn put_lines<W: Write>(
         &self,
         out: &mut TextWriter<'_, W>,
-        script: &str,
-        cluster: &Cluster,
-        judgements: &[Judgement],
+        script: JudgedScript<'_>,
     )
-        ensures { (rows : List NumberedRow) → AreCountsOf judgements.now rows self.now
-            → Grows W.contents out.old out.new
-            (lines_text script.now cluster.now judgements.now (rows_of rows)) }
+        ensures { (rows : List NumberedRow) → AreCountsOf script.entry.judgements.now rows self.now
+            → Grows W.contents out.old out.new (lines_text script.entry.name.now
+            script.entry.cluster.now script.entry.judgements.now (rows_of rows)) }
     {
         for line in 0..self.lines.len() {
-            self.put_if_counted(out, script, cluster, judgements, line);
+            self.put_if_counted(out, script, line);
         }
     }
 

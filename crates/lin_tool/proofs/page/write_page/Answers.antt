@@ -9,13 +9,14 @@ use Rattle.lin_tool.proofs.page.write_page.Goals as goal
 
 pub returns-in_err-write_out : goal.returns-in_err-write_out
 returns-in_err-write_out g c =
+    let shown = c.args.shown.now in
     let x = c.args.core.now.cluster in
     let log = c.args.core.now.log in
     let failed = c.from_residual.ensures.0 in
     written-short TAIL.now failed refl
     (written-short (first_slots x log) failed refl
     (written-short (MIDDLE.now ++ summary x log) failed refl
-    (written-short (page_data c.args.script x (given_coding c.args.coded) c.args.file.now log c.args.judgements.now) failed refl
+    (written-short (page_data shown.script x (given_coding shown.coded) c.args.file.now log shown.judgements.now) failed refl
     (rw c.as_bytes.ensures.value at c.write_out.ensures))))
 
 pub returns-in_err-write_data : goal.returns-in_err-write_data

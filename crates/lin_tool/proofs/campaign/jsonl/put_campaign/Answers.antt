@@ -17,10 +17,10 @@ returns-in_err-put_expectations g c =
     let p = row_data c.args.shown.now in
     let ms =
     decimal_member (codes "version") 1
-    ∷ printable_member (codes "script") c.args.script.now
+    ∷ printable_member (codes "script") c.args.size.script.now
     ∷ decimal_member (codes "slots") p.row.slots
-    ∷ decimal_member (codes "faults") c.args.singles
-    ∷ decimal_member (codes "rows") c.args.rows
+    ∷ decimal_member (codes "faults") c.args.size.singles
+    ∷ decimal_member (codes "rows") c.args.size.rows
     ∷ []
     in
     let type = 123 ∷ member (codes "type") (quoted_text (codes "campaign")) in
@@ -39,10 +39,10 @@ returns g c =
     let p = row_data c.args.shown.now in
     let ms =
     decimal_member (codes "version") 1
-    ∷ printable_member (codes "script") c.args.script.now
+    ∷ printable_member (codes "script") c.args.size.script.now
     ∷ decimal_member (codes "slots") p.row.slots
-    ∷ decimal_member (codes "faults") c.args.singles
-    ∷ decimal_member (codes "rows") c.args.rows
+    ∷ decimal_member (codes "faults") c.args.size.singles
+    ∷ decimal_member (codes "rows") c.args.size.rows
     ∷ []
     in
     let type = 123 ∷ member (codes "type") (quoted_text (codes "campaign")) in

@@ -1,14 +1,14 @@
 use Rattle.std.proofs.Common.{◌∙◌, refl}
 use Rattle.lin_text.proofs.Growing.{grows-nothing}
 use Rattle.lin_export.proofs.Puttings.{puts-all, puts-some}
-use Rattle.lin_tool.specs.campaign.Jsonl.{head_object}
+use Rattle.lin_tool.specs.campaign.Jsonl.{sized_object}
 use Rattle.lin_tool.specs.campaign.Page.{in_page}
 use Rattle.lin_tool.specs.campaign.Shown.{row_data}
 use Rattle.lin_tool.proofs.campaign.jsonl.put_head.Goals as goal
 
 pub returns-in_err-text : goal.returns-in_err-text
 returns-in_err-text g c =
-    puts-some (in_page c.args.is_page (head_object c.args.shown.now.core.now.cluster c.args.script.now c.args.singles c.args.rows (row_data c.args.shown.now)))
+    puts-some (in_page c.args.is_page (sized_object c.args.size c.args.shown.now.core.now.cluster (row_data c.args.shown.now)))
     c.from_residual.ensures.0 refl (grows-nothing c.args.out.now)
 
 pub returns-in_ok-text : goal.returns-in_ok-text

@@ -14,4 +14,4 @@ returns g c = λ rows is all.
     (grows-more c.put_text-3.ensures
     (grows-more c.put_number-2.ensures
     (grows-more (c.put_expectation.ensures c.args.line is.judgement) (grows-more (same-growth c.mark.ensures c.put_text-4.ensures) c.put_byte.ensures))))))) in
-    same-growth (line-text c.args.script.now c.args.cluster.now c.args.judgements.now rows c.args.line c.args.one c.self.inside.rows is (ap (λ (a : RowCountsData). a.rows) c.self.view_is ∙ all)) put
+    same-growth (line-text c.args.script.name.now c.args.script.cluster.now c.args.script.judgements.now rows c.args.line c.args.one c.self.inside.rows is (ap (λ (a : RowCountsData). a.rows) c.self.view_is ∙ all)) put

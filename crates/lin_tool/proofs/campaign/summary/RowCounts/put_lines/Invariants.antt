@@ -7,5 +7,5 @@ use Rattle.lin_tool.proofs.campaign.summary.RowCounts.put_lines.Given as goal
 
 abbrev pub invariant-loop-line : goal.invariant-loop-line
 invariant-loop-line g l =
-    (rows : List NumberedRow) → AreCountsOf l.judgements rows l.self
-    → Grows g.W.Write.contents l.initial.out l.out (flat_map (line_count_text l.script l.cluster l.judgements (rows_of rows)) (filter (is_counted l.judgements (rows_of rows)) (numbers l.line)))
+    (rows : List NumberedRow) → AreCountsOf l.script.judgements.now rows l.self
+    → Grows g.W.Write.contents l.initial.out l.out (flat_map (line_count_text l.script.name.now l.script.cluster.now l.script.judgements.now (rows_of rows)) (filter (is_counted l.script.judgements.now (rows_of rows)) (numbers l.line)))
