@@ -29,7 +29,7 @@ use Rattle.lin_tool.specs.declared.campaign.Campaign.{Campaign}
 use Rattle.lin_tool.specs.declared.campaign.plan.CampaignPlan.{CampaignPlan}
 use Rattle.lin_tool.specs.declared.campaign.Play.{Play}
 use Rattle.lin_tool.specs.declared.campaign.plan.RowFormat.{RowFormat}
-use Rattle.lin_tool.specs.declared.campaign.RowSource.{RowSource}
+use Rattle.lin_tool.specs.declared.campaign.row_source.RowSource.{RowSource}
 use Rattle.lin_tool.specs.declared.campaign.row.LostMessage.{LostMessage}
 use Rattle.lin_tool.specs.declared.campaign.row.RefusedStep.{RefusedStep}
 use Rattle.lin_tool.specs.declared.campaign.row.Row.{Row}

@@ -1,23 +1,15 @@
 //! `linsim campaign`: plays a bench script as it is, and then under faults, and writes what each play
 //! came to.
 
-ghost use Rattle.std.specs.Prelude.{◌≡◌, ◌<◌, ◌≤◌, ◌+◌, ◌^◌, ◌==◌, ◌&&◌, ◌||◌, ℕ, false, length, nat_lt, List};
-ghost use Rattle.std.specs.Prelude.{IfErr, IfOk, OnOk};
+ghost use Rattle.std.specs.Prelude.{◌≡◌, ◌<◌, ◌+◌, ◌^◌, false, length};
+ghost use Rattle.std.specs.Prelude.{IfOk, OnOk};
 ghost use Rattle.std.specs.Io.KnownBytes.{Keeps};
-ghost use Rattle.lin_text.specs.Written.{Grows, WritesText};
-ghost use Rattle.lin_bench.specs.Plays.{ComesUnder};
-ghost use Rattle.lin_bench.specs.declared.line.ScriptLine.{ScriptLine};
-ghost use Rattle.lin_export.specs.Putting.{PutsAll};
-ghost use Rattle.lin_export.specs.WhereTold.{given_coding};
-ghost use Rattle.lin_tool.specs.campaign.Page.{in_page};
-ghost use Rattle.lin_tool.specs.campaign.Played.{IsOutOfMemory, IsPlayOf, IsUnfinished, PlaysRow, PlaysUndisturbed};
+ghost use Rattle.lin_text.specs.Written.{WritesText};
 ghost use Rattle.lin_tool.specs.campaign.Rows.{IsPart, rows};
-ghost use Rattle.lin_tool.specs.campaign.Shown.{row_data};
-ghost use Rattle.lin_tool.specs.campaign.Steps.{AreWorstFaults, IsReady, IsTable, SaysLines, WritesCounts};
+ghost use Rattle.lin_tool.specs.campaign.Steps.{AreWorstFaults, IsReady, IsTable, WritesCounts};
 ghost use Rattle.lin_tool.specs.campaign.Steps.{PlaysAndWritesRow, PlaysAndWritesRows, WritesAfter, WritesTable};
-ghost use Rattle.lin_tool.specs.campaign.Steps.{calm_row, cases_of, first_disturbed, first_of, head_of};
-ghost use Rattle.lin_tool.specs.campaign.Steps.{object_if, object_with, row_without, shows_calm, worst_places};
-ghost use Rattle.lin_tool.specs.campaign.Written.{WritesOpened, text_after_rows, name_or};
+ghost use Rattle.lin_tool.specs.campaign.Steps.{calm_row, first_of, shows_calm, worst_places};
+ghost use Rattle.lin_tool.specs.campaign.Written.{WritesOpened, name_or};
 
 mod csv;
 mod fault_names;
@@ -26,32 +18,34 @@ mod junit;
 mod page;
 mod pieces;
 mod plan;
+mod plays;
 mod row;
+mod row_source;
 mod rows;
 mod shown;
 mod singles;
 mod slots;
 mod summary;
 mod text;
+mod writing;
 
 use crate::campaign::plan::{is_denied, is_page};
-use crate::campaign::row::{Row, row_of};
+use crate::campaign::row::Row;
+use crate::campaign::row_source::{RowSource, first_disturbed, has_calm};
 use crate::campaign::rows::Rows;
 use crate::campaign::shown::ShownRow;
-use crate::campaign::singles::{Single, faults_at, only, singles};
-use crate::campaign::summary::RowCounts;
+use crate::campaign::singles::{faults_at, only, singles};
+use crate::campaign::summary::{JudgedScript, RowCounts};
 use crate::fault::Fault;
 use crate::notes::Notes;
 use crate::opening::{Opened, Settings, begin, within_limits};
-use crate::playing::{Script, bench_lines, in_words, judge};
-use lin_bench::{
-    Judgement, PlayedUnder, ReadFault, ScriptLine, SlotFault, play_under, read, some_unmet,
-};
+use crate::playing::{Script, bench_lines, judge};
+use lin_bench::{Judgement, SlotFault, some_unmet};
 use lin_core::Core;
 use lin_export::ExportFault;
 use lin_log::read_bytes;
 use lin_parts::Cluster;
-use lin_text::{Many, TextBuffer, TextWriter, WriteFailed};
+use lin_text::{Many, TextBuffer, TextWriter};
 use lin_values::Coded;
 pub use plan::{CampaignPlan, RowFormat};
 pub use rows::{CampaignPart, RandomSets, parts_are_the_whole};
@@ -62,310 +56,29 @@ use std::io::{self, Read, Write};
 
 /// What all plays of a campaign have in common, and how their rows are written.
 #[derive(Clone, Copy)]
-struct Campaign<'a, 'c> {
-    alloc: Global,
-    bytes: &'a [u8],
+pub(crate) struct Campaign<'a, 'c> {
+    pub alloc: Global,
+    pub bytes: &'a [u8],
     /// The name of the script.
-    script: &'a str,
+    pub script: &'a str,
     /// The name of the LDF file.
-    file: &'a str,
-    coded: Option<&'c Coded>,
-    table: u16,
-    capacity: usize,
-    is_strict: bool,
-    format: RowFormat,
+    pub file: &'a str,
+    pub coded: Option<&'c Coded>,
+    pub table: u16,
+    pub capacity: usize,
+    pub is_strict: bool,
+    pub format: RowFormat,
 }
 
 /// A play of a campaign, with what values mean in its judgements.
 #[derive(Drop)]
-struct Play {
-    core: Core,
-    judgements: Many<Judgement>,
-    row: Row,
-}
-
-/// Flushes a writer.
-fn flush<W: Write>(writer: &mut W) -> Result<(), WriteFailed>
-    ensures { Keeps (W.contents writer.old) (W.contents writer.new) }
-{
-    match writer.flush() {
-        Ok(()) => Ok(()),
-        Err(_) => Err(WriteFailed),
-    }
-}
-
-/// The number of a part's first row with faults, where the part begins at this row. Row 0 has none.
-fn first_disturbed(from: u64) -> u64
-    ensures { result ≡ first_disturbed from }
-{
-    from.max(1)
-}
-
-/// Whether the rows from one up to another have row 0.
-fn has_calm(from: u64, to: u64) -> bool
-    ensures { result ≡ ((from == 0) && nat_lt 0 to) }
-{
-    from == 0 && to > 0
+pub(crate) struct Play {
+    pub core: Core,
+    pub judgements: Many<Judgement>,
+    pub row: Row,
 }
 
 impl Campaign<'_, '_> {
-    /// Plays the script under faults on a cluster, which the play keeps.
-    ///
-    /// # Errors
-    /// `LogFull`, `OutOfMemory`.
-    fn play(&self, cluster: Cluster, faults: &[SlotFault]) -> Result<Play, Fault>
-        requires ready { IsReady self.now cluster }
-        ensures plays { (ls : List (ℕ × ScriptLine)) → SaysLines self.now cluster ls
-            → PlaysRow self.now cluster faults.now ls result }
-        ensures same { IfOk result (λ play. play.core.cluster ≡ cluster) }
-    {
-        let lines = match read(self.alloc, &cluster, self.coded, self.bytes) {
-            Ok(lines) => lines,
-            Err(ReadFault::BadLine { line, .. }) => {
-                return Err(Fault::BadBenchLine { line, told: Ok(()) });
-            }
-            Err(ReadFault::OutOfMemory) => return Err(Fault::OutOfMemory),
-        };
-        let played = self.played(cluster, lines, faults)?;
-        self.judged(played)
-    }
-
-    /// Plays lines of the script on a cluster without faults, and adds the refused steps to the notes.
-    ///
-    /// # Errors
-    /// `SlotLimit`, `LogFull`, `OutOfMemory`.
-    fn undisturbed(
-        &self,
-        cluster: Cluster,
-        lines: Vec<(u64, ScriptLine)>,
-        notes: &mut Notes<'_>,
-    ) -> Result<Play, Fault>
-        requires ready { IsReady self.now cluster }
-        ensures { PlaysUndisturbed self.now cluster lines.items result }
-    {
-        let played = self.played(cluster, lines, &[])?;
-        notes.add_refusals(played.core.log());
-        match played.limit {
-            Some(line) => Err(Fault::SlotLimit { line }),
-            None => self.judged(played),
-        }
-    }
-
-    /// Plays lines of the script on a cluster under faults.
-    ///
-    /// # Errors
-    /// `LogFull`, `OutOfMemory`.
-    fn played(
-        &self,
-        cluster: Cluster,
-        lines: Vec<(u64, ScriptLine)>,
-        faults: &[SlotFault],
-    ) -> Result<PlayedUnder, Fault>
-        requires ready { IsReady self.now cluster }
-        ensures plays { IfOk result (λ it. ComesUnder self.now.is_strict cluster self.now.table
-            self.now.capacity faults.now lines.items it) }
-        ensures fails { IfErr result (IsUnfinished self.now cluster faults.now lines.items) }
-    {
-        let played = play_under(
-            self.alloc,
-            cluster,
-            self.table,
-            self.capacity,
-            lines,
-            self.is_strict,
-            faults,
-        )?;
-        Ok(played)
-    }
-
-    /// A play, with its row.
-    ///
-    /// # Errors
-    /// `OutOfMemory`.
-    fn judged(&self, played: PlayedUnder) -> Result<Play, Fault>
-        ensures row { IfOk result (λ play. IsPlayOf (given_coding self.now.coded) played play) }
-        ensures fails { IfErr result IsOutOfMemory }
-    {
-        let row = row_of(self.alloc, &played)?;
-        let PlayedUnder {
-            core,
-            judgements,
-            ..
-        } = played;
-        Ok(Play {
-            core,
-            judgements: in_words(self.alloc, self.coded, judgements)?,
-            row,
-        })
-    }
-
-    /// The object of the campaign. An error means out of memory.
-    fn put_object<W: Write>(
-        &self,
-        out: &mut TextWriter<'_, W>,
-        rows: &Rows,
-        shown: &ShownRow<'_>,
-        is_page: bool,
-    ) -> Result<(), AllocError>
-        requires few { rows.now.singles ≤ 33000000 }
-        ensures { PutsAll W.contents out.old out.new result
-            (in_page is_page (object_with self.now rows.now shown.now)) }
-    {
-        let size = CampaignSize {
-            script: self.script,
-            singles: rows.singles,
-            rows: rows.count(),
-        };
-        jsonl::put_head(out, self.alloc, size, shown, is_page)
-    }
-
-    /// The object of the campaign, which the first part alone has. An error means out of memory.
-    fn put_first<W: Write>(
-        &self,
-        out: &mut TextWriter<'_, W>,
-        rows: &Rows,
-        shown: &ShownRow<'_>,
-        is_first: bool,
-    ) -> Result<(), AllocError>
-        requires few { rows.now.singles ≤ 33000000 }
-        ensures { PutsAll W.contents out.old out.new result
-            (object_if is_first self.now rows.now shown.now) }
-    {
-        if !is_first {
-            return Ok(());
-        }
-        self.put_object(out, rows, shown, false)
-    }
-
-    /// What a format has before the rows. Of the parts of a table, and of objects, the first alone has it.
-    /// An error means out of memory.
-    fn put_head<W: Write>(
-        &self,
-        out: &mut TextWriter<'_, W>,
-        table: &RowSource<'_>,
-        shown: &ShownRow<'_>,
-    ) -> Result<(), AllocError>
-        requires table { IsTable table.now }
-        ensures { PutsAll W.contents out.old out.new result
-            (head_of self.now table.now shown.now.core.now.cluster (row_data shown.now)) }
-    {
-        let is_first = table.part.number == 1;
-        match self.format {
-            RowFormat::Text => Ok(()),
-            RowFormat::Csv => {
-                csv::put_head(out, is_first);
-                Ok(())
-            }
-            RowFormat::Jsonl => self.put_first(out, table.rows, shown, is_first),
-            RowFormat::Junit => {
-                junit::put_head(out, self.script, table.cases());
-                Ok(())
-            }
-            RowFormat::Html => {
-                out.put_text(pieces::HEAD);
-                page::put_head(out, self.file, self.bytes, shown.core);
-                self.put_object(out, table.rows, shown, true)
-            }
-        }
-    }
-
-    /// Writes what a format has before the rows.
-    ///
-    /// # Errors
-    /// `OutOfMemory` and `WriteFailed`, where what was written is a beginning.
-    fn write_head<W: Write>(
-        &self,
-        table: &RowSource<'_>,
-        shown: &ShownRow<'_>,
-        writer: &mut W,
-    ) -> Result<(), ExportFault>
-        requires table { IsTable table.now }
-        ensures { WritesText (W.contents writer.old) (W.contents writer.new) result
-            (head_of self.now table.now shown.now.core.now.cluster (row_data shown.now)) }
-    {
-        let mut buffer = TextBuffer::empty();
-        let mut out = TextWriter::new(writer, &mut buffer);
-        let put = self.put_head(&mut out, table, shown);
-        put?;
-        out.finish()?;
-        Ok(())
-    }
-
-    /// A row. What the undisturbed play lost and refused isn't repeated. An error means out of memory.
-    fn put_row<W: Write>(
-        &self,
-        out: &mut TextWriter<'_, W>,
-        shown: &ShownRow<'_>,
-        calm: Option<&Row>,
-    ) -> Result<(), AllocError>
-        ensures { PutsAll W.contents out.old out.new result
-            (row_without self.now shown.now calm.entry) }
-    {
-        let cluster = shown.core.cluster();
-        match self.format {
-            RowFormat::Text => {
-                text::put_line(out, cluster, shown, calm);
-                Ok(())
-            }
-            RowFormat::Csv => {
-                csv::put_line(out, cluster, shown);
-                Ok(())
-            }
-            RowFormat::Jsonl => jsonl::put_line(out, self.alloc, shown, false),
-            RowFormat::Html => jsonl::put_line(out, self.alloc, shown, true),
-            RowFormat::Junit => junit::put_row(out, self.alloc, self.script, shown),
-        }
-    }
-
-    /// Writes a complete row, and flushes it. What the undisturbed play lost and refused isn't repeated.
-    ///
-    /// # Errors
-    /// `OutOfMemory` and `WriteFailed`, where what was written is a beginning.
-    fn write_row<W: Write>(
-        &self,
-        shown: &ShownRow<'_>,
-        calm: Option<&Row>,
-        writer: &mut W,
-    ) -> Result<(), ExportFault>
-        ensures { WritesText (W.contents writer.old) (W.contents writer.new) result
-            (row_without self.now shown.now calm.entry) }
-    {
-        let mut buffer = TextBuffer::empty();
-        let mut out = TextWriter::new(writer, &mut buffer);
-        let put = self.put_row(&mut out, shown, calm);
-        // (a row for which memory runs out isn't finished: it would be a part of one)
-        put?;
-        out.finish()?;
-        flush(writer)?;
-        Ok(())
-    }
-
-    /// What a format has after the rows.
-    fn put_tail<W: Write>(&self, out: &mut TextWriter<'_, W>)
-        ensures { Grows W.contents out.old out.new (text_after_rows self.now.format) }
-    {
-        match self.format {
-            RowFormat::Junit => out.put_text(junit::TAIL),
-            RowFormat::Html => out.put_text(pieces::TAIL),
-            RowFormat::Text | RowFormat::Csv | RowFormat::Jsonl => {}
-        }
-    }
-
-    /// Writes what a format has after the rows.
-    ///
-    /// # Errors
-    /// `WriteFailed`, where what was written is a beginning.
-    fn write_tail<W: Write>(&self, writer: &mut W) -> Result<(), WriteFailed>
-        ensures { WritesText (W.contents writer.old) (W.contents writer.new) result
-            (text_after_rows self.now.format) }
-    {
-        let mut buffer = TextBuffer::empty();
-        let mut out = TextWriter::new(writer, &mut buffer);
-        self.put_tail(&mut out);
-        out.finish()?;
-        flush(writer)
-    }
-
     /// Plays the row with this number, writes it and counts it. Returns the cluster for the next row.
     ///
     /// # Errors
@@ -534,63 +247,6 @@ impl Campaign<'_, '_> {
     }
 }
 
-/// The rows of a campaign, by what they are made of.
-#[derive(Clone, Copy)]
-struct RowSource<'a> {
-    singles: &'a [Single],
-    rows: &'a Rows,
-    part: CampaignPart,
-    /// The row of the undisturbed play.
-    calm: &'a Row,
-    /// The judgements of the undisturbed play.
-    judgements: &'a [Judgement],
-    is_watched: bool,
-}
-
-impl RowSource<'_> {
-    /// How many rows of the part have faults, or can have some: all but row 0.
-    fn cases(&self) -> u64
-        requires table { IsTable self.now }
-        ensures { result ≡ cases_of self.now }
-    {
-        let (from, to) = self.rows.bounds(self.part);
-        to.saturating_sub(first_disturbed(from))
-    }
-
-    /// Writes how many rows of a part are done, if that is one more tenth of them and the rows are watched.
-    fn watch<E: Write>(&self, done: u64, rows: u64, errors: &mut E)
-        requires some { 1 ≤ done }
-        requires order { done ≤ rows }
-        ensures { self.now.is_watched ≡ false
-            → Keeps (E.contents errors.old) (E.contents errors.new) }
-    {
-        if self.is_watched {
-            write_progress(done, rows, errors);
-        }
-    }
-}
-
-/// Writes how many rows of a part are done, if that is one more tenth of them.
-fn write_progress<E: Write>(done: u64, rows: u64, errors: &mut E)
-    requires some { 1 ≤ done }
-    requires order { done ≤ rows }
-{
-    let (before, now) = (
-        (u128::from(done) - 1) * 10 / u128::from(rows),
-        u128::from(done) * 10 / u128::from(rows),
-    );
-    if before < now {
-        let mut buffer = TextBuffer::empty();
-        let mut out = TextWriter::new(errors, &mut buffer);
-        out.put_text("linsim: ");
-        out.put_number(done);
-        out.put_text(" of ");
-        out.put_number(rows);
-        out.put_text(" rows\n");
-        let _ = out.finish();
-    }
-}
-
 /// Writes the rows of a table, and then the counts to `errors`. The core played the script undisturbed.
 ///
 /// # Errors
@@ -671,6 +327,13 @@ fn name_or<'x>(name: Option<&'x str>, other: &'x str) -> &'x str
     }
 }
 
+/// A cluster that was opened, and the plan of a campaign on it.
+#[derive(Drop)]
+pub struct PlannedCampaign<'a> {
+    pub opened: Opened<'a>,
+    pub plan: &'a CampaignPlan,
+}
+
 /// Reads a bench script, plays it over the cluster that was opened, and then under each set of faults of
 /// the plan's part, and writes a row for each play, in the plan's format. Each row is written completely
 /// when its play is done. Then counts go to `errors`: how many rows break each line. If the plan watches
@@ -684,20 +347,20 @@ fn name_or<'x>(name: Option<&'x str>, other: &'x str) -> &'x str
 /// `OutOfMemory` and `LogFull` the rows before one were written.
 pub fn campaign_script<R: Read, W: Write, E: Write>(
     alloc: Global,
-    opened: Opened<'_>,
-    plan: &CampaignPlan,
+    planned: PlannedCampaign<'_>,
     reader: &mut R,
     writer: &mut W,
     errors: &mut E,
     notes: &mut Notes<'_>,
 ) -> Result<(), Fault>
-    requires table { opened.table < length opened.cluster.tables }
-    requires part { IsPart plan.now.part }
-    ensures { WritesOpened plan.now opened.entry notes.old.wanted.script result
+    requires table { planned.opened.table < length planned.opened.cluster.tables }
+    requires part { IsPart planned.plan.now.part }
+    ensures { WritesOpened planned.entry.plan.now planned.entry.opened notes.old.wanted.script result
         (R.remaining reader.old)
         (W.contents writer.old) (W.contents writer.new)
         (E.contents errors.old) (E.contents errors.new) }
 {
+    let PlannedCampaign { opened, plan } = planned;
     let name = name_or(notes.wanted.script, "-");
     let file = name_or(opened.settings.file, "");
     let bytes = read_bytes(alloc, reader)?;
@@ -758,20 +421,15 @@ pub fn run_campaign<R: AllocGlobal + Files + Input + Print, E: Write>(
     notes.tell_warnings(errors);
     notes.begin_script();
     let (alloc, mut writer) = (rt.alloc(), io::writer(rt));
+    let planned = PlannedCampaign { opened, plan };
     let answer = match script {
-        None => campaign_script(
-            alloc,
-            opened,
-            plan,
-            &mut rt.reader(),
-            &mut writer,
-            errors,
-            notes,
-        ),
+        None => {
+            let reader = &mut rt.reader();
+            campaign_script(alloc, planned, reader, &mut writer, errors, notes)
+        }
         Some(path) => match fs::open(rt, path) {
             Ok(mut file) => {
-                let reader = &mut file;
-                campaign_script(alloc, opened, plan, reader, &mut writer, errors, notes)
+                campaign_script(alloc, planned, &mut file, &mut writer, errors, notes)
             }
             Err(_) => Err(Fault::ReadFailed),
         },

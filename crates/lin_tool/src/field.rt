@@ -101,9 +101,17 @@ fn settled_noted(
     answer
 }
 
-/// The cluster of what a text of the field is settled to, with the requests of the commands in `mended`
-/// if that is wanted, and what the values of its signals mean by its sections of encodings, where they
-/// are read. The notes keep all warnings, or tell where something is wrong in `text`.
+/// The bytes of an LDF that `--field` reads: without surplus marks, whose tokens are read; and with them, for
+/// the places of warnings and errors.
+#[derive(Clone, Copy)]
+struct FieldTexts<'a> {
+    mended: &'a [u8],
+    text: &'a [u8],
+}
+
+/// The cluster of what a text of the field is settled to, with the requests of its commands if that is
+/// wanted, and what the values of its signals mean by its sections of encodings, where they are read. The
+/// notes keep all warnings, or tell where something is wrong.
 ///
 /// # Errors
 /// `Remarks` for all that is wrong, and the warnings of what was settled; `OutOfMemory`.
@@ -112,13 +120,14 @@ fn cluster_noted(
     settled: &Normalized,
     sections: ExtraSections,
     extras: Extras,
-    mended: &[u8],
-    text: &[u8],
+    texts: FieldTexts<'_>,
     notes: &mut Notes<'_>,
 ) -> Result<Described, Fault>
     ensures { AnswersChecked extras settled.now sections
-        (symbols_in mended.now (start_of mended.now).tokens) result notes.new.warnings }
+        (symbols_in texts.entry.mended.now (start_of texts.entry.mended.now).tokens)
+        result notes.new.warnings }
 {
+    let FieldTexts { mended, text } = texts;
     let ExtraSections {
         codings,
         configurables,
@@ -172,7 +181,8 @@ pub fn field_of_reader<R: Read>(
         let_go(&mut bytes);
     }
     let (mended, text) = (bytes.as_slice(), text.as_slice());
-    cluster_noted(alloc, &settled, sections, extras, mended, text, notes)
+    let texts = FieldTexts { mended, text };
+    cluster_noted(alloc, &settled, sections, extras, texts, notes)
 }
 
 /// Writes a plain LDF text of what a text of the field is settled to.
@@ -201,15 +211,11 @@ pub(crate) fn write_field<W: Write>(
         is_linted: false,
         is_configured: false,
     };
-    match cluster_noted(
-        alloc,
-        &settled,
-        sections,
-        extras,
-        &[],
-        text.as_slice(),
-        notes,
-    ) {
+    let texts = FieldTexts {
+        mended: &[],
+        text: text.as_slice(),
+    };
+    match cluster_noted(alloc, &settled, sections, extras, texts, notes) {
         Ok(_described) => match write_plain(alloc, &settled, bytes.as_slice(), writer)? {
             Ok(()) => Ok(()),
             Err(_) => Err(Fault::WriteFailed),

@@ -1,15 +1,15 @@
 //! The judgements of a play as a report for what reads those of tests (JUnit's, in XML 1.0).
 
-ghost use Rattle.std.specs.Prelude.{◌≡◌, ◌++◌, codes, flat_map, IfOk, List, Some, ℕ};
+ghost use Rattle.std.specs.Prelude.{◌≡◌, ◌++◌, codes, flat_map, List, Some, ℕ};
 ghost use Rattle.std.specs.Str.{is_utf8};
 ghost use Rattle.lin_log.specs.Words.{spaced_word};
 ghost use Rattle.lin_export.specs.Putting.{PutsAll};
 ghost use Rattle.lin_text.specs.Written.{Grows, WritesText};
 ghost use Rattle.lin_tool.specs.Junit.{case_end, case_name, case_text, xml_byte, xml_text, junit_head};
 ghost use Rattle.lin_tool.specs.Junit.{error_name, error_report, junit};
-ghost use Rattle.lin_tool.specs.Placing.{placed_missed, AtMoment};
+ghost use Rattle.lin_tool.specs.Placing.{AtMoment};
 
-use crate::placing::{Moment, put_missed, within};
+use crate::placing::{Moment, missed_line, within};
 use crate::tally::unmet_in;
 use lin_bench::{Judgement, is_unmet};
 use lin_core::Log;
@@ -51,28 +51,6 @@ pub(crate) fn put_escaped<W: Write>(out: &mut TextWriter<'_, W>, text: &[u8])
     let is_text = is_utf8(text);
     for byte in text {
         put_escaped_byte(out, *byte, is_text);
-    }
-}
-
-/// What is said of a judgement that isn't met, which was made at this moment of a log. An error
-/// means out of memory.
-pub(crate) fn missed_text(
-    alloc: Global,
-    file: &str,
-    cluster: &Cluster,
-    moment: Moment,
-    judgement: &Judgement,
-) -> Result<Vec<u8>, AllocError>
-    ensures { AtMoment cluster.now judgement.now moment (λ log. IfOk result
-        (λ v. v.items ≡ placed_missed file.now cluster.now log judgement.now)) }
-{
-    let mut text = Vec::new(alloc);
-    let mut buffer = TextBuffer::empty();
-    let mut out = TextWriter::new(&mut text, &mut buffer);
-    put_missed(&mut out, file, cluster, moment, judgement);
-    match out.finish() {
-        Ok(()) => Ok(text),
-        Err(_) => Err(AllocError),
     }
 }
 
@@ -120,7 +98,7 @@ fn put_case<W: Write>(
     let what = what_text(alloc, cluster, judged)?;
     if is_unmet(judged) {
         let found = found_text(alloc, cluster, judged)?;
-        let missed = missed_text(alloc, file, cluster, moment, judgement)?;
+        let missed = missed_line(alloc, Some(file), cluster, moment, judgement)?;
         put_name(out, file, judgement.line, what.as_slice());
         put_failure(out, found.as_slice(), missed.as_slice());
     } else {

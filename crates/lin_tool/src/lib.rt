@@ -49,8 +49,8 @@ mod tally;
 mod wanted;
 
 pub use campaign::{
-    CampaignPart, CampaignPlan, Kinds, RandomSets, RowFormat, campaign_script, parts_are_the_whole,
-    run_campaign,
+    CampaignPart, CampaignPlan, Kinds, PlannedCampaign, RandomSets, RowFormat, campaign_script,
+    parts_are_the_whole, run_campaign,
 };
 pub use checking::{check, check_plain};
 pub use coding::{Described, Encodings, Extras};
@@ -78,6 +78,6 @@ pub use living::{answer_lines, bench_in_hand, live};
 pub use notes::{Notes, Wanted};
 pub use object::check_object;
 pub use opening::{Opened, Settings, opening_table};
-pub use playing::{play, play_script, play_under_faults};
+pub use playing::{DisturbedPlay, play, play_script, play_under_faults};
 pub use replaying::{replay, replay_script};
 pub use running::run;

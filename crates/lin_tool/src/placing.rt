@@ -2,19 +2,20 @@
 //! moments of a log.
 
 ghost use Rattle.std.specs.Prelude.{◌≡◌, ◌≤◌, ◌+◌, ◌*◌, ◌<◌, ◌^◌, ◌∷◌, ◌++◌, ℕ, [], List};
-ghost use Rattle.std.specs.Prelude.{codes, flat_map, length, min};
+ghost use Rattle.std.specs.Prelude.{codes, flat_map, length, min, IfOk};
 ghost use Rattle.std.specs.Fmt.{decimal};
 ghost use Rattle.lin_parts.specs.declared.parts.Parts.{Parts};
 ghost use Rattle.lin_core.specs.History.{Slot, slot_after_event, slot_after_events};
 ghost use Rattle.lin_core.specs.declared.log.LogEntry.{LogEntry};
 ghost use Rattle.lin_text.specs.Written.{Grows, WritesText};
 ghost use Rattle.lin_tool.specs.Placing.{entry_in, finished_on, last_slot_text, moment_of, moment_text, past_at, AtMoment};
-ghost use Rattle.lin_tool.specs.Placing.{line_place, placed_bad, placed_missed, placed_unmet};
+ghost use Rattle.lin_tool.specs.Placing.{line_place, missed_line, placed_bad, placed_missed, placed_unmet};
 
 use lin_bench::{Judgement, Reason, is_unmet, put_judged, put_reason};
 use lin_core::{Event, Log, LogEntry, Reply, Step};
 use lin_parts::Cluster;
 use lin_text::{TextBuffer, TextWriter, WriteFailed};
+use std::alloc::{AllocError, Global};
 use std::io::Write;
 
 /// What of a log is told: the table and the entry of the slot that is open, how many slots are
@@ -216,7 +217,7 @@ fn put_moment<W: Write>(out: &mut TextWriter<'_, W>, moment: Moment)
 
 /// What is said of a judgement that isn't met, which was made at this moment of a log, without the
 /// line's end.
-pub(crate) fn put_missed<W: Write>(
+fn put_missed<W: Write>(
     out: &mut TextWriter<'_, W>,
     file: &str,
     cluster: &Cluster,
@@ -230,6 +231,50 @@ pub(crate) fn put_missed<W: Write>(
     put_placed(out, file, judgement.line);
     put_judged(out, cluster, &judgement.judged);
     put_moment(out, moment);
+}
+
+/// What is said of a judgement that isn't met, which was made at this moment of a log: by its place
+/// in the script's file, where that has a name.
+fn put_missed_line<W: Write>(
+    out: &mut TextWriter<'_, W>,
+    script: Option<&str>,
+    cluster: &Cluster,
+    moment: Moment,
+    judgement: &Judgement,
+)
+    ensures { AtMoment cluster.now judgement.now moment (λ log.
+        Grows W.contents out.old out.new
+        (missed_line script.entry cluster.now log judgement.now)) }
+{
+    match script {
+        Some(file) => put_missed(out, file, cluster, moment, judgement),
+        None => {
+            out.put_text("script ");
+            out.put_number(judgement.line);
+            put_judged(out, cluster, &judgement.judged);
+        }
+    }
+}
+
+/// The same as a text. An error means out of memory.
+pub(crate) fn missed_line(
+    alloc: Global,
+    script: Option<&str>,
+    cluster: &Cluster,
+    moment: Moment,
+    judgement: &Judgement,
+) -> Result<Vec<u8>, AllocError>
+    ensures { AtMoment cluster.now judgement.now moment (λ log. IfOk result
+        (λ v. v.items ≡ missed_line script.entry cluster.now log judgement.now)) }
+{
+    let mut text = Vec::new(alloc);
+    let mut buffer = TextBuffer::empty();
+    let mut out = TextWriter::new(&mut text, &mut buffer);
+    put_missed_line(&mut out, script, cluster, moment, judgement);
+    match out.finish() {
+        Ok(()) => Ok(text),
+        Err(_) => Err(AllocError),
+    }
 }
 
 /// The line of a judgement, which was made at this moment of a log, where it isn't met.

@@ -275,7 +275,18 @@ pub fn play_script<R: Read, W: Write, E: Write>(
         (W.contents writer.old) (W.contents writer.new)
         (E.contents errors.old) (E.contents errors.new) }
 {
-    play_under_faults(alloc, opened, &[], reader, writer, errors, notes)
+    let play = DisturbedPlay {
+        opened,
+        faults: &[],
+    };
+    play_under_faults(alloc, play, reader, writer, errors, notes)
+}
+
+/// A cluster that was opened, and the faults under which a script is played on it.
+#[derive(Drop)]
+pub struct DisturbedPlay<'a> {
+    pub opened: Opened<'a>,
+    pub faults: &'a [SlotFault],
 }
 
 /// Plays a bench script as `play_script` does, where the steps of its lines are made under faults. If some
@@ -285,19 +296,19 @@ pub fn play_script<R: Read, W: Write, E: Write>(
 /// As of `play_script`; `Unmet` also if there are faults, and none of them changed a slot.
 pub fn play_under_faults<R: Read, W: Write, E: Write>(
     alloc: Global,
-    opened: Opened<'_>,
-    faults: &[SlotFault],
+    play: DisturbedPlay<'_>,
     reader: &mut R,
     writer: &mut W,
     errors: &mut E,
     notes: &mut Notes<'_>,
 ) -> Result<(), Fault>
-    requires { opened.table < length opened.cluster.tables }
-    ensures { PlaysOpenedUnder faults.now opened.entry notes.old.wanted.script result
+    requires { play.opened.table < length play.opened.cluster.tables }
+    ensures { PlaysOpenedUnder play.entry.faults.now play.entry.opened notes.old.wanted.script result
         (R.remaining reader.old)
         (W.contents writer.old) (W.contents writer.new)
         (E.contents errors.old) (E.contents errors.new) }
 {
+    let DisturbedPlay { opened, faults } = play;
     let bytes = read_bytes(alloc, reader)?;
     let script = Script {
         bytes: bytes.as_slice(),
@@ -419,27 +430,20 @@ fn play_file<R: AllocGlobal + Files + Input + Print, E: Write>(
     notes.tell_warnings(errors);
     let (alloc, mut writer) = (rt.alloc(), io::writer(rt));
     let faults = faults_of(alloc, &opened.cluster, faults, errors, notes)?;
+    let play = DisturbedPlay {
+        opened,
+        faults: faults.as_slice(),
+    };
     notes.begin_script();
     let answer = match script {
-        None => play_under_faults(
-            alloc,
-            opened,
-            faults.as_slice(),
-            &mut rt.reader(),
-            &mut writer,
-            errors,
-            notes,
-        ),
+        None => {
+            let reader = &mut rt.reader();
+            play_under_faults(alloc, play, reader, &mut writer, errors, notes)
+        }
         Some(path) => match fs::open(rt, path) {
-            Ok(mut file) => play_under_faults(
-                alloc,
-                opened,
-                faults.as_slice(),
-                &mut file,
-                &mut writer,
-                errors,
-                notes,
-            ),
+            Ok(mut file) => {
+                play_under_faults(alloc, play, &mut file, &mut writer, errors, notes)
+            }
             Err(_) => Err(Fault::ReadFailed),
         },
     };

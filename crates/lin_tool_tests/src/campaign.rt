@@ -5,8 +5,8 @@ ghost use Rattle.lin_tool.specs.campaign.Rows.{IsPart};
 use crate::clusters::{cluster_of, expect_bytes};
 use crate::samples::BUILT_IN;
 use lin_tool::{
-    CampaignPart, CampaignPlan, Fault, Format, Kinds, Notes, Opened, Reading, RowFormat, Settings,
-    Wanted, campaign_script,
+    CampaignPart, CampaignPlan, Fault, Format, Kinds, Notes, Opened, PlannedCampaign, Reading,
+    RowFormat, Settings, Wanted, campaign_script,
 };
 use std::alloc::Global;
 use std::process::Abort;
@@ -51,10 +51,10 @@ fn campaign(
     let mut rows = Vec::new(alloc);
     let mut counts = Vec::new(alloc);
     let mut notes = Notes::new(alloc, Wanted::default());
+    let planned = PlannedCampaign { opened, plan };
     let done = campaign_script(
         alloc,
-        opened,
-        plan,
+        planned,
         &mut reader,
         &mut rows,
         &mut counts,

@@ -28,7 +28,7 @@ use Rattle.lin_tool.specs.declared.campaign.plan.CampaignPlan.{CampaignPlan}
 use Rattle.lin_tool.specs.declared.campaign.Play.{Play}
 use Rattle.lin_tool.specs.declared.campaign.plan.RowFormat.{RowFormat}
 use Rattle.lin_tool.specs.declared.campaign.plan.RowFormat.TheVariants.{Text, Csv, Jsonl, Junit, Html}
-use Rattle.lin_tool.specs.declared.campaign.RowSource.{RowSource}
+use Rattle.lin_tool.specs.declared.campaign.row_source.RowSource.{RowSource}
 use Rattle.lin_tool.specs.declared.campaign.row.Row.{Row}
 use Rattle.lin_tool.specs.declared.campaign.rows.Rows.{Rows}
 use Rattle.lin_tool.specs.declared.campaign.shown.ShownRow.{ShownRow}

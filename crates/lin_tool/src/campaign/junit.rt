@@ -13,8 +13,8 @@ ghost use Rattle.lin_tool.specs.campaign.Text.{row_name};
 use crate::campaign::row::RowVerdict;
 use crate::campaign::shown::ShownRow;
 use crate::campaign::text::put_name;
-use crate::junit::{missed_text, put_escaped};
-use crate::placing::{Moment, within};
+use crate::junit::put_escaped;
+use crate::placing::{Moment, missed_line, within};
 use lin_bench::{Judgement, is_unmet};
 use lin_core::Log;
 use lin_parts::Cluster;
@@ -70,7 +70,7 @@ fn put_failed<W: Write>(
         moment = moment.at(cluster, log, read, entries);
         read = entries;
         if is_unmet(&one.judged) {
-            let missed = missed_text(alloc, script, cluster, moment, one)?;
+            let missed = missed_line(alloc, Some(script), cluster, moment, one)?;
             out.put(mark);
             put_escaped(out, missed.as_slice());
             mark = b"\n";

@@ -417,11 +417,7 @@ impl RowCounts {
     }
 
     /// A line for each line that is counted.
-    pub(crate) fn put_lines<W: Write>(
-        &self,
-        out: &mut TextWriter<'_, W>,
-        script: JudgedScript<'_>,
-    )
+    pub(crate) fn put_lines<W: Write>(&self, out: &mut TextWriter<'_, W>, script: JudgedScript<'_>)
         ensures { (rows : List NumberedRow) → AreCountsOf script.entry.judgements.now rows self.now
             → Grows W.contents out.old out.new (lines_text script.entry.name.now
             script.entry.cluster.now script.entry.judgements.now (rows_of rows)) }

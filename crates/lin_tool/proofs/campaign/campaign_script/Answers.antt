@@ -10,16 +10,16 @@ use Rattle.lin_tool.proofs.campaign.campaign_script.Goals as goal
 
 pub returns-in_err-lines : goal.returns-in_err-lines
 returns-in_err-lines g c =
-    let opened = c.args.opened in
+    let opened = c.args.planned.opened in
     let how = opened.settings in
-    let fails = campaign-unread c.args.plan.now opened.coded how.file c.args.notes.now.wanted.script how.is_strict opened.cluster opened.table (room_for how.capacity)
+    let fails = campaign-unread c.args.planned.plan.now opened.coded how.file c.args.notes.now.wanted.script how.is_strict opened.cluster opened.table (room_for how.capacity)
     c.in_err-lines.field-0.0 _ (g.W.Write.contents c.args.writer.now) _ _ _ _ c.as_slice.ensures.value
     c.in_ok-bytes.ensures.0 c.in_ok-bytes.ensures.1 c.in_err-lines.ensures.lines in
     search rules
 
 pub returns-in_err-calm : goal.returns-in_err-calm
 returns-in_err-calm g c =
-    let opened = c.args.opened in
+    let opened = c.args.planned.opened in
     let how = opened.settings in
     let named = c.args.notes.now.wanted.script in
     let old = g.W.Write.contents c.args.writer.now in
@@ -34,7 +34,7 @@ returns-in_err-calm g c =
       table = opened.table;
       capacity = c.within_limits.result;
       is_strict = how.is_strict;
-      format = c.args.plan.now.format;
+      format = c.args.planned.plan.now.format;
     } in
     let is : IsCampaign on opened.coded how.file named how.is_strict opened.table (room_for how.capacity) = record {
       coded = c.as_ref-given.ensures.value;
@@ -45,13 +45,13 @@ returns-in_err-calm g c =
       room = c.within_limits.ensures.value;
     } in
     let fails =
-    campaign-unplayable c.args.plan.now opened.coded how.file named on how.is_strict opened.cluster opened.table (room_for how.capacity) c.in_err-calm.field-0.0
+    campaign-unplayable c.args.planned.plan.now opened.coded how.file named on how.is_strict opened.cluster opened.table (room_for how.capacity) c.in_err-calm.field-0.0
     _ old _ _ c.in_ok-lines.lines.items is said c.in_err-calm.ensures c.in_ok-lines.ensures.lines.1 in
     search rules
 
 pub returns-then-some_unmet : goal.returns-then-some_unmet
 returns-then-some_unmet g c =
-    let opened = c.args.opened in
+    let opened = c.args.planned.opened in
     let how = opened.settings in
     let named = c.args.notes.now.wanted.script in
     let old = g.W.Write.contents c.args.writer.now in
@@ -66,7 +66,7 @@ returns-then-some_unmet g c =
       table = opened.table;
       capacity = c.within_limits.result;
       is_strict = how.is_strict;
-      format = c.args.plan.now.format;
+      format = c.args.planned.plan.now.format;
     } in
     let is : IsCampaign on opened.coded how.file named how.is_strict opened.table (room_for how.capacity) = record {
       coded = c.as_ref-given.ensures.value;
@@ -80,13 +80,13 @@ returns-then-some_unmet g c =
     let mid = g.E.Write.contents c.bench_lines.new.errors in
     let heard = g.E.Write.contents c.judge.new.errors in
     let unmet = ap some_unmet (sym c.as_slice-3.ensures) ∙ sym c.some_unmet.ensures ∙ c.if-some_unmet.true in
-    campaign-unmet c.args.plan.now opened.coded how.file named on how.is_strict opened.cluster opened.table (room_for how.capacity) calm c.judge.result _ old _ mid heard
+    campaign-unmet c.args.planned.plan.now opened.coded how.file named on how.is_strict opened.cluster opened.table (room_for how.capacity) calm c.judge.result _ old _ mid heard
     c.in_ok-lines.lines.items is said c.in_ok-calm.ensures c.in_ok-lines.ensures.lines.1 unmet
     (subst (λ js. ReportsJudgements c.judge.result (fails 0 0 js) (told_text named how.is_strict 0 0 calm.core.cluster calm.core.log js) mid heard) c.as_slice-then-some_unmet.ensures c.judge.ensures)
 
 pub returns : goal.returns
 returns g c =
-    let opened = c.args.opened in
+    let opened = c.args.planned.opened in
     let how = opened.settings in
     let named = c.args.notes.now.wanted.script in
     let old = g.W.Write.contents c.args.writer.now in
@@ -106,7 +106,7 @@ returns g c =
       table = opened.table;
       capacity = c.within_limits.result;
       is_strict = how.is_strict;
-      format = c.args.plan.now.format;
+      format = c.args.planned.plan.now.format;
     } in
     let is : IsCampaign on opened.coded how.file named how.is_strict opened.table (room_for how.capacity) = record {
       coded = c.as_ref-given.ensures.value;
@@ -121,7 +121,7 @@ returns g c =
     let all =
     ap₂ (λ k b. read opened.cluster k b) c.as_ref-given.ensures.value (c.as_slice-2.ensures.value ∙ sym c.as_slice.ensures.value) ∙ c.in_ok-lines.ensures.lines.0 in
     let met = ap some_unmet (sym c.as_slice-3.ensures) ∙ sym c.some_unmet.ensures ∙ c.if-some_unmet.false in
-    campaign-written c.args.plan.now opened.coded how.file named on how.is_strict opened.cluster opened.table (room_for how.capacity) c.write_campaign.result _ old
+    campaign-written c.args.planned.plan.now opened.coded how.file named on how.is_strict opened.cluster opened.table (room_for how.capacity) c.write_campaign.result _ old
     (g.W.Write.contents c.write_campaign.new.writer) _ _ (g.E.Write.contents c.write_campaign.new.errors) ls said calm.core.cluster (same-cluster on opened.cluster ls calm c.in_ok-calm.ensures) is
     c.as_slice-2.ensures.value c.in_ok-lines.ensures.lines.1
-    (c.write_campaign.ensures ls (begun on c.args.plan.now opened.cluster ls calm refl all met c.in_ok-calm.ensures))
+    (c.write_campaign.ensures ls (begun on c.args.planned.plan.now opened.cluster ls calm refl all met c.in_ok-calm.ensures))

@@ -18,7 +18,7 @@ returns-in_ok-checked-in-Ok c =
     c.in_ok-warnings-in-Ok.warnings) c.as_ref.ensures.value c.in_ok-warnings-in-Ok.ensures.all) in
     let words : IsPermutation (c.in-Ok.field-0.warnings ++ map (remark true) c.args.sections.found) c.in_ok-words-in-Ok.words =
     rw c.as_slice.ensures at c.in_ok-words-in-Ok.ensures.all in
-    described_answer c.args.extras c.args.settled.now c.in-Ok.field-0 c.args.sections (symbols_in c.args.mended.now (start_of c.args.mended.now).tokens)
+    described_answer c.args.extras c.args.settled.now c.in-Ok.field-0 c.args.sections (symbols_in c.args.texts.mended.now (start_of c.args.texts.mended.now).tokens)
     c.in_ok-checked-in-Ok.checked.cluster c.in_ok-words-in-Ok.words c.in_ok-warnings-in-Ok.warnings c.in_ok-checked-in-Ok.checked.warnings
     c.coded_noted.result c.coded_noted.new.notes.warnings c.in-Ok.ensures words odd c.in_ok-checked-in-Ok.ensures.cluster c.in_ok-checked-in-Ok.ensures.warnings
     c.coded_noted.ensures.cluster c.coded_noted.ensures.coded c.coded_noted.ensures.warnings c.coded_noted.ensures.memory

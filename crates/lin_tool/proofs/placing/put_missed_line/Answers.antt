@@ -1,5 +1,5 @@
 use Rattle.lin_text.proofs.Growing.{grows-more}
-use Rattle.lin_tool.proofs.page.unmet.put_line.Goals as goal
+use Rattle.lin_tool.proofs.placing.put_missed_line.Goals as goal
 
 pub returns-in-Some : goal.returns-in-Some
 returns-in-Some g c = λ log is. rw c.in-Some.is (c.put_missed.ensures log is)

@@ -1,0 +1,108 @@
+//! The plays of a campaign's script: without faults, and under them.
+
+ghost use Rattle.std.specs.Prelude.{◌≡◌, ℕ, IfErr, IfOk, List};
+ghost use Rattle.lin_bench.specs.Plays.{ComesUnder};
+ghost use Rattle.lin_bench.specs.declared.line.ScriptLine.{ScriptLine};
+ghost use Rattle.lin_export.specs.WhereTold.{given_coding};
+ghost use Rattle.lin_tool.specs.campaign.Played.{IsOutOfMemory, IsPlayOf, IsUnfinished, PlaysRow, PlaysUndisturbed};
+ghost use Rattle.lin_tool.specs.campaign.Steps.{IsReady, SaysLines};
+
+use crate::campaign::row::row_of;
+use crate::campaign::{Campaign, Play};
+use crate::fault::Fault;
+use crate::notes::Notes;
+use crate::playing::in_words;
+use lin_bench::{PlayedUnder, ReadFault, ScriptLine, SlotFault, play_under, read};
+use lin_parts::Cluster;
+
+impl Campaign<'_, '_> {
+    /// Plays the script under faults on a cluster, which the play keeps.
+    ///
+    /// # Errors
+    /// `LogFull`, `OutOfMemory`.
+    pub(crate) fn play(&self, cluster: Cluster, faults: &[SlotFault]) -> Result<Play, Fault>
+        requires ready { IsReady self.now cluster }
+        ensures plays { (ls : List (ℕ × ScriptLine)) → SaysLines self.now cluster ls
+            → PlaysRow self.now cluster faults.now ls result }
+        ensures same { IfOk result (λ play. play.core.cluster ≡ cluster) }
+    {
+        let lines = match read(self.alloc, &cluster, self.coded, self.bytes) {
+            Ok(lines) => lines,
+            Err(ReadFault::BadLine { line, .. }) => {
+                return Err(Fault::BadBenchLine { line, told: Ok(()) });
+            }
+            Err(ReadFault::OutOfMemory) => return Err(Fault::OutOfMemory),
+        };
+        let played = self.played(cluster, lines, faults)?;
+        self.judged(played)
+    }
+
+    /// Plays lines of the script on a cluster without faults, and adds the refused steps to the notes.
+    ///
+    /// # Errors
+    /// `SlotLimit`, `LogFull`, `OutOfMemory`.
+    pub(crate) fn undisturbed(
+        &self,
+        cluster: Cluster,
+        lines: Vec<(u64, ScriptLine)>,
+        notes: &mut Notes<'_>,
+    ) -> Result<Play, Fault>
+        requires ready { IsReady self.now cluster }
+        ensures { PlaysUndisturbed self.now cluster lines.items result }
+    {
+        let played = self.played(cluster, lines, &[])?;
+        notes.add_refusals(played.core.log());
+        match played.limit {
+            Some(line) => Err(Fault::SlotLimit { line }),
+            None => self.judged(played),
+        }
+    }
+
+    /// Plays lines of the script on a cluster under faults.
+    ///
+    /// # Errors
+    /// `LogFull`, `OutOfMemory`.
+    fn played(
+        &self,
+        cluster: Cluster,
+        lines: Vec<(u64, ScriptLine)>,
+        faults: &[SlotFault],
+    ) -> Result<PlayedUnder, Fault>
+        requires ready { IsReady self.now cluster }
+        ensures plays { IfOk result (λ it. ComesUnder self.now.is_strict cluster self.now.table
+            self.now.capacity faults.now lines.items it) }
+        ensures fails { IfErr result (IsUnfinished self.now cluster faults.now lines.items) }
+    {
+        let played = play_under(
+            self.alloc,
+            cluster,
+            self.table,
+            self.capacity,
+            lines,
+            self.is_strict,
+            faults,
+        )?;
+        Ok(played)
+    }
+
+    /// A play, with its row.
+    ///
+    /// # Errors
+    /// `OutOfMemory`.
+    fn judged(&self, played: PlayedUnder) -> Result<Play, Fault>
+        ensures row { IfOk result (λ play. IsPlayOf (given_coding self.now.coded) played play) }
+        ensures fails { IfErr result IsOutOfMemory }
+    {
+        let row = row_of(self.alloc, &played)?;
+        let PlayedUnder {
+            core,
+            judgements,
+            ..
+        } = played;
+        Ok(Play {
+            core,
+            judgements: in_words(self.alloc, self.coded, judgements)?,
+            row,
+        })
+    }
+}
