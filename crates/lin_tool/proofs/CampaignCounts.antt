@@ -12,7 +12,7 @@ use Rattle.std.specs.Option.{option_map_or, option_or}
 use Rattle.lin_frame.specs.Words.{numbers}
 use Rattle.lin_core.specs.History.{is_in}
 use Rattle.lin_bench.specs.declared.got.Judgement.{Judgement}
-use Rattle.lin_tool.specs.campaign.Summary.{AreCounts, AreCountsOf, RowCountsData, IsCountOf, IsLineCount, NumberedRow, bound_of, breaks, broken_lines, counted_by, first_at, has_judgement, is_broken, is_counted, is_limited, is_tolerated, line_at, counted_lines, lines_broken, judged_lines, one_if, place_from, rows_of, some_not_tolerated, worse, worse_of, worst_after, worst_of}
+use Rattle.lin_tool.specs.campaign.Summary.{AreRowCounts, AreCountsOf, RowCountsData, IsCountOf, IsLineCount, NumberedRow, bound_of, breaks, broken_lines, counted_by, first_at, has_judgement, is_broken_verdict, is_counted, is_limited, is_tolerated, line_at, counted_lines, lines_broken, judged_lines, one_if, place_from, rows_of, some_not_tolerated, worse, worse_of, worst_after, worst_of}
 use Rattle.lin_tool.specs.declared.campaign.row.Row.{Row}
 use Rattle.lin_tool.specs.declared.campaign.row.RowVerdict.{RowVerdict}
 use Rattle.lin_tool.specs.declared.campaign.row.RowVerdict.TheVariants.{Tolerated, Broken, Limit}
@@ -184,16 +184,16 @@ worse-is : (w : Option NumberedRow) (r : NumberedRow) → option_map worst_of (w
 worse-is None r = map-if (ltb 0 (lines_broken r.row)) r None
 worse-is (Some x) r = map-if (ltb (lines_broken x.row) (lines_broken r.row)) r (Some x)
 
-pub counts-more : (js : List Judgement) (rows : List NumberedRow) (r : NumberedRow) (old new : RowCountsData) → AreCounts old → AreCountsOf js rows old
+pub counts-more : (js : List Judgement) (rows : List NumberedRow) (r : NumberedRow) (old new : RowCountsData) → AreRowCounts old → AreCountsOf js rows old
     → ((n : ℕ) → line_at new.lines n ≡ (if is_in (broken_lines r.row) n then counted_by (old.rows + 1) (line_at old.lines n) else line_at old.lines n))
-    → new.rows ≡ old.rows + 1 → new.tolerated ≡ old.tolerated + one_if (is_tolerated r.row.verdict) → new.broken ≡ old.broken + one_if (is_broken r.row.verdict)
+    → new.rows ≡ old.rows + 1 → new.tolerated ≡ old.tolerated + one_if (is_tolerated r.row.verdict) → new.broken ≡ old.broken + one_if (is_broken_verdict r.row.verdict)
     → new.limited ≡ old.limited + one_if (is_limited r.row.verdict) → new.missed ≡ old.missed + one_if (ltb 0 r.row.missed)
     → new.worst ≡ worse_of old.worst r.number (lines_broken r.row) → AreCountsOf js (rows ++ r ∷ []) new
 counts-more js rows r old new fine h at all tolerated broken limited missed worst = record {
   lines = λ n. subst (λ (l : List Row). IsCountOf js l n (line_at new.lines n)) (sym (rows-push rows r)) (count-by js (rows_of rows) r.row n old.rows (line_at old.lines n) (line_at new.lines n) (breaks n r.row) refl (last-below old.rows n old.lines fine.lines).1 (h.lines n) (at n) (eqb_tells (line_at old.lines n).last (old.rows + 1)));
   rows_are = all ∙ ap (λ n. n + 1) h.rows_are ∙ sym (ap length (rows-push rows r) ∙ length-append (rows_of rows) (r.row ∷ []));
   tolerated = tolerated ∙ ap (λ n. n + one_if (is_tolerated r.row.verdict)) h.tolerated ∙ sym (ap (count_by (λ (x : Row). is_tolerated x.verdict)) (rows-push rows r) ∙ count-push (λ (x : Row). is_tolerated x.verdict) (rows_of rows) r.row);
-  broken = broken ∙ ap (λ n. n + one_if (is_broken r.row.verdict)) h.broken ∙ sym (ap (count_by (λ (x : Row). is_broken x.verdict)) (rows-push rows r) ∙ count-push (λ (x : Row). is_broken x.verdict) (rows_of rows) r.row);
+  broken = broken ∙ ap (λ n. n + one_if (is_broken_verdict r.row.verdict)) h.broken ∙ sym (ap (count_by (λ (x : Row). is_broken_verdict x.verdict)) (rows-push rows r) ∙ count-push (λ (x : Row). is_broken_verdict x.verdict) (rows_of rows) r.row);
   limited = limited ∙ ap (λ n. n + one_if (is_limited r.row.verdict)) h.limited ∙ sym (ap (count_by (λ (x : Row). is_limited x.verdict)) (rows-push rows r) ∙ count-push (λ (x : Row). is_limited x.verdict) (rows_of rows) r.row);
   missed = missed ∙ ap (λ n. n + one_if (ltb 0 r.row.missed)) h.missed ∙ sym (ap (count_by (λ (x : Row). ltb 0 x.missed)) (rows-push rows r) ∙ count-push (λ (x : Row). ltb 0 x.missed) (rows_of rows) r.row);
   worst = worst ∙ ap (λ w. worse_of w r.number (lines_broken r.row)) h.worst ∙ sym (ap (option_map worst_of) (worst-push None rows r) ∙ worse-is (worst_after None rows) r);
@@ -204,7 +204,7 @@ above-true : (b : Bool) → true ≡ (b || true)
 above-true true = refl
 above-true false = refl
 
-is-either : (v : RowVerdict) → not (is_tolerated v) ≡ (is_broken v || is_limited v)
+is-either : (v : RowVerdict) → not (is_tolerated v) ≡ (is_broken_verdict v || is_limited v)
 is-either Tolerated = refl
 is-either Broken = refl
 is-either (Limit n) = refl
@@ -228,12 +228,12 @@ above-by true q m n rest e = ap (λ b. b || ltb 0 (one_if q + n)) (sym (above-on
 above-by false true m n rest e = above-true (ltb 0 (0 + m)) ∙ ap (λ b. ltb 0 (0 + m) || b) (sym (above-one n))
 above-by false false m n rest e = e ∙ ap₂ (λ a b. ltb 0 a || ltb 0 b) (above-zero m) (above-zero n)
 
-pub some-not-tolerated : (rows : List Row) → some_not_tolerated rows ≡ (ltb 0 (count_by (λ (r : Row). is_broken r.verdict) rows) || ltb 0 (count_by (λ (r : Row). is_limited r.verdict) rows))
+pub some-not-tolerated : (rows : List Row) → some_not_tolerated rows ≡ (ltb 0 (count_by (λ (r : Row). is_broken_verdict r.verdict) rows) || ltb 0 (count_by (λ (r : Row). is_limited r.verdict) rows))
 some-not-tolerated [] = refl
 some-not-tolerated (r ∷ rs) =
     ap (λ b. b || some_not_tolerated rs) (is-either r.verdict)
-    ∙ above-by (is_broken r.verdict) (is_limited r.verdict) (count_by (λ (x : Row). is_broken x.verdict) rs) (count_by (λ (x : Row). is_limited x.verdict) rs) (some_not_tolerated rs) (some-not-tolerated rs)
-    ∙ sym (ap₂ (λ m n. ltb 0 m || ltb 0 n) (sum_by-cons (λ (x : Row). cond (is_broken x.verdict) 1 0) r rs) (sum_by-cons (λ (x : Row). cond (is_limited x.verdict) 1 0) r rs))
+    ∙ above-by (is_broken_verdict r.verdict) (is_limited r.verdict) (count_by (λ (x : Row). is_broken_verdict x.verdict) rs) (count_by (λ (x : Row). is_limited x.verdict) rs) (some_not_tolerated rs) (some-not-tolerated rs)
+    ∙ sym (ap₂ (λ m n. ltb 0 m || ltb 0 n) (sum_by-cons (λ (x : Row). cond (is_broken_verdict x.verdict) 1 0) r rs) (sum_by-cons (λ (x : Row). cond (is_limited x.verdict) 1 0) r rs))
 
 zero-by : (b : Bool) (m : ℕ) (rest : Bool) → (m == 0) ≡ rest → ((one_if b + m) == 0) ≡ (not b && rest)
 zero-by true m rest e = one-more-by m (eqb_tells (1 + m) 0)

@@ -22,9 +22,9 @@ use Rattle.lin_tool.specs.campaign.Played.{IsUnfinished, PlaysRow}
 use Rattle.lin_tool.specs.campaign.Rows.{IsPart, bound, part_of, places_of, rows}
 use Rattle.lin_tool.specs.campaign.Shown.{RowData}
 use Rattle.lin_tool.specs.campaign.Singles.{faults_at, only_single, singles}
-use Rattle.lin_tool.specs.campaign.Steps.{AreNamed, AreRowsOf, BreaksOff, CountsMore, IsBegun, IsNamed, IsPlanned, IsTable, WritesRow, WritesRows, calm_row, cases_of, counts_text, disturbed_row, end_row, first_disturbed, first_of, first_row, is_page, row_of_play, stage_of, worst_places}
+use Rattle.lin_tool.specs.campaign.Steps.{AreTableRows, AreRowsOf, BreaksOff, CountsMore, IsCampaignBegun, IsTableRow, IsPlanned, IsTable, WritesRow, WritesRows, calm_row, cases_of, counts_text, disturbed_row, end_part_row, first_disturbed, head_with_calm, first_part_row, is_page, row_of_play, stage_of, worst_places}
 use Rattle.lin_tool.specs.campaign.Summary.{AreCountsOf, RowCountsData, NumberedRow, is_denied, lines_broken, lines_text, numbers_text, rows_of, worse, worst_after, worst_of}
-use Rattle.lin_tool.specs.campaign.Written.{AreRowsFrom, Ends, IsRowOf, Plays, SomeRowOverfills, Stage, WritesPlays, is_full, text_before_rows, text_after_rows, rows_with_faults, counts, denies, plays_in_output, numbered_row, numbered_rows, row_as, row_in_output, rows_in_output, campaign_output}
+use Rattle.lin_tool.specs.campaign.Written.{AreRowsFrom, Ends, IsRowOf, PlaysOfCampaign, SomeRowOverfills, PlaySetup, WritesPlays, is_full, text_before_rows, text_after_rows, rows_with_faults, counts, denies, plays_in_output, numbered_row, numbered_rows, row_as, row_in_output, rows_in_output, campaign_output}
 use Rattle.lin_tool.specs.declared.campaign.Campaign.{Campaign}
 use Rattle.lin_tool.specs.declared.campaign.plan.CampaignPlan.{CampaignPlan}
 use Rattle.lin_tool.specs.declared.campaign.Play.{Play}
@@ -140,12 +140,12 @@ more-counted ps qs old mid new h k = λ js counted are.
 -- the rows with faults up to number n were written and counted
 pub record WroteUpTo (on : Campaign) (t : RowSource) (c : Parts) (ls : List (ℕ × ScriptLine)) (n : ℕ) (counts more : RowCountsData) (old new : Option (List ℕ)) : Type 0 where
   pub ps : List RowData
-  pub rows_are : AreRowsOf (stage_of on c ls) t.singles.now t.rows.now (first_disturbed (first_row t)) ps
-  pub many : length ps + first_disturbed (first_row t) ≡ n
+  pub rows_are : AreRowsOf (stage_of on c ls) t.singles.now t.rows.now (first_disturbed (first_part_row t)) ps
+  pub many : length ps + first_disturbed (first_part_row t) ≡ n
   pub written : Appends old new (flat_map (disturbed_row on t c) ps)
   pub counted : CountsMore ps counts more
 
-pub wrote-none : (on : Campaign) (t : RowSource) (c : Parts) (ls : List (ℕ × ScriptLine)) (n : ℕ) (counts : RowCountsData) (old : Option (List ℕ)) → first_disturbed (first_row t) ≡ n
+pub wrote-none : (on : Campaign) (t : RowSource) (c : Parts) (ls : List (ℕ × ScriptLine)) (n : ℕ) (counts : RowCountsData) (old : Option (List ℕ)) → first_disturbed (first_part_row t) ≡ n
     → WroteUpTo on t c ls n counts counts old old
 wrote-none on t c ls n counts old e = record { ps = []; rows_are = tt; many = omega (arith, e); written = Appends-nil old; counted = none-counted counts }
 
@@ -153,7 +153,7 @@ pub wrote-more : (on : Campaign) (t : RowSource) (c handed : Parts) (ls : List (
     → WroteUpTo on t c ls n counts mid old now → WritesRow on t c ls n (Ok handed) mid more now new → WroteUpTo on t c ls m counts more old new
 wrote-more on t c handed ls n m counts mid more old now new e h k = record {
   ps = h.ps ++ k.0 ∷ [];
-  rows_are = rows-push (stage_of on c ls) t.singles.now t.rows.now (first_disturbed (first_row t)) n h.ps k.0 (sym h.many) h.rows_are k.1;
+  rows_are = rows-push (stage_of on c ls) t.singles.now t.rows.now (first_disturbed (first_part_row t)) n h.ps k.0 (sym h.many) h.rows_are k.1;
   many = omega (arith, e, h.many, length_push h.ps k.0);
   written =
       subst (λ l. Appends old new l)
@@ -163,16 +163,16 @@ wrote-more on t c handed ls n m counts mid more old now new e h k = record {
 }
 
 -- a row broke off: the others are rows too
-pub rows-broke : (on : Campaign) (t : RowSource) (c : Parts) (ls : List (ℕ × ScriptLine)) (n : ℕ) (fault : Fault) (counts mid more : RowCountsData) (old now new : Option (List ℕ)) → n < end_row t
+pub rows-broke : (on : Campaign) (t : RowSource) (c : Parts) (ls : List (ℕ × ScriptLine)) (n : ℕ) (fault : Fault) (counts mid more : RowCountsData) (old now new : Option (List ℕ)) → n < end_part_row t
     → WroteUpTo on t c ls n counts mid old now → WritesRow on t c ls n (Err fault) mid more now new → WritesRows on t c ls (Err fault) counts more old new
 rows-broke on t c ls n fault counts mid more old now new there h k =
     let on_ = stage_of on c ls in
     let row = disturbed_row on t c in
-    let others = some-rows on_ t.singles.now t.rows.now (n + 1) (end_row t - (n + 1)) in
-    let up_to : AreRowsOf on_ t.singles.now t.rows.now (first_disturbed (first_row t)) (h.ps ++ k.0 ∷ []) =
-    rows-push on_ t.singles.now t.rows.now (first_disturbed (first_row t)) n h.ps k.0 (sym h.many) h.rows_are k.1 in
-    let all : AreRowsOf on_ t.singles.now t.rows.now (first_disturbed (first_row t)) ((h.ps ++ k.0 ∷ []) ++ others.0) =
-    rows-append on_ t.singles.now t.rows.now (first_disturbed (first_row t)) (n + 1) (h.ps ++ k.0 ∷ []) others.0 (omega (arith, h.many, length_push h.ps k.0)) up_to others.1 in
+    let others = some-rows on_ t.singles.now t.rows.now (n + 1) (end_part_row t - (n + 1)) in
+    let up_to : AreRowsOf on_ t.singles.now t.rows.now (first_disturbed (first_part_row t)) (h.ps ++ k.0 ∷ []) =
+    rows-push on_ t.singles.now t.rows.now (first_disturbed (first_part_row t)) n h.ps k.0 (sym h.many) h.rows_are k.1 in
+    let all : AreRowsOf on_ t.singles.now t.rows.now (first_disturbed (first_part_row t)) ((h.ps ++ k.0 ∷ []) ++ others.0) =
+    rows-append on_ t.singles.now t.rows.now (first_disturbed (first_part_row t)) (n + 1) (h.ps ++ k.0 ∷ []) others.0 (omega (arith, h.many, length_push h.ps k.0)) up_to others.1 in
     let begun : Begins old new (flat_map row h.ps ++ (row k.0 ++ flat_map row others.0)) =
     begins-behind old now new (flat_map row h.ps) (row k.0 ++ flat_map row others.0) h.written (begins-longer now new (row k.0) (flat_map row others.0) k.2) in
     let text : flat_map row h.ps ++ (row k.0 ++ flat_map row others.0) ≡ flat_map row ((h.ps ++ k.0 ∷ []) ++ others.0) =
@@ -188,24 +188,24 @@ rows-broke on t c ls n fault counts mid more old now new there h k =
     )
 
 -- all rows were written
-pub rows-written : (on : Campaign) (t : RowSource) (c handed : Parts) (ls : List (ℕ × ScriptLine)) (n : ℕ) (counts more : RowCountsData) (old new : Option (List ℕ)) → n ≡ max (end_row t) (first_disturbed (first_row t))
+pub rows-written : (on : Campaign) (t : RowSource) (c handed : Parts) (ls : List (ℕ × ScriptLine)) (n : ℕ) (counts more : RowCountsData) (old new : Option (List ℕ)) → n ≡ max (end_part_row t) (first_disturbed (first_part_row t))
     → WroteUpTo on t c ls n counts more old new → WritesRows on t c ls (Ok handed) counts more old new
 rows-written on t c handed ls n counts more old new e h = (h.ps, h.rows_are, omega (arith, e, h.many), h.written, h.counted)
 
 -- ---- the worst row
 abbrev IfNamed : RowSource → Option NumberedRow → Type 0
 IfNamed t None = Unit {0}
-IfNamed t (Some r) = IsNamed t r
+IfNamed t (Some r) = IsTableRow t r
 
-if-named : (t : RowSource) (b : Bool) (r : NumberedRow) (o : Option NumberedRow) → IsNamed t r → IfNamed t o → IfNamed t (if b then Some r else o)
+if-named : (t : RowSource) (b : Bool) (r : NumberedRow) (o : Option NumberedRow) → IsTableRow t r → IfNamed t o → IfNamed t (if b then Some r else o)
 if-named t true r o h k = h
 if-named t false r o h k = k
 
-worse-named : (t : RowSource) (w : Option NumberedRow) (r : NumberedRow) → IfNamed t w → IsNamed t r → IfNamed t (worse w r)
+worse-named : (t : RowSource) (w : Option NumberedRow) (r : NumberedRow) → IfNamed t w → IsTableRow t r → IfNamed t (worse w r)
 worse-named t None r h k = if-named t (nat_lt 0 (lines_broken r.row)) r None k tt
 worse-named t (Some w) r h k = if-named t (nat_lt (lines_broken w.row) (lines_broken r.row)) r (Some w) k h
 
-worst-named : (t : RowSource) (w : Option NumberedRow) (rs : List NumberedRow) → IfNamed t w → AreNamed t rs → IfNamed t (worst_after w rs)
+worst-named : (t : RowSource) (w : Option NumberedRow) (rs : List NumberedRow) → IfNamed t w → AreTableRows t rs → IfNamed t (worst_after w rs)
 worst-named t w [] h k = h
 worst-named t w (r ∷ rs) h k = worst-named t (worse w r) rs (worse-named t w r h k.0) k.1
 
@@ -214,7 +214,7 @@ worst-by t None h = refl
 worst-by t (Some r) h = h.1
 
 worst-faults : (t : RowSource) (js : List Judgement) (rs : List NumberedRow) (counts : RowCountsData) (places : List ℕ) (fs : List SlotFault) → places ≡ worst_places t counts.worst → fs ≡ faults_at t.singles.now places
-    → AreCountsOf js rs counts → AreNamed t rs → option_map_or (λ (r : NumberedRow). r.faults) (worst_after None rs) [] ≡ fs
+    → AreCountsOf js rs counts → AreTableRows t rs → option_map_or (λ (r : NumberedRow). r.faults) (worst_after None rs) [] ≡ fs
 worst-faults t js rs counts places fs at is h named =
     worst-by t (worst_after None rs) (worst-named t None rs tt named)
     ∙ ap (λ w. faults_at t.singles.now (worst_places t w)) (sym h.worst) ∙ ap (faults_at t.singles.now) (sym at) ∙ sym is
@@ -222,13 +222,13 @@ worst-faults t js rs counts places fs at is h named =
 -- faults that are read, or an error
 pub worst-faults-by : {V E : Type 0} (items : V → List SlotFault) (t : RowSource) (counts : RowCountsData) (places lent : List ℕ) (r : Result V E) → places ≡ worst_places t counts.worst → lent ≡ places
     → IfOk r (λ v. items v ≡ faults_at t.singles.now lent)
-    → IfOk r (λ v. (js : List Judgement) → (rs : List NumberedRow) → AreCountsOf js rs counts → AreNamed t rs → option_map_or (λ (w : NumberedRow). w.faults) (worst_after None rs) [] ≡ items v)
+    → IfOk r (λ v. (js : List Judgement) → (rs : List NumberedRow) → AreCountsOf js rs counts → AreTableRows t rs → option_map_or (λ (w : NumberedRow). w.faults) (worst_after None rs) [] ≡ items v)
 worst-faults-by items t counts places lent (Ok v) at same is = λ js rs are names. worst-faults t js rs counts lent (items v) (same ∙ at) is are names
 worst-faults-by items t counts places lent (Err fault) at same is = tt
 
 -- rows of a table are named by it
 pub rows-named : (on : Campaign) (t : RowSource) (c : Parts) (ls : List (ℕ × ScriptLine)) (n : ℕ) (ps : List RowData) → AreRowsOf (stage_of on c ls) t.singles.now t.rows.now n ps
-    → n + length ps ≤ length (rows t.rows.now) → AreNamed t (map numbered_row ps)
+    → n + length ps ≤ length (rows t.rows.now) → AreTableRows t (map numbered_row ps)
 rows-named on t c ls n [] h few = tt
 rows-named on t c ls n (p ∷ ps) h few =
     let number : p.number ≡ n = h.0.number in
@@ -243,21 +243,21 @@ bounds-order count p h =
     let some : 1 ≤ p.count = omega (arith, h.0, h.1) in
     (subst (λ k. bound count (p.number - 1) p.count ≤ bound count k p.count) next (bound-more count (p.number - 1) p.count some), bound-within count p.number p.count some h.1)
 
-pub part-order : (t : RowSource) → IsTable t → (first_row t ≤ end_row t) × (end_row t ≤ length (rows t.rows.now))
+pub part-order : (t : RowSource) → IsTable t → (first_part_row t ≤ end_part_row t) × (end_part_row t ≤ length (rows t.rows.now))
 part-order t h = bounds-order (length (rows t.rows.now)) t.part h.0
 
 -- the plays of a part, of which these have faults
 pub record ArePlayed (on : Campaign) (plan : CampaignPlan) (t : RowSource) (core : CoreData) (ls : List (ℕ × ScriptLine)) (ps : List RowData) : Type 0 where
   pub plan_is : IsPlanned on plan t core ls
-  pub rows_are : AreRowsOf (stage_of on core.cluster ls) t.singles.now t.rows.now (first_disturbed (first_row t)) ps
+  pub rows_are : AreRowsOf (stage_of on core.cluster ls) t.singles.now t.rows.now (first_disturbed (first_part_row t)) ps
   pub many : length ps ≡ cases_of t
 
 -- what is written of these
 abbrev pub text_of : Campaign → RowSource → CoreData → List RowData → List ℕ
-text_of on t core ps = first_of on t core.cluster (calm_row t core) ++ (flat_map (disturbed_row on t core.cluster) ps ++ text_after_rows on.format)
+text_of on t core ps = head_with_calm on t core.cluster (calm_row t core) ++ (flat_map (disturbed_row on t core.cluster) ps ++ text_after_rows on.format)
 
 record HasWhole (on : Campaign) (plan : CampaignPlan) (t : RowSource) (core : CoreData) (ls : List (ℕ × ScriptLine)) (ps : List RowData) : Type 0 where
-  pub it : Plays (stage_of on core.cluster ls) plan
+  pub it : PlaysOfCampaign (stage_of on core.cluster ls) plan
   pub text : campaign_output on.script.now on.file.now on.bytes.now it ≡ text_of on t core ps
   pub named_are : numbered_rows it.played ≡ map numbered_row ps
   pub judged : it.calm.judgements ≡ t.judgements.now
@@ -287,10 +287,10 @@ has-whole on plan t core ls ps is h =
     let c = core.cluster in
     let calm = calm_row t core in
     let order = part-order t is in
-    let all = all-rows (stage_of on c ls) t.singles.now t.rows.now (first_row t) (end_row t) calm ps h.plan_is.undisturbed h.rows_are h.many order.0 order.1 in
+    let all = all-rows (stage_of on c ls) t.singles.now t.rows.now (first_part_row t) (end_part_row t) calm ps h.plan_is.undisturbed h.rows_are h.many order.0 order.1 in
     let many : length (rows_with_faults all.0) ≡ cases_of t = ap length all.1.counted_are ∙ h.many in
     let text =
-    whole-text plan.format on.script.now on.file.now on.bytes.now c calm t.rows.now (plan.part.number == 1) (cases_of t) (first_row t) (end_row t) ps all.0 t.calm.now.lost t.calm.now.refused refl refl
+    whole-text plan.format on.script.now on.file.now on.bytes.now c calm t.rows.now (plan.part.number == 1) (cases_of t) (first_part_row t) (end_part_row t) ps all.0 t.calm.now.lost t.calm.now.refused refl refl
     many (all.1.text plan.format on.script.now c) in
     record {
       it = record {
@@ -311,7 +311,7 @@ has-whole on plan t core ls ps is h =
           text
           ∙ ap₂
           (λ (f : RowFormat) (p : CampaignPart). (text_before_rows f (p.number == 1) on.script.now on.file.now on.bytes.now (cases_of t) t.rows.now c calm
-          ++ (if ((first_row t == 0) && nat_lt 0 (end_row t)) || is_page f then row_as f on.script.now c [] [] calm else []))
+          ++ (if ((first_part_row t == 0) && nat_lt 0 (end_part_row t)) || is_page f then row_as f on.script.now c [] [] calm else []))
           ++ (flat_map (row_as f on.script.now c t.calm.now.lost t.calm.now.refused) ps ++ text_after_rows f))
           (sym h.plan_is.format) (sym h.plan_is.part);
       named_are = ap (map numbered_row) all.1.counted_are;
@@ -332,7 +332,7 @@ not-true : {X : Type 0} → false ≡ true → X
 not-true h = absurd (cc)
 
 -- the row whose log is full
-full-row : (on : Campaign) (plan : CampaignPlan) (t : RowSource) (c : Parts) (ls : List (ℕ × ScriptLine)) (fault : Fault) (it : Plays (stage_of on c ls) plan) → it.singles_are ≡ t.singles.now → it.table ≡ t.rows.now
+full-row : (on : Campaign) (plan : CampaignPlan) (t : RowSource) (c : Parts) (ls : List (ℕ × ScriptLine)) (fault : Fault) (it : PlaysOfCampaign (stage_of on c ls) plan) → it.singles_are ≡ t.singles.now → it.table ≡ t.rows.now
     → BreaksOff on t c ls fault → is_full (Err fault) ≡ true → SomeRowOverfills it
 full-row on plan t c ls LogFull it are is failed full =
     subst (λ (r : Rows). (n : ℕ) × (n < length (rows r)) × OverfillsUnder c on.table on.capacity (faults_at it.singles_are (places_of r n)) ls) (sym is)
@@ -342,7 +342,7 @@ full-row on plan t c ls WriteFailed it are is failed full = not-true full
 full-row on plan t c ls fault it are is failed full = absurd failed
 
 -- each campaign has plays
-any-plays : (on : Stage) (plan : CampaignPlan) (calm : RowData) → IsPart plan.part → IsRowOf on [] 0 [] calm → some_unmet calm.judgements ≡ false → Plays on plan
+any-plays : (on : PlaySetup) (plan : CampaignPlan) (calm : RowData) → IsPart plan.part → IsRowOf on [] 0 [] calm → some_unmet calm.judgements ≡ false → PlaysOfCampaign on plan
 any-plays on plan calm part is met =
     let ss = singles on.cluster plan.kinds calm.log in
     let t : Rows = record { singles = length ss; pairs = plan.pairs; random = plan.random } in
@@ -368,7 +368,7 @@ calm-same : (calm : Play) (t : RowSource) → t.calm.now ≡ calm.row → t.judg
 calm-same calm t row judgements =
     ap₂ (λ (r : Row) (js : List Judgement). record { number = 0; faults = []; single = None; row = r; log = calm.core.log; judgements = js }) row judgements
 
-pub planned : (on : Campaign) (plan : CampaignPlan) (calm : Play) (t : RowSource) (ls : List (ℕ × ScriptLine)) → IsBegun on plan calm ls → t.calm.now ≡ calm.row → t.judgements.now ≡ calm.judgements
+pub planned : (on : Campaign) (plan : CampaignPlan) (calm : Play) (t : RowSource) (ls : List (ℕ × ScriptLine)) → IsCampaignBegun on plan calm ls → t.calm.now ≡ calm.row → t.judgements.now ≡ calm.judgements
     → t.part ≡ plan.part → t.singles.now ≡ singles calm.core.cluster plan.kinds calm.core.log
     → t.rows.now ≡ record { singles = length t.singles.now; pairs = plan.pairs; random = plan.random } → IsPlanned on plan t calm.core ls
 planned on plan calm t ls h row judgements part are made = record {
@@ -382,7 +382,7 @@ planned on plan calm t ls h row judgements part are made = record {
 }
 
 -- a campaign of which nothing was written
-pub campaign-unwritten : (on : Campaign) (plan : CampaignPlan) (calm : Play) (ls : List (ℕ × ScriptLine)) (watched : Bool) (old silent heard : Option (List ℕ)) → IsPart plan.part → IsBegun on plan calm ls
+pub campaign-unwritten : (on : Campaign) (plan : CampaignPlan) (calm : Play) (ls : List (ℕ × ScriptLine)) (watched : Bool) (old silent heard : Option (List ℕ)) → IsPart plan.part → IsCampaignBegun on plan calm ls
     → WritesPlays (stage_of on calm.core.cluster ls) plan watched on.script.now on.file.now on.bytes.now (Err OutOfMemory) old old silent heard
 campaign-unwritten on plan calm ls watched old silent heard part h =
     let it = any-plays (stage_of on calm.core.cluster ls) plan (row_of_play calm) part h.undisturbed h.met in
@@ -402,12 +402,12 @@ campaign-broke on plan t core ls ps watched fault old new silent heard is h fail
 
 -- before its rows with faults were played
 pub campaign-unplayed : (on : Campaign) (plan : CampaignPlan) (t : RowSource) (core : CoreData) (ls : List (ℕ × ScriptLine)) (watched : Bool) (fault : Fault) (old new silent heard : Option (List ℕ))
-    → IsTable t → IsPlanned on plan t core ls → BreaksOff on t core.cluster ls fault → Begins old new (first_of on t core.cluster (calm_row t core))
+    → IsTable t → IsPlanned on plan t core ls → BreaksOff on t core.cluster ls fault → Begins old new (head_with_calm on t core.cluster (calm_row t core))
     → WritesPlays (stage_of on core.cluster ls) plan watched on.script.now on.file.now on.bytes.now (Err fault) old new silent heard
 campaign-unplayed on plan t core ls watched fault old new silent heard is h failed begun =
-    let ps = some-rows (stage_of on core.cluster ls) t.singles.now t.rows.now (first_disturbed (first_row t)) (cases_of t) in
+    let ps = some-rows (stage_of on core.cluster ls) t.singles.now t.rows.now (first_disturbed (first_part_row t)) (cases_of t) in
     campaign-broke on plan t core ls ps.0 watched fault old new silent heard is (record { plan_is = h; rows_are = ps.1; many = ps.2 }) failed
-    (begins-longer old new (first_of on t core.cluster (calm_row t core)) (flat_map (disturbed_row on t core.cluster) ps.0 ++ text_after_rows on.format) begun)
+    (begins-longer old new (head_with_calm on t core.cluster (calm_row t core)) (flat_map (disturbed_row on t core.cluster) ps.0 ++ text_after_rows on.format) begun)
 
 -- a campaign that was written
 pub campaign-ended : (on : Campaign) (plan : CampaignPlan) (t : RowSource) (core : CoreData) (ls : List (ℕ × ScriptLine)) (ps : List RowData) (watched : Bool) (result : Result Unit Fault)
@@ -436,35 +436,35 @@ abbrev pub no_counts : RowCountsData
 no_counts = record { lines = []; rows = 0; tolerated = 0; broken = 0; limited = 0; missed = 0; worst = None }
 
 -- the rows with faults end within the table
-part-fits : (t : RowSource) (ps : List RowData) → IsTable t → length ps ≡ cases_of t → first_disturbed (first_row t) + length ps ≤ length (rows t.rows.now)
+part-fits : (t : RowSource) (ps : List RowData) → IsTable t → length ps ≡ cases_of t → first_disturbed (first_part_row t) + length ps ≤ length (rows t.rows.now)
 part-fits t ps is many = let order = part-order t is in omega (arith, order.0, order.1, many, count-rows t.rows.now)
 
 -- a row broke off
 pub rows-fail : (on : Campaign) (plan : CampaignPlan) (t : RowSource) (core : CoreData) (ls : List (ℕ × ScriptLine)) (watched : Bool) (fault : Fault) (counts more : RowCountsData) (old mid new silent heard : Option (List ℕ))
-    → IsTable t → IsPlanned on plan t core ls → Appends old mid (first_of on t core.cluster (calm_row t core)) → WritesRows on t core.cluster ls (Err fault) counts more mid new
+    → IsTable t → IsPlanned on plan t core ls → Appends old mid (head_with_calm on t core.cluster (calm_row t core)) → WritesRows on t core.cluster ls (Err fault) counts more mid new
     → WritesPlays (stage_of on core.cluster ls) plan watched on.script.now on.file.now on.bytes.now (Err fault) old new silent heard
 rows-fail on plan t core ls watched fault counts more old mid new silent heard is h first (ps, rows-are, many, begun, failed) =
     let texts = flat_map (disturbed_row on t core.cluster) ps in
     campaign-broke on plan t core ls ps watched fault old new silent heard is (record { plan_is = h; rows_are = rows-are; many = many }) failed
-    (begins-behind old mid new (first_of on t core.cluster (calm_row t core)) (texts ++ text_after_rows on.format) first (begins-longer mid new texts (text_after_rows on.format) begun))
+    (begins-behind old mid new (head_with_calm on t core.cluster (calm_row t core)) (texts ++ text_after_rows on.format) first (begins-longer mid new texts (text_after_rows on.format) begun))
 
 -- something behind the rows failed
 pub tail-fails : {E : Type 0} (on : Campaign) (plan : CampaignPlan) (t : RowSource) (core : CoreData) (handed : Parts) (ls : List (ℕ × ScriptLine)) (watched : Bool) (fault : Fault) (r : Result Unit E) (counts more : RowCountsData)
-    (old mid rest new silent heard : Option (List ℕ)) → IsTable t → IsPlanned on plan t core ls → Appends old mid (first_of on t core.cluster (calm_row t core))
+    (old mid rest new silent heard : Option (List ℕ)) → IsTable t → IsPlanned on plan t core ls → Appends old mid (head_with_calm on t core.cluster (calm_row t core))
     → WritesRows on t core.cluster ls (Ok handed) counts more mid rest → WritesText rest new r (text_after_rows on.format) → BreaksOff on t core.cluster ls fault
     → WritesPlays (stage_of on core.cluster ls) plan watched on.script.now on.file.now on.bytes.now (Err fault) old new silent heard
 tail-fails on plan t core handed ls watched fault r counts more old mid rest new silent heard is h first (ps, rows-are, many, written, counted) tail failed =
     let texts = flat_map (disturbed_row on t core.cluster) ps in
     campaign-broke on plan t core ls ps watched fault old new silent heard is (record { plan_is = h; rows_are = rows-are; many = many }) failed
-    (begins-behind old mid new (first_of on t core.cluster (calm_row t core)) (texts ++ text_after_rows on.format) first
+    (begins-behind old mid new (head_with_calm on t core.cluster (calm_row t core)) (texts ++ text_after_rows on.format) first
     (begins-behind mid rest new texts (text_after_rows on.format) written (text-begins tail)))
 
 -- all was written
 pub table-done : (on : Campaign) (plan : CampaignPlan) (t : RowSource) (core : CoreData) (handed : Parts) (ls : List (ℕ × ScriptLine)) (watched denied : Bool) (result : Result Unit Fault)
-    (counts more : RowCountsData) (old mid rest new silent quiet heard : Option (List ℕ)) → IsTable t → IsPlanned on plan t core ls → is_full result ≡ false → Appends old mid (first_of on t core.cluster (calm_row t core))
+    (counts more : RowCountsData) (old mid rest new silent quiet heard : Option (List ℕ)) → IsTable t → IsPlanned on plan t core ls → is_full result ≡ false → Appends old mid (head_with_calm on t core.cluster (calm_row t core))
     → AreCountsOf t.judgements.now [] counts → WritesRows on t core.cluster ls (Ok handed) counts more mid rest → (watched ≡ false → Keeps silent quiet)
     → Appends rest new (text_after_rows on.format)
-    → ((rs : List NumberedRow) → AreCountsOf t.judgements.now rs more → AreNamed t rs → WritesTextOrPart quiet heard (counts_text on t core.cluster rs))
+    → ((rs : List NumberedRow) → AreCountsOf t.judgements.now rs more → AreTableRows t rs → WritesTextOrPart quiet heard (counts_text on t core.cluster rs))
     → ((js : List Judgement) → (rs : List NumberedRow) → AreCountsOf js rs more → denied ≡ is_denied plan.denies_broken plan.denies_never t.judgements.now (rows_of rs))
     → ((text told : List ℕ) → Appends old new text → (watched ≡ false → WritesTextOrPart silent heard told) → Ends watched result denied text told old new silent heard)
     → WritesPlays (stage_of on core.cluster ls) plan watched on.script.now on.file.now on.bytes.now result old new silent heard
@@ -472,10 +472,10 @@ table-done on plan t core handed ls watched denied result counts more old mid re
     let c = core.cluster in
     let texts = flat_map (disturbed_row on t c) ps in
     let all : AreCountsOf t.judgements.now (map numbered_row ps) more = counted t.judgements.now [] none in
-    let names : AreNamed t (map numbered_row ps) = rows-named on t c ls (first_disturbed (first_row t)) ps rows-are (part-fits t ps is many) in
+    let names : AreTableRows t (map numbered_row ps) = rows-named on t c ls (first_disturbed (first_part_row t)) ps rows-are (part-fits t ps is many) in
     let heard-all = told (map numbered_row ps) all names in
     let denied-is = denies-are t.judgements.now (map numbered_row ps) all in
     campaign-ended on plan t core ls ps watched result old new silent heard is (record { plan_is = h; rows_are = rows-are; many = many }) unfull
-    (Appends-trans old mid new (first_of on t c (calm_row t core)) (texts ++ text_after_rows on.format) first (Appends-trans mid rest new texts (text_after_rows on.format) written tail))
+    (Appends-trans old mid new (head_with_calm on t c (calm_row t core)) (texts ++ text_after_rows on.format) first (Appends-trans mid rest new texts (text_after_rows on.format) written tail))
     (λ so. text-after silent quiet heard (counts_text on t c (map numbered_row ps)) (kept so) heard-all)
     (λ other e text said all-written all-told. subst (λ b. Ends watched result b text said old new silent heard) (denied-is ∙ sym e) (ends text said all-written all-told))

@@ -13,16 +13,16 @@ use Rattle.lin_text.proofs.Growing.{grows-nothing, same-growth}
 use Rattle.lin_export.proofs.Rows.{flat-append}
 use Rattle.lin_export.proofs.Slots.{some-same}
 use Rattle.lin_tool.specs.Placing.{past_at}
-use Rattle.lin_tool.specs.campaign.Jsonl.{letter, letters_of}
-use Rattle.lin_tool.specs.campaign.Slots.{kept_slot, slots_of}
+use Rattle.lin_tool.specs.campaign.Jsonl.{seen_letter, slot_letters}
+use Rattle.lin_tool.specs.campaign.Slots.{kept_of_slot, slots_of}
 use Rattle.lin_tool.specs.declared.campaign.slots.KeptSlot.{KeptSlot}
 
 -- what holds of the slot that is kept holds of the one that was finished
-pub of-slot : (o : Option Slot) (k : KeptSlot) (P : Option Slot → Type 0) → Some k ≡ option_map kept_slot o → ((s : Slot) → k ≡ kept_slot s → P (Some s)) → P o
+pub of-slot : (o : Option Slot) (k : KeptSlot) (P : Option Slot → Type 0) → Some k ≡ option_map kept_of_slot o → ((s : Slot) → k ≡ kept_of_slot s → P (Some s)) → P o
 of-slot None k P e h = absurd (cc)
-of-slot (Some s) k P e h = h s (some-same k (kept_slot s) e)
+of-slot (Some s) k P e h = h s (some-same k (kept_of_slot s) e)
 
-pub of-none : (o : Option Slot) → None ≡ option_map kept_slot o → o ≡ None
+pub of-none : (o : Option Slot) → None ≡ option_map kept_of_slot o → o ≡ None
 of-none None e = refl
 of-none (Some s) e = absurd (cc)
 
@@ -40,12 +40,12 @@ take-both (suc n) (x ∷ xs) ys = let e : suc n - suc (length xs) ≡ n - length
 
 -- the letters of the first slots after one entry more
 pub letters-next : (n : ℕ) (log : List LogEntry) (i : ℕ) (e : LogEntry) → i < length log → e ≡ get_or log i e
-    → letters_of (take n (slots_of (past_at log i))) ++ letters_of (take (n - length (slots_of (past_at log i))) (option_to_list (finished_slot e (past_at log i))))
-    ≡ letters_of (take n (slots_of (past_at log (i + 1))))
+    → slot_letters (take n (slots_of (past_at log i))) ++ slot_letters (take (n - length (slots_of (past_at log i))) (option_to_list (finished_slot e (past_at log i))))
+    ≡ slot_letters (take n (slots_of (past_at log (i + 1))))
 letters-next n log i e h is =
     let old = slots_of (past_at log i) in
     let new = option_to_list (finished_slot e (past_at log i)) in
-    sym (map-append _ (take n old) (take (n - length old) new)) ∙ ap letters_of (sym (take-both n old new)) ∙ ap (λ p. letters_of (take n (slots_of p))) (sym (newest-first log i e h is))
+    sym (map-append _ (take n old) (take (n - length old) new)) ∙ ap slot_letters (sym (take-both n old new)) ∙ ap (λ p. slot_letters (take n (slots_of p))) (sym (newest-first log i e h is))
 
 -- the letter of a slot after others, if there is room for one more
 take-one : {X : Type 0} (n : ℕ) (x : X) → 1 ≤ n → x ∷ [] ≡ take n (x ∷ [])
@@ -53,14 +53,14 @@ take-one zero x h = absurd (omega arith)
 take-one (suc zero) x h = refl
 take-one (suc (suc n)) x h = refl
 
-fits-by : (n m : ℕ) (s : Slot) (b : Bool) → nat_lt m n ≡ b → (if b then letter (seen_of s) ∷ [] else []) ≡ letters_of (take (n - m) (s ∷ []))
-fits-by n m s true h = let k : 1 ≤ n - m = grind (arith, common_steps) in ap letters_of (take-one (n - m) s k)
+fits-by : (n m : ℕ) (s : Slot) (b : Bool) → nat_lt m n ≡ b → (if b then seen_letter (seen_of s) ∷ [] else []) ≡ slot_letters (take (n - m) (s ∷ []))
+fits-by n m s true h = let k : 1 ≤ n - m = grind (arith, common_steps) in ap slot_letters (take-one (n - m) s k)
 fits-by n m s false h = let k : n - m ≡ 0 = grind (arith, common_steps) in rw k refl
 
-pub letter-fits : (n m : ℕ) (s : Slot) → (if nat_lt m n then letter (seen_of s) ∷ [] else []) ≡ letters_of (take (n - m) (s ∷ []))
+pub letter-fits : (n m : ℕ) (s : Slot) → (if nat_lt m n then seen_letter (seen_of s) ∷ [] else []) ≡ slot_letters (take (n - m) (s ∷ []))
 letter-fits n m s = fits-by n m s (nat_lt m n) refl
 
-pub no-letters : (n : ℕ) → [] ≡ letters_of (take n [])
+pub no-letters : (n : ℕ) → [] ≡ slot_letters (take n [])
 no-letters zero = refl
 no-letters (suc n) = refl
 

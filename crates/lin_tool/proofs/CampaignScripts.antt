@@ -17,10 +17,10 @@ use Rattle.lin_bench.specs.declared.got.Judgement.{Judgement}
 use Rattle.lin_bench.specs.declared.line.ScriptLine.{ScriptLine}
 use Rattle.lin_bench.specs.declared.playing.PlayedUnder.{PlayedUnder}
 use Rattle.lin_export.specs.WhereTold.{given_coding}
-use Rattle.lin_tool.specs.Playing.{IsUnread, ReportsJudgements, Says, WritesTextOrPart, fails, judgements_with_meanings, play_fault, told_text}
-use Rattle.lin_tool.specs.campaign.Played.{IsOutOfMemory, IsPlayOf, IsUndisturbed, IsUnfinished, PlaysRow, PlaysUndisturbed}
-use Rattle.lin_tool.specs.campaign.Steps.{IsBegun, SaysLines, row_of_play, stage_of}
-use Rattle.lin_tool.specs.campaign.Written.{Ends, IsRowOf, Stage, WritesCampaign, WritesPlays, WritesPlaysOfScript, counts, denies, name_or, campaign_output}
+use Rattle.lin_tool.specs.Playing.{IsUnread, ReportsJudgements, Says, WritesTextOrPart, play_fails, judgements_with_meanings, play_fault, told_text}
+use Rattle.lin_tool.specs.campaign.Played.{IsMemoryFault, IsPlayOf, IsUndisturbedPlay, IsUnfinished, PlaysRow, PlaysUndisturbed}
+use Rattle.lin_tool.specs.campaign.Steps.{IsCampaignBegun, SaysLines, row_of_play, stage_of}
+use Rattle.lin_tool.specs.campaign.Written.{Ends, IsRowOf, PlaySetup, WritesCampaign, WritesPlays, WritesPlaysOfScript, counts, denies, name_or, campaign_output}
 use Rattle.lin_tool.specs.declared.campaign.Campaign.{Campaign}
 use Rattle.lin_tool.specs.declared.campaign.plan.CampaignPlan.{CampaignPlan}
 use Rattle.lin_tool.specs.declared.campaign.Play.{Play}
@@ -61,7 +61,7 @@ campaign-unplayable plan k file named on strict c opening capacity LogFull told 
 campaign-unplayable plan k file named on strict c opening capacity fault told old silent heard ls is says h kept = absurd h
 
 -- a play with a judgement that isn't met fails, whatever its faults changed
-fails-unmet : (faults missed : ℕ) (js : List Judgement) → some_unmet js ≡ true → fails faults missed js ≡ true
+fails-unmet : (faults missed : ℕ) (js : List Judgement) → some_unmet js ≡ true → play_fails faults missed js ≡ true
 fails-unmet faults missed js unmet = rw unmet refl
 
 never-both : {X : Type 0} (b : Bool) → b ≡ true → b ≡ false → X
@@ -71,11 +71,11 @@ never-both false h k = absurd (cc)
 -- the undisturbed play has a judgement that isn't met
 pub campaign-unmet : (plan : CampaignPlan) (k : Option CodedData) (file named : Option (Bor (List ℕ))) (on : Campaign) (strict : Bool) (c : Parts) (opening capacity : ℕ) (calm : Play)
     (result : Result Unit Fault) (told old silent mid heard : Option (List ℕ)) (ls : List (ℕ × ScriptLine)) → IsCampaign on k file named strict opening capacity → Says c k told (Ok ls)
-    → IsUndisturbed on c ls calm → Keeps silent mid → some_unmet calm.judgements ≡ true
-    → ReportsJudgements result (fails 0 0 calm.judgements) (told_text named strict 0 0 calm.core.cluster calm.core.log calm.judgements) mid heard
+    → IsUndisturbedPlay on c ls calm → Keeps silent mid → some_unmet calm.judgements ≡ true
+    → ReportsJudgements result (play_fails 0 0 calm.judgements) (told_text named strict 0 0 calm.core.cluster calm.core.log calm.judgements) mid heard
     → WritesCampaign plan k file named strict c opening capacity result told old old silent heard
 campaign-unmet plan k file named on strict c opening capacity calm (Ok done) told old silent mid heard ls is says h kept unmet (met, text) =
-    never-both (fails 0 0 calm.judgements) (fails-unmet 0 0 calm.judgements unmet) met
+    never-both (play_fails 0 0 calm.judgements) (fails-unmet 0 0 calm.judgements unmet) met
 campaign-unmet plan k file named on strict c opening capacity calm (Err (Unmet outcome)) told old silent mid heard ls is says h kept unmet (missed, text) =
     let run : Run = record { bench = h.comes.bench; judgements = h.it.judgements } in
     let came : played_under strict c opening capacity [] ls ≡ Ok run = rw (is.strictly, is.table, is.room) at (h.comes.lines ∙ ap (run_or_limit run) h.limit) in
@@ -93,11 +93,11 @@ campaign-unmet plan k file named on strict c opening capacity calm (Err (Unmet o
 campaign-unmet plan k file named on strict c opening capacity calm (Err fault) told old silent mid heard ls is says h kept unmet text = absurd text
 
 -- the undisturbed play is row 0
-pub same-cluster : (on : Campaign) (c : Parts) (ls : List (ℕ × ScriptLine)) (calm : Play) → IsUndisturbed on c ls calm → calm.core.cluster ≡ c
+pub same-cluster : (on : Campaign) (c : Parts) (ls : List (ℕ × ScriptLine)) (calm : Play) → IsUndisturbedPlay on c ls calm → calm.core.cluster ≡ c
 same-cluster on c ls calm h = ap (λ x. x.cluster) h.is.core ∙ h.comes.cluster
 
-pub begun : (on : Campaign) (plan : CampaignPlan) (c : Parts) (ls : List (ℕ × ScriptLine)) (calm : Play) → on.format ≡ plan.format → SaysLines on c ls → some_unmet calm.judgements ≡ false → IsUndisturbed on c ls calm
-    → IsBegun on plan calm ls
+pub begun : (on : Campaign) (plan : CampaignPlan) (c : Parts) (ls : List (ℕ × ScriptLine)) (calm : Play) → on.format ≡ plan.format → SaysLines on c ls → some_unmet calm.judgements ≡ false → IsUndisturbedPlay on c ls calm
+    → IsCampaignBegun on plan calm ls
 begun on plan c ls calm format says met h =
     let same = sym (same-cluster on c ls calm h) in
     let row : IsRowOf (stage_of on c ls) [] 0 [] (row_of_play calm) = record {
@@ -184,7 +184,7 @@ unplayed-fault on c fs ls play.LogFull h = h
 unplayed-fault on c fs ls play.OutOfMemory h = tt
 
 -- a play for which memory ran out
-ran-out : (on : Campaign) (c : Parts) (fs : List SlotFault) (ls : List (ℕ × ScriptLine)) (fault : Fault) → IsOutOfMemory fault → IsUnfinished on c fs ls fault
+ran-out : (on : Campaign) (c : Parts) (fs : List SlotFault) (ls : List (ℕ × ScriptLine)) (fault : Fault) → IsMemoryFault fault → IsUnfinished on c fs ls fault
 ran-out on c fs ls OutOfMemory h = tt
 ran-out on c fs ls fault h = absurd h
 
@@ -193,7 +193,7 @@ same-ok r x y e f = cc
 
 -- a play and its row, or the fault of one
 pub judged-row : (on : Campaign) (c : Parts) (fs : List SlotFault) (said ls : List (ℕ × ScriptLine)) (it : PlayedUnder) (r : Result Play Fault) → said ≡ ls
-    → ComesUnder on.is_strict c on.table on.capacity fs said it → IfOk r (λ p. IsPlayOf (given_coding on.coded) it p) → IfErr r IsOutOfMemory → PlaysRow on c fs ls r
+    → ComesUnder on.is_strict c on.table on.capacity fs said it → IfOk r (λ p. IsPlayOf (given_coding on.coded) it p) → IfErr r IsMemoryFault → PlaysRow on c fs ls r
 judged-row on c fs said ls it (Ok p) same comes is fails =
     record { it = it; comes = subst (λ l. ComesUnder on.is_strict c on.table on.capacity fs l it) same comes; is = is }
 judged-row on c fs said ls it (Err fault) same comes is fails = ran-out on c fs ls fault fails
@@ -210,6 +210,6 @@ undisturbed-fault on c ls fault h = absurd h
 
 -- without the limit
 pub judged-undisturbed : (on : Campaign) (c : Parts) (ls : List (ℕ × ScriptLine)) (it : PlayedUnder) (r : Result Play Fault) → ComesUnder on.is_strict c on.table on.capacity [] ls it → it.limit ≡ None
-    → IfOk r (λ p. IsPlayOf (given_coding on.coded) it p) → IfErr r IsOutOfMemory → PlaysUndisturbed on c ls r
+    → IfOk r (λ p. IsPlayOf (given_coding on.coded) it p) → IfErr r IsMemoryFault → PlaysUndisturbed on c ls r
 judged-undisturbed on c ls it (Ok p) comes limit is fails = record { it = it; comes = comes; is = is; limit = limit }
 judged-undisturbed on c ls it (Err fault) comes limit is fails = undisturbed-fault on c ls fault (ran-out on c [] ls fault fails)

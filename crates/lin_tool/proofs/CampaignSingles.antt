@@ -12,8 +12,8 @@ use Rattle.lin_parts.specs.declared.parts.Parts.{Parts}
 use Rattle.lin_core.specs.History.{Slot}
 use Rattle.lin_bench.specs.Faults.{is_intact}
 use Rattle.lin_bench.specs.declared.faults.FaultKind.TheVariants.{Damage, Absent}
-use Rattle.lin_tool.specs.campaign.Singles.{AreSinglesOf, absent_from, fault_of, faults_at, most_slots, single_fault, singles_in, singles_of}
-use Rattle.lin_tool.specs.campaign.Slots.{has_responded, kept_slot, responders}
+use Rattle.lin_tool.specs.campaign.Singles.{AreSinglesOf, absent_from, fault_of_single, faults_at, most_slots, single_fault, singles_in, singles_of}
+use Rattle.lin_tool.specs.campaign.Slots.{has_responded, kept_of_slot, responders}
 use Rattle.lin_tool.specs.declared.campaign.singles.Kinds.{Kinds}
 use Rattle.lin_tool.specs.declared.campaign.singles.Single.{Single}
 use Rattle.lin_tool.specs.declared.campaign.slots.KeptSlot.{KeptSlot}
@@ -49,7 +49,7 @@ numbered-full : (f : ℕ × Slot → List Single) (most : ℕ) (slots : List Slo
 numbered-full f most slots s h = ap (λ ts. flat_map f (zip (numbers (length ts)) ts)) (take-append-le most slots (s ∷ []) h)
 
 -- no slot more
-pub none-more : (c : Parts) (kinds : Kinds) (slots : List Slot) (next : Option Slot) (ss : List Single) (n : ℕ) → None ≡ option_map kept_slot next
+pub none-more : (c : Parts) (kinds : Kinds) (slots : List Slot) (next : Option Slot) (ss : List Single) (n : ℕ) → None ≡ option_map kept_of_slot next
     → AreSinglesOf c kinds slots ss n → AreSinglesOf c kinds (slots ++ option_to_list next) ss n
 none-more c kinds slots None ss n e h = subst (λ (l : List Slot). AreSinglesOf c kinds l ss n) (sym (append-nil slots)) h
 none-more c kinds slots (Some s) ss n e h = absurd (cc)
@@ -58,8 +58,8 @@ some-same : {X : Type 0} (x y : X) → Some x ≡ Some y → x ≡ y
 some-same x y e = cc
 
 -- one slot more
-pub one-more : (c : Parts) (kinds : Kinds) (slots : List Slot) (next : Option Slot) (k : KeptSlot) (old new : List Single) (n : ℕ) → Some k ≡ option_map kept_slot next → n < most_slots
-    → ((s : Slot) → k ≡ kept_slot s → new ≡ old ++ singles_of c kinds (n, s))
+pub one-more : (c : Parts) (kinds : Kinds) (slots : List Slot) (next : Option Slot) (k : KeptSlot) (old new : List Single) (n : ℕ) → Some k ≡ option_map kept_of_slot next → n < most_slots
+    → ((s : Slot) → k ≡ kept_of_slot s → new ≡ old ++ singles_of c kinds (n, s))
     → AreSinglesOf c kinds slots old n → AreSinglesOf c kinds (slots ++ option_to_list next) new (n + 1)
 one-more c kinds slots None k old new n e few adds h = absurd (cc)
 one-more c kinds slots (Some s) k old new n e few adds h =
@@ -68,13 +68,13 @@ one-more c kinds slots (Some s) k old new n e few adds h =
     let own : n ≡ length slots = omega (arith, named) in
     record {
       all =
-          adds s (some-same k (kept_slot s) e) ∙ ap (λ l. l ++ singles_of c kinds (n, s)) h.all ∙ ap (λ m. singles_in c kinds slots ++ singles_of c kinds (m, s)) own
+          adds s (some-same k (kept_of_slot s) e) ∙ ap (λ l. l ++ singles_of c kinds (n, s)) h.all ∙ ap (λ m. singles_in c kinds slots ++ singles_of c kinds (m, s)) own
           ∙ sym (numbered-more (singles_of c kinds) most_slots slots s (omega (arith, named)));
       named = omega (arith, named, long);
     }
 
 -- a slot that no fault can name
-pub full-more : (c : Parts) (kinds : Kinds) (slots : List Slot) (next : Option Slot) (k : KeptSlot) (ss : List Single) (n : ℕ) → Some k ≡ option_map kept_slot next → most_slots ≤ n
+pub full-more : (c : Parts) (kinds : Kinds) (slots : List Slot) (next : Option Slot) (k : KeptSlot) (ss : List Single) (n : ℕ) → Some k ≡ option_map kept_of_slot next → most_slots ≤ n
     → AreSinglesOf c kinds slots ss n → AreSinglesOf c kinds (slots ++ option_to_list next) ss n
 full-more c kinds slots None k ss n e many h = absurd (cc)
 full-more c kinds slots (Some s) k ss n e many h =
@@ -122,11 +122,11 @@ absent-of : (first : Single) (goes_on : Bool) (f : ℕ → Bool) (m : ℕ)
     → map (absence first goes_on) (filter (λ n. get_or (map f (numbers m)) n false) (numbers m)) ≡ map (absence first goes_on) (filter f (numbers m))
 absent-of first goes_on f m = ap (map (absence first goes_on)) (filter-numbers (λ n. get_or (map f (numbers m)) n false) f m (λ k h. at-number f m k false h))
 
-absent-from : (c : Parts) (n : ℕ) (s : Slot) (goes_on : Bool) → absent_from (single_fault c n s Damage false) goes_on (kept_slot s).answered ≡ map (absence (single_fault c n s Damage false) goes_on) (responders s)
+absent-from : (c : Parts) (n : ℕ) (s : Slot) (goes_on : Bool) → absent_from (single_fault c n s Damage false) goes_on (kept_of_slot s).answered ≡ map (absence (single_fault c n s Damage false) goes_on) (responders s)
 unfolding absent_from responders
 absent-from c n s goes_on = absent-of (single_fault c n s Damage false) goes_on (has_responded s) 16
 
-pub of-slot : (c : Parts) (kinds : Kinds) (n : ℕ) (s : Slot) (k : KeptSlot) (damage : Single) (whole : Bool) (old one two new : List Single) → k ≡ kept_slot s → damage ≡ single_fault c n s Damage false → whole ≡ is_intact s
+pub of-slot : (c : Parts) (kinds : Kinds) (n : ℕ) (s : Slot) (k : KeptSlot) (damage : Single) (whole : Bool) (old one two new : List Single) → k ≡ kept_of_slot s → damage ≡ single_fault c n s Damage false → whole ≡ is_intact s
     → one ≡ old ++ (if kinds.damage && whole then damage ∷ [] else [])
     → two ≡ one ++ (if kinds.absent then absent_from damage false k.answered else [])
     → new ≡ two ++ (if kinds.gone then absent_from damage true k.answered else [])
@@ -207,7 +207,7 @@ no-place [] p h = refl
 no-place (s ∷ ss) zero h = absurd (omega arith)
 no-place (s ∷ ss) (suc p) h = no-place ss p (omega arith)
 
-pub fault-next : (ss : List Single) (p : ℕ) (ps : List ℕ) (d : Single) → p < length ss → faults_at ss (p ∷ ps) ≡ fault_of (get_or ss p d) ∷ faults_at ss ps
+pub fault-next : (ss : List Single) (p : ℕ) (ps : List ℕ) (d : Single) → p < length ss → faults_at ss (p ∷ ps) ≡ fault_of_single (get_or ss p d) ∷ faults_at ss ps
 fault-next ss p ps d h = rw (at-place ss p d h) refl
 
 pub fault-none : (ss : List Single) (p : ℕ) (ps : List ℕ) → length ss ≤ p → faults_at ss (p ∷ ps) ≡ faults_at ss ps

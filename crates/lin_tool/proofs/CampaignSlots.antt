@@ -13,7 +13,7 @@ use Rattle.lin_core.specs.declared.event.Event.TheVariants.{Put}
 use Rattle.lin_core.specs.declared.log.LogEntry.{LogEntry}
 use Rattle.lin_core.specs.declared.reply.Reply.TheVariants.{Done}
 use Rattle.lin_core.specs.declared.step.Step.TheVariants.{Answer, Hurt}
-use Rattle.lin_tool.specs.campaign.Slots.{has_responded, kept_slot}
+use Rattle.lin_tool.specs.campaign.Slots.{has_responded, kept_of_slot}
 use Rattle.lin_tool.specs.declared.campaign.slots.KeptSlot.{KeptSlot}
 use Rattle.lin_tool.proofs.CampaignRows.{length-numbers, number-at}
 
@@ -98,10 +98,10 @@ pub count-put : (puts : List (ℕ × List ℕ)) (p : ℕ × List ℕ) → min (m
 count-put puts p = let l = length-append puts (p ∷ []) in omega arith
 
 -- what is kept after one response more
-pub kept-put : (s : Slot) (node : ℕ) (answer : List ℕ) (k : KeptSlot) (answered : List Bool) (first : Option ℕ) (responses : ℕ) → k ≡ kept_slot s
+pub kept-put : (s : Slot) (node : ℕ) (answer : List ℕ) (k : KeptSlot) (answered : List Bool) (first : Option ℕ) (responses : ℕ) → k ≡ kept_of_slot s
     → answered ≡ map (has_responded (slot_after_event (Put node answer) s)) (numbers 16)
     → first ≡ option_or k.first (Some node) → responses ≡ min (k.responses + 1) 255
-    → record k { answered = answered; first = first; responses = responses } ≡ kept_slot (slot_after_event (Put node answer) s)
+    → record k { answered = answered; first = first; responses = responses } ≡ kept_of_slot (slot_after_event (Put node answer) s)
 kept-put s node answer k answered first responses is all one count =
     let first-is : first ≡ first_node (slot_after_event (Put node answer) s) = one ∙ ap (λ (x : KeptSlot). option_or x.first (Some node)) is ∙ first-put s.puts node answer in
     let count-is : responses ≡ min (length (s.puts ++ (node, answer) ∷ [])) 255 = count ∙ ap (λ (x : KeptSlot). min (x.responses + 1) 255) is ∙ count-put s.puts (node, answer) in
@@ -116,7 +116,7 @@ answered-if s node answer (inr e) =
     ap (λ b. if b then set (map (has_responded s) (numbers 16)) node true else map (has_responded s) (numbers 16)) e.0
     ∙ answered-same s node answer (omega (arith, e.1))
 
-pub answered-by : (s : Slot) (node : ℕ) (answer : List ℕ) (k : KeptSlot) (r : List Bool) → k ≡ kept_slot s
+pub answered-by : (s : Slot) (node : ℕ) (answer : List ℕ) (k : KeptSlot) (r : List Bool) → k ≡ kept_of_slot s
     → r ≡ (if ltb node 16 then set k.answered node true else k.answered)
     → r ≡ map (has_responded (slot_after_event (Put node answer) s)) (numbers 16)
 answered-by s node answer k r is e = e ∙ ap (λ (x : KeptSlot). if ltb node 16 then set x.answered node true else x.answered) is ∙ answered-if s node answer (leb_tells (suc node) 16)
@@ -130,19 +130,19 @@ find-nothing (x ∷ xs) = find-nothing xs
 some-same : {X : Type 0} (x y : X) → Some x ≡ Some y → x ≡ y
 some-same x y e = cc
 
-answer-by : (o : Option Slot) (events : List Event) (old new : KeptSlot) → Some old ≡ option_map kept_slot o
-    → ((s : Slot) → old ≡ kept_slot s → new ≡ kept_slot (slot_after_events events s)) → Some new ≡ option_map kept_slot (option_map (slot_after_events events) o)
+answer-by : (o : Option Slot) (events : List Event) (old new : KeptSlot) → Some old ≡ option_map kept_of_slot o
+    → ((s : Slot) → old ≡ kept_of_slot s → new ≡ kept_of_slot (slot_after_events events s)) → Some new ≡ option_map kept_of_slot (option_map (slot_after_events events) o)
 answer-by None events old new is tells = absurd (cc)
-answer-by (Some s) events old new is tells = ap Some (tells s (some-same old (kept_slot s) is))
+answer-by (Some s) events old new is tells = ap Some (tells s (some-same old (kept_of_slot s) is))
 
 pub after-answer : (e : LogEntry) (past : List LogEntry) (events : List Event) (node : ℕ) (old new : KeptSlot) → e.reply ≡ Done events → e.step ≡ Answer node
-    → Some old ≡ option_map kept_slot (open_slot past) → ((s : Slot) → old ≡ kept_slot s → new ≡ kept_slot (slot_after_events events s)) → Some new ≡ option_map kept_slot (open_slot (e ∷ past))
+    → Some old ≡ option_map kept_of_slot (open_slot past) → ((s : Slot) → old ≡ kept_of_slot s → new ≡ kept_of_slot (slot_after_events events s)) → Some new ≡ option_map kept_of_slot (open_slot (e ∷ past))
 after-answer e past events node old new reply step is tells = rw (reply, step) (answer-by (open_slot past) events old new is tells)
 
-hurt-by : (o : Option Slot) (old : KeptSlot) → Some old ≡ option_map kept_slot o → Some (record old { is_hurt = true }) ≡ option_map kept_slot (option_map slot_after_hurt o)
+hurt-by : (o : Option Slot) (old : KeptSlot) → Some old ≡ option_map kept_of_slot o → Some (record old { is_hurt = true }) ≡ option_map kept_of_slot (option_map slot_after_hurt o)
 hurt-by None old is = absurd (cc)
-hurt-by (Some s) old is = rw (some-same old (kept_slot s) is) refl
+hurt-by (Some s) old is = rw (some-same old (kept_of_slot s) is) refl
 
 pub after-hurt : (e : LogEntry) (past : List LogEntry) (events : List Event) (bytes : List ℕ) (old : KeptSlot) → e.reply ≡ Done events → e.step ≡ Hurt bytes
-    → Some old ≡ option_map kept_slot (open_slot past) → Some (record old { is_hurt = true }) ≡ option_map kept_slot (open_slot (e ∷ past))
+    → Some old ≡ option_map kept_of_slot (open_slot past) → Some (record old { is_hurt = true }) ≡ option_map kept_of_slot (open_slot (e ∷ past))
 after-hurt e past events bytes old reply step is = rw (reply, step) (hurt-by (open_slot past) old is)

@@ -19,7 +19,7 @@ use Rattle.lin_tool.specs.campaign.Rows.{places_of, rows}
 use Rattle.lin_tool.specs.campaign.Shown.{RowData}
 use Rattle.lin_tool.specs.campaign.Singles.{faults_at, only_single}
 use Rattle.lin_tool.specs.campaign.Steps.{AreRowsOf, is_page}
-use Rattle.lin_tool.specs.campaign.Written.{AreRowsFrom, IsRowOf, Stage, rows_with_faults, plays_in_output, row_as, row_in_output}
+use Rattle.lin_tool.specs.campaign.Written.{AreRowsFrom, IsRowOf, PlaySetup, rows_with_faults, plays_in_output, row_as, row_in_output}
 use Rattle.lin_tool.specs.declared.campaign.plan.RowFormat.{RowFormat}
 use Rattle.lin_tool.specs.declared.campaign.plan.RowFormat.TheVariants.{Text, Csv, Jsonl, Junit, Html}
 use Rattle.lin_tool.specs.declared.campaign.rows.Rows.{Rows}
@@ -93,7 +93,7 @@ play-by strict c o cap fs ls (Err n) come =
       },
     )
 
-pub a-row : (on : Stage) (ss : List Single) (n : ℕ) (places : List ℕ) → (p : RowData) × IsRowOf on ss n places p
+pub a-row : (on : PlaySetup) (ss : List Single) (n : ℕ) (places : List ℕ) → (p : RowData) × IsRowOf on ss n places p
 a-row on ss n places =
     let fs = faults_at ss places in
     let play = play-by on.strict on.cluster on.opening on.capacity fs on.lines (come_to_under on.cluster on.opening on.capacity fs on.lines) refl in (
@@ -117,23 +117,23 @@ a-row on ss n places =
       },
     )
 
-pub some-rows : (on : Stage) (ss : List Single) (t : Rows) (n m : ℕ) → (ps : List RowData) × AreRowsOf on ss t n ps × (length ps ≡ m)
+pub some-rows : (on : PlaySetup) (ss : List Single) (t : Rows) (n m : ℕ) → (ps : List RowData) × AreRowsOf on ss t n ps × (length ps ≡ m)
 some-rows on ss t n zero = ([], tt, refl)
 some-rows on ss t n (suc m) =
     let p = a-row on ss n (places_of t n) in
     let more = some-rows on ss t (suc n) m in (p.0 ∷ more.0, (p.1, more.1), ap suc more.2)
 
 -- ---- rows in order
-pub rows-append : (on : Stage) (ss : List Single) (t : Rows) (n m : ℕ) (ps qs : List RowData) → m ≡ length ps + n → AreRowsOf on ss t n ps → AreRowsOf on ss t m qs → AreRowsOf on ss t n (ps ++ qs)
+pub rows-append : (on : PlaySetup) (ss : List Single) (t : Rows) (n m : ℕ) (ps qs : List RowData) → m ≡ length ps + n → AreRowsOf on ss t n ps → AreRowsOf on ss t m qs → AreRowsOf on ss t n (ps ++ qs)
 rows-append on ss t n m [] qs e h k = let same : m ≡ n = omega (arith, e) in subst (λ i. AreRowsOf on ss t i qs) same k
 rows-append on ss t n m (p ∷ ps) qs e h k = (h.0, rows-append on ss t (suc n) m ps qs (omega (arith, e)) h.1 k)
 
-pub rows-push : (on : Stage) (ss : List Single) (t : Rows) (n m : ℕ) (ps : List RowData) (p : RowData) → m ≡ length ps + n → AreRowsOf on ss t n ps → IsRowOf on ss m (places_of t m) p
+pub rows-push : (on : PlaySetup) (ss : List Single) (t : Rows) (n m : ℕ) (ps : List RowData) (p : RowData) → m ≡ length ps + n → AreRowsOf on ss t n ps → IsRowOf on ss m (places_of t m) p
     → AreRowsOf on ss t n (ps ++ p ∷ [])
 rows-push on ss t n m ps p e h k = rows-append on ss t n m ps (p ∷ []) e h (k, tt)
 
 -- rows of a table are a part of its list
-rows-listed : (on : Stage) (ss : List Single) (t : Rows) (all : List (List ℕ)) (n : ℕ) (ps : List RowData) → all ≡ rows t → n + length ps ≤ length all → AreRowsOf on ss t n ps
+rows-listed : (on : PlaySetup) (ss : List Single) (t : Rows) (all : List (List ℕ)) (n : ℕ) (ps : List RowData) → all ≡ rows t → n + length ps ≤ length all → AreRowsOf on ss t n ps
     → AreRowsFrom on ss n (take (length ps) (drop n all)) ps
 rows-listed on ss t all n [] e few h = tt
 rows-listed on ss t all n (p ∷ ps) e few h =
@@ -141,7 +141,7 @@ rows-listed on ss t all n (p ∷ ps) e few h =
     rw (drop-cons all n [] there)
     (subst (λ (l : List (List ℕ)). IsRowOf on ss n (get_or l n []) p) (sym e) h.0, rows-listed on ss t all (suc n) ps e (omega (arith, few)) h.1)
 
-pub part-listed : (on : Stage) (ss : List Single) (t : Rows) (n m : ℕ) (ps : List RowData) → m ≡ length ps → n + m ≤ length (rows t) → AreRowsOf on ss t n ps
+pub part-listed : (on : PlaySetup) (ss : List Single) (t : Rows) (n m : ℕ) (ps : List RowData) → m ≡ length ps → n + m ≤ length (rows t) → AreRowsOf on ss t n ps
     → AreRowsFrom on ss n (take m (drop n (rows t))) ps
 part-listed on ss t n m ps e few h =
     subst (λ k. AreRowsFrom on ss n (take k (drop n (rows t))) ps) (sym e) (rows-listed on ss t (rows t) n ps refl (omega (arith, e, few)) h)
@@ -158,14 +158,14 @@ above-zero : (n : ℕ) (b : Bool) → nat_lt 0 (suc n) ≡ b → b ≡ true
 above-zero n true e = refl
 above-zero n false e = let none : suc n ≤ 0 = grind (arith, common_steps) in absurd (omega (arith, none))
 
-number-not : (on : Stage) (ss : List Single) (n : ℕ) (places : List ℕ) (p : RowData) → 1 ≤ n → IsRowOf on ss n places p → (p.number == 0) ≡ false
+number-not : (on : PlaySetup) (ss : List Single) (n : ℕ) (places : List ℕ) (p : RowData) → 1 ≤ n → IsRowOf on ss n places p → (p.number == 0) ≡ false
 number-not on ss n places p some h = ap (λ m. m == 0) h.number ∙ not-zero n some
 
 counted-if : (b : Bool) (p : RowData) (ps qs : List RowData) → b ≡ false → ps ≡ qs → (if not b then p ∷ ps else ps) ≡ p ∷ qs
 counted-if true p ps qs e same = absurd (cc)
 counted-if false p ps qs e same = ap (λ l. p ∷ l) same
 
-pub counted-rows : (on : Stage) (ss : List Single) (t : Rows) (n : ℕ) (ps : List RowData) → 1 ≤ n → AreRowsOf on ss t n ps → rows_with_faults ps ≡ ps
+pub counted-rows : (on : PlaySetup) (ss : List Single) (t : Rows) (n : ℕ) (ps : List RowData) → 1 ≤ n → AreRowsOf on ss t n ps → rows_with_faults ps ≡ ps
 counted-rows on ss t n [] some h = refl
 counted-rows on ss t n (p ∷ ps) some h =
     counted-if (p.number == 0) p (rows_with_faults ps) ps (number-not on ss n (places_of t n) p some h.0) (counted-rows on ss t (suc n) ps (omega arith) h.1)
@@ -174,7 +174,7 @@ shown-row : (format : RowFormat) (script : List ℕ) (c : Parts) (calm p : RowDa
     → row_in_output format script c calm p ≡ row_as format script c calm.row.lost calm.row.refused p
 shown-row format script c calm p e = ap (λ b. if b then row_as format script c [] [] p else row_as format script c calm.row.lost calm.row.refused p) e
 
-shown-rows : (on : Stage) (ss : List Single) (t : Rows) (n : ℕ) (ps : List RowData) (format : RowFormat) (script : List ℕ) (c : Parts) (calm : RowData) → 1 ≤ n → AreRowsOf on ss t n ps
+shown-rows : (on : PlaySetup) (ss : List Single) (t : Rows) (n : ℕ) (ps : List RowData) (format : RowFormat) (script : List ℕ) (c : Parts) (calm : RowData) → 1 ≤ n → AreRowsOf on ss t n ps
     → flat_map (row_in_output format script c calm) ps ≡ flat_map (row_as format script c calm.row.lost calm.row.refused) ps
 shown-rows on ss t n [] format script c calm some h = refl
 shown-rows on ss t n (p ∷ ps) format script c calm some h =
@@ -191,12 +191,12 @@ listed-calm Jsonl calm ps e = refl
 listed-calm Junit calm ps e = refl
 listed-calm Html calm ps e = ap (λ n. if n == 0 then calm ∷ ps else calm ∷ calm ∷ ps) e
 
-listed-page : (on : Stage) (ss : List Single) (t : Rows) (n : ℕ) (calm : RowData) (ps : List RowData) → 1 ≤ n → AreRowsOf on ss t n ps → plays_in_output Html calm ps ≡ calm ∷ ps
+listed-page : (on : PlaySetup) (ss : List Single) (t : Rows) (n : ℕ) (calm : RowData) (ps : List RowData) → 1 ≤ n → AreRowsOf on ss t n ps → plays_in_output Html calm ps ≡ calm ∷ ps
 listed-page on ss t n calm [] some h = refl
 listed-page on ss t n calm (p ∷ ps) some h = ap (λ b. if b then p ∷ ps else calm ∷ p ∷ ps) (number-not on ss n (places_of t n) p some h.0)
 
 -- without row 0
-rest-text : (on : Stage) (ss : List Single) (t : Rows) (n : ℕ) (calm : RowData) (ps : List RowData) (format : RowFormat) (script : List ℕ) (c : Parts) → calm.number ≡ 0 → 1 ≤ n → AreRowsOf on ss t n ps
+rest-text : (on : PlaySetup) (ss : List Single) (t : Rows) (n : ℕ) (calm : RowData) (ps : List RowData) (format : RowFormat) (script : List ℕ) (c : Parts) → calm.number ≡ 0 → 1 ≤ n → AreRowsOf on ss t n ps
     → flat_map (row_in_output format script c calm) (plays_in_output format calm ps)
     ≡ (if is_page format then row_as format script c [] [] calm else []) ++ flat_map (row_as format script c calm.row.lost calm.row.refused) ps
 rest-text on ss t n calm ps Text script c e some h = shown-rows on ss t n ps Text script c calm some h
@@ -208,7 +208,7 @@ rest-text on ss t n calm ps Html script c e some h =
     ∙ ap₂ (λ a b. a ++ b) (shown-calm Html script c calm e) (shown-rows on ss t n ps Html script c calm some h)
 
 -- all rows of a part, which has rows from one up to another, where these are those with faults
-pub record AreAll (on : Stage) (ss : List Single) (t : Rows) (from to : ℕ) (calm : RowData) (ps all : List RowData) : Type 0 where
+pub record AreAll (on : PlaySetup) (ss : List Single) (t : Rows) (from to : ℕ) (calm : RowData) (ps all : List RowData) : Type 0 where
   pub listed_are : AreRowsFrom on ss from (take (to - from) (drop from (rows t))) all
   pub counted_are : rows_with_faults all ≡ ps
   pub text : (format : RowFormat) (script : List ℕ) (c : Parts)
@@ -216,7 +216,7 @@ pub record AreAll (on : Stage) (ss : List Single) (t : Rows) (from to : ℕ) (ca
       ≡ (if ((from == 0) && nat_lt 0 to) || is_page format then row_as format script c [] [] calm else [])
       ++ flat_map (row_as format script c calm.row.lost calm.row.refused) ps
 
-undisturbed-row : (on : Stage) (ss : List Single) (calm : RowData) → IsRowOf on [] 0 [] calm → IsRowOf on ss 0 [] calm
+undisturbed-row : (on : PlaySetup) (ss : List Single) (calm : RowData) → IsRowOf on [] 0 [] calm → IsRowOf on ss 0 [] calm
 undisturbed-row on ss calm h = record {
   it = h.it;
   comes = h.comes;
@@ -228,7 +228,7 @@ undisturbed-row on ss calm h = record {
   judgements = h.judgements;
 }
 
-pub all-rows : (on : Stage) (ss : List Single) (t : Rows) (from to : ℕ) (calm : RowData) (ps : List RowData) → IsRowOf on [] 0 [] calm → AreRowsOf on ss t (max from 1) ps
+pub all-rows : (on : PlaySetup) (ss : List Single) (t : Rows) (from to : ℕ) (calm : RowData) (ps : List RowData) → IsRowOf on [] 0 [] calm → AreRowsOf on ss t (max from 1) ps
     → length ps ≡ to - max from 1 → from ≤ to → to ≤ length (rows t) → (all : List RowData) × AreAll on ss t from to calm ps all
 all-rows on ss t zero zero calm [] calm-is h long order few = (
   [],

@@ -5,17 +5,17 @@ use Rattle.std.specs.List.{onto_first, slice_split}
 use Rattle.std.proofs.lemmas.List.Splits.{slice_split-cons_no, slice_split-cons_yes}
 use Rattle.lin_parts.specs.declared.parts.Parts.{Parts}
 use Rattle.lin_bench.specs.declared.faults.SlotFault.{SlotFault}
-use Rattle.lin_tool.specs.FaultText.{around, read_all, read_fault, with_fault}
+use Rattle.lin_tool.specs.FaultText.{split_around, read_all, read_fault, with_fault}
 use Rattle.lin_tool.specs.declared.fault_text.FaultReason.{FaultReason}
 
 -- ---- around a byte
 abbrev pub behind : List ℕ → Option (List ℕ × List ℕ) → Option (List ℕ × List ℕ)
 behind xs o = option_map (λ (parts : List ℕ × List ℕ). (xs ++ parts.0, parts.1)) o
 
-around-no : (mark x : ℕ) (xs : List ℕ) → (x == mark) ≡ false → around mark (x ∷ xs) ≡ option_map (λ (parts : List ℕ × List ℕ). (x ∷ parts.0, parts.1)) (around mark xs)
+around-no : (mark x : ℕ) (xs : List ℕ) → (x == mark) ≡ false → split_around mark (x ∷ xs) ≡ option_map (λ (parts : List ℕ × List ℕ). (x ∷ parts.0, parts.1)) (split_around mark xs)
 around-no mark x xs h = rw h refl
 
-around-yes : (mark x : ℕ) (xs : List ℕ) → (x == mark) ≡ true → around mark (x ∷ xs) ≡ Some ([], xs)
+around-yes : (mark x : ℕ) (xs : List ℕ) → (x == mark) ≡ true → split_around mark (x ∷ xs) ≡ Some ([], xs)
 around-yes mark x xs h = rw h refl
 
 -- ---- splits
@@ -27,12 +27,12 @@ pieces-more : (x : ℕ) (o : Option (List ℕ × List ℕ)) (xs : List ℕ) → 
 pieces-more x None xs = refl
 pieces-more x (Some parts) xs = refl
 
-split-by : (x : ℕ) (xs : List ℕ) (b : Bool) → (x == 43) ≡ b → slice_split (λ y. y == 43) xs ≡ pieces (around 43 xs) xs → slice_split (λ y. y == 43) (x ∷ xs) ≡ pieces (around 43 (x ∷ xs)) (x ∷ xs)
+split-by : (x : ℕ) (xs : List ℕ) (b : Bool) → (x == 43) ≡ b → slice_split (λ y. y == 43) xs ≡ pieces (split_around 43 xs) xs → slice_split (λ y. y == 43) (x ∷ xs) ≡ pieces (split_around 43 (x ∷ xs)) (x ∷ xs)
 split-by x xs true h e = slice_split-cons_yes (λ y. y == 43) x xs h ∙ ap (λ o. pieces o (x ∷ xs)) (sym (around-yes 43 x xs h))
 split-by x xs false h e =
-    slice_split-cons_no (λ y. y == 43) x xs h ∙ ap (onto_first x) e ∙ pieces-more x (around 43 xs) xs ∙ ap (λ o. pieces o (x ∷ xs)) (sym (around-no 43 x xs h))
+    slice_split-cons_no (λ y. y == 43) x xs h ∙ ap (onto_first x) e ∙ pieces-more x (split_around 43 xs) xs ∙ ap (λ o. pieces o (x ∷ xs)) (sym (around-no 43 x xs h))
 
-pub split-around : (text : List ℕ) → slice_split (λ b. b == 43) text ≡ pieces (around 43 text) text
+pub split-around : (text : List ℕ) → slice_split (λ b. b == 43) text ≡ pieces (split_around 43 text) text
 split-around [] = refl
 split-around (x ∷ xs) = split-by x xs (x == 43) refl (split-around xs)
 
@@ -45,11 +45,11 @@ rest-more : (x : ℕ) (o : Option (List ℕ × List ℕ)) → rest_length (optio
 rest-more x None = refl
 rest-more x (Some parts) = refl
 
-shorter-by : (mark x : ℕ) (xs : List ℕ) (b : Bool) → (x == mark) ≡ b → rest_length (around mark xs) ≤ length xs → rest_length (around mark (x ∷ xs)) ≤ suc (length xs)
+shorter-by : (mark x : ℕ) (xs : List ℕ) (b : Bool) → (x == mark) ≡ b → rest_length (split_around mark xs) ≤ length xs → rest_length (split_around mark (x ∷ xs)) ≤ suc (length xs)
 shorter-by mark x xs true h e = let is = ap rest_length (around-yes mark x xs h) in omega arith
-shorter-by mark x xs false h e = let is = ap rest_length (around-no mark x xs h) ∙ rest-more x (around mark xs) in omega arith
+shorter-by mark x xs false h e = let is = ap rest_length (around-no mark x xs h) ∙ rest-more x (split_around mark xs) in omega arith
 
-pub shorter : (mark : ℕ) (text : List ℕ) → rest_length (around mark text) ≤ length text
+pub shorter : (mark : ℕ) (text : List ℕ) → rest_length (split_around mark text) ≤ length text
 shorter mark [] = omega arith
 shorter mark (x ∷ xs) = shorter-by mark x xs (x == mark) refl (shorter mark xs)
 

@@ -14,7 +14,7 @@ use Rattle.lin_parts.specs.declared.parts.Parts.{Parts}
 use Rattle.lin_bench.specs.declared.line.ScriptLine.{ScriptLine}
 use Rattle.lin_values.specs.Coded.{CodedData}
 use Rattle.lin_tool.specs.Playing.{IsUnread, PlaysScriptUnder, Says, WritesPlayed, judgements_with_meanings, missed_in, play_fault, run_as, told_text}
-use Rattle.lin_tool.specs.Playing.{fails as is_failed}
+use Rattle.lin_tool.specs.Playing.{play_fails as is_failed}
 use Rattle.lin_tool.specs.declared.fault.Fault.{Fault}
 use Rattle.lin_tool.specs.declared.fault.Fault.TheVariants.{BadBenchLine, OutOfMemory, SlotLimit, Unmet, WriteFailed}
 use Rattle.lin_tool.specs.declared.formats.Format.{Format}

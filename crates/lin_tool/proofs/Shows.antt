@@ -15,7 +15,7 @@ use Rattle.lin_export.specs.declared.fault.ExportFault.{ExportFault}
 use Rattle.lin_export.specs.declared.fault.ExportFault.TheVariants as export
 use Rattle.lin_values.specs.Coded.{CodedData}
 use Rattle.lin_tool.specs.Formats.{Begins, export_fault}
-use Rattle.lin_tool.specs.Replaying.{IsLogOf, Replays, Stops, fault_of_replay}
+use Rattle.lin_tool.specs.Replaying.{IsLogOf, Replays, StopsReplay, fault_of_replay}
 use Rattle.lin_tool.specs.declared.formats.Format.{Format}
 use Rattle.lin_tool.specs.declared.formats.Format.TheVariants.{Log}
 
@@ -49,7 +49,7 @@ log-of c opening capacity (Some b) bytes log is said script made =
 -- writing stopped early
 pub stopped : (format : Format) (k : Option CodedData) (c : Parts) (opening capacity : ℕ)
     (told old new : Option (List ℕ)) (fault : ExportFault)
-    → (format ≡ Log → fault ≡ export.WriteFailed) → Stops format k c opening capacity told old new
+    → (format ≡ Log → fault ≡ export.WriteFailed) → StopsReplay format k c opening capacity told old new
     → Replays format k c opening capacity (Err (export_fault fault)) told old new
 stopped format k c opening capacity told old new export.OutOfMemory memory stops =
     inr ((λ is. let bad : export.OutOfMemory ≡ export.WriteFailed = memory is in cc), stops)

@@ -2,6 +2,7 @@
 -- and with what is odd in a text in which nothing is wrong.
 use Rattle.std.specs.Prelude.{◌≡◌, ℕ, List, [], ◌++◌, map, is_some, Option, Some, None, option_map}
 use Rattle.std.specs.Prelude.{Bool, true, ◌||◌, if◌then◌else◌, IsPermutation, IsSorted, Result, Ok, Err}
+use Rattle.std.specs.Borrow.{Bor}
 use Rattle.std.specs.Option.{option_map_or}
 use Rattle.lin_ldf.specs.Describes.{Describes}
 use Rattle.lin_ldf.specs.Symbols.{Symbol, symbols_in}
@@ -14,6 +15,7 @@ use Rattle.lin_cluster.specs.declared.finding.Finding.{Finding}
 use Rattle.lin_cluster.specs.declared.lints.configurable.Configurable.{Configurable}
 use Rattle.lin_parts.specs.declared.parts.Parts.{Parts}
 use Rattle.lin_field.specs.Checks.{remark, remark_cmp}
+use Rattle.lin_field.specs.declared.field_check.Checked.{Checked}
 use Rattle.lin_field.specs.declared.field_check.Remark.{Remark}
 use Rattle.lin_tool.specs.Clusters.{IsClusterOf, TextFaults}
 use Rattle.lin_tool.specs.declared.coding.Described.{Described}
@@ -71,6 +73,13 @@ sections_read wide x d ts =
       found = unknown_read (is_some wide || x.is_linted) ts ++ attributes_read x.is_linted d ts;
     }
 
+-- the same, where the names of the wide signals are lent
+abbrev pub codings_in : Option (Bor (List Name)) → Bool → List Symbol → Option Codings
+codings_in wide is_read ts = codings_read (option_map (λ names. names.now) wide) is_read ts
+
+abbrev pub sections_in : Option (Bor (List Name)) → Extras → Description → List Symbol → ExtraSections
+sections_in wide x d ts = sections_read (option_map (λ names. names.now) wide) x d ts
+
 -- what of that is kept, and not read for a lint alone
 abbrev pub codings_kept : Encodings → Option Codings → Option Codings
 codings_kept Unread k = None
@@ -106,6 +115,11 @@ abbrev pub with_lints : Description → List Name → Option (List Configurable)
     → List Remark → List Remark
 with_lints d e cs k rs = rs ++ map (remark true) (lints_told d e cs k)
 
+-- these are the warnings with that, in some order
+abbrev pub AddsLints : Description → List Name → Option (List Configurable) → Option (Bor Codings)
+    → List Remark → List Remark → Type 0
+AddsLints d e cs k rs all = IsPermutation (with_lints d e cs (option_map (λ codings. codings.now) k) rs) all
+
 -- the cluster with the requests of its node configuration commands, where these are sent
 abbrev pub configured_read : Bool → Parts → List Symbol → Parts
 configured_read is_configured c ts = if is_configured then configured_by c ts else c
@@ -113,6 +127,12 @@ configured_read is_configured c ts = if is_configured then configured_by c ts el
 -- what is wrong with the commands, where these are sent
 abbrev pub configuring_told : Bool → Parts → List Symbol → List Finding
 configuring_told is_configured c ts = if is_configured then warnings_by c ts else []
+
+-- these are the warnings of a checked cluster with that, in some order
+abbrev pub AddsCommands : Bool → Checked → List Symbol → List Remark → Type 0
+AddsCommands is_configured checked ts all =
+    IsPermutation
+    (checked.warnings ++ map (remark true) (configuring_told is_configured checked.cluster ts)) all
 
 -- these are warnings with what is wrong with encodings: by place, then by number
 pub record AreWarnings (e : Encodings) (c : Parts) (k : Option Codings) (rs warned : List Remark)
@@ -157,3 +177,10 @@ pub record IsCodedCluster (x : Extras) (text : List ℕ) (d : Described) (warned
 abbrev pub AnswersCoded : Extras → Result Described Fault → List Remark → List ℕ → Type 0
 AnswersCoded x (Ok d) warned text = IsCodedCluster x text d warned
 AnswersCoded x (Err fault) warned text = TextFaults fault text
+
+-- what is answered to what was parsed of an LDF text, whose commands are read in this text
+abbrev pub AnswersParsed : Extras → Result (Description × ExtraSections) Fault → List ℕ → Result Described Fault
+    → List Remark → Type 0
+AnswersParsed x parsed text result warned =
+    (source : List ℕ) → (x.is_configured ≡ true → text ≡ source) → AnswersSections x parsed source
+    → AnswersCoded x result warned source

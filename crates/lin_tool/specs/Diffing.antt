@@ -94,6 +94,9 @@ ReadsLdf Field (Err fault) text = FieldFaults fault text
 abbrev pub differences_of : ComparedData → ComparedData → List DifferenceData
 differences_of old new = all_differences (all_things old (all_renames old new)) (all_things new no_renames)
 
+abbrev pub ldf_differences : ReadLdf → ReadLdf → List DifferenceData
+ldf_differences old new = differences_of (read_data old) (read_data new)
+
 -- one of these differences is of these classes
 abbrev pub is_any_listed : Classes → List DifferenceData → Bool
 is_any_listed classes ds = list_any (λ d. lists_class classes d.class) ds

@@ -28,11 +28,11 @@ abbrev pub highest_slot : ℕ
 highest_slot = 999999
 
 -- a text before and after the first byte that is this one, if there is one
-abbrev pub around : ℕ → List ℕ → Option (List ℕ × List ℕ)
-around mark [] = None
-around mark (x ∷ xs) =
+abbrev pub split_around : ℕ → List ℕ → Option (List ℕ × List ℕ)
+split_around mark [] = None
+split_around mark (x ∷ xs) =
     if x == mark then Some ([], xs)
-    else option_map (λ (parts : List ℕ × List ℕ). (x ∷ parts.0, parts.1)) (around mark xs)
+    else option_map (λ (parts : List ℕ × List ℕ). (x ∷ parts.0, parts.1)) (split_around mark xs)
 
 -- what stands after these first bytes, if a text begins with them
 abbrev pub after : List ℕ → List ℕ → Option (List ℕ)
@@ -45,20 +45,20 @@ behind_dot None = None
 behind_dot (Some (first, rest)) = option_map (λ last. (first, last)) (after (codes ".") rest)
 
 abbrev pub around_dots : List ℕ → Option (List ℕ × List ℕ)
-around_dots text = behind_dot (around 46 text)
+around_dots text = behind_dot (split_around 46 text)
 
 abbrev pub slot_number : List ℕ → Result ℕ Reason
 slot_number f = number_up_to highest_slot f
 
 -- `SLOT`, `SLOT..`, or `FIRST..LAST`
-abbrev pub end_of : List ℕ → ℕ → List ℕ → Result (ℕ × Option ℕ) Reason
-end_of text first f =
+abbrev pub slots_up_to : List ℕ → ℕ → List ℕ → Result (ℕ × Option ℕ) Reason
+slots_up_to text first f =
     if length f == 0 then Ok (first, None)
     else slot_number f
     >>= (λ last. if nat_lt last first then Err (NoRange text) else Ok (first, Some last))
 
 abbrev pub slots_between : List ℕ → List ℕ → List ℕ → Result (ℕ × Option ℕ) Reason
-slots_between text first last = slot_number first >>= (λ n. end_of text n last)
+slots_between text first last = slot_number first >>= (λ n. slots_up_to text n last)
 
 abbrev pub slots_of : List ℕ → Option (List ℕ × List ℕ) → Result (ℕ × Option ℕ) Reason
 slots_of text None = slot_number text >>= (λ n. Ok (n, Some n))
@@ -75,8 +75,8 @@ as_field (Err why) = Err (Field why)
 abbrev pub in_slots : ℕ × Option ℕ → FaultKind → SlotFault
 in_slots slots kind = record { first = slots.0; last = slots.1; kind = kind }
 
-abbrev pub damage : List ℕ → Result SlotFault Reason
-damage slots = read_slots slots >>= (λ s. Ok (in_slots s Damage))
+abbrev pub damage_fault : List ℕ → Result SlotFault Reason
+damage_fault slots = read_slots slots >>= (λ s. Ok (in_slots s Damage))
 
 abbrev pub absence : Parts → List ℕ → List ℕ → Result SlotFault Reason
 absence c slots name =
@@ -88,7 +88,7 @@ absence_of c slots (Some name) = if length name == 0 then Err Form else as_field
 
 abbrev pub of_kind : Parts → List ℕ → List ℕ → Result SlotFault FaultReason
 of_kind c slots kind =
-    if bytes_eq kind (codes "damage") then as_field (damage slots)
+    if bytes_eq kind (codes "damage") then as_field (damage_fault slots)
     else absence_of c slots (after (codes "absent:") kind)
 
 -- slots without a first one
@@ -100,7 +100,7 @@ of_parts c None = Err Form
 of_parts c (Some (slots, kind)) = if lacks_slot slots then Err Form else of_kind c slots kind
 
 abbrev pub read_fault : Parts → List ℕ → Result SlotFault FaultReason
-read_fault c text = of_parts c (around 58 text)
+read_fault c text = of_parts c (split_around 58 text)
 
 -- faults with `+` between two of them; the first that isn't valid, and why it isn't
 abbrev pub with_fault : List ℕ → Result SlotFault FaultReason

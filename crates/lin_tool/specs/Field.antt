@@ -19,7 +19,6 @@ use Rattle.lin_field.specs.declared.field_check.FieldFault.TheVariants as check
 use Rattle.lin_field.specs.declared.field_check.Remark.{Remark}
 use Rattle.lin_field.specs.declared.field_text.FieldText.{FieldText}
 use Rattle.lin_field.specs.declared.normalizing.Normalized.{Normalized}
-use Rattle.lin_parts.specs.declared.description.Description.{Description}
 use Rattle.lin_text.specs.Written.{WritesText}
 use Rattle.lin_tool.specs.Coding.{coded_read, configured_read, configuring_told}
 use Rattle.lin_tool.specs.Coding.{with_lints, sections_read, AreWarnings}

@@ -59,11 +59,15 @@ case_text file c log j =
     case_name file j.line (what_text c j.judged)
     ++ case_end (placed_missed file c log j) (found_text c j.judged)
 
+-- the cases, and what is after them
+abbrev pub cases_text : List ℕ → Parts → List LogEntry → List Judgement → List ℕ
+cases_text file c log js = flat_map (case_text file c log) js ++ codes "</testsuite>\n</testsuites>\n"
+
 -- the judgements on this log, under the script's name
 abbrev pub junit : List ℕ → Parts → List LogEntry → List Judgement → List ℕ
 junit file c log js =
     junit_head file js
-    ++ (flat_map (case_text file c log) js ++ codes "</testsuite>\n</testsuites>\n")
+    ++ cases_text file c log js
 
 -- what is wrong, after the number of the line, where it is of one
 abbrev pub error_name : Option ℕ → List ℕ → List ℕ

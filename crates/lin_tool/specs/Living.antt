@@ -5,6 +5,7 @@ use Rattle.lin_parts.specs.declared.parts.Parts.{Parts}
 use Rattle.lin_values.specs.Coded.{CodedData}
 use Rattle.lin_bench.specs.Rules.{no_rules}
 use Rattle.lin_bench.specs.Slots.{slot_limit}
+use Rattle.lin_export.specs.Jsonl.{run_line}
 use Rattle.lin_live.specs.Serving.{IsLive}
 use Rattle.lin_live.specs.Told.{HandData, IsFull, reply}
 use Rattle.lin_live.specs.declared.answer_format.AnswerFormat.{AnswerFormat}
@@ -52,6 +53,10 @@ abbrev pub BeginsAnswers : AnswerFormat → List ℕ → Result Unit Fault → O
 BeginsAnswers Jsonl run (Ok done) old new = Appends old new run
 BeginsAnswers Jsonl run (Err fault) old new = Begins old new run
 BeginsAnswers format run result old new = (result ≡ Ok tt) × Keeps old new
+
+-- the line of the run of what was opened
+abbrev pub opened_line : Opened → List ℕ
+opened_line o = run_line o.cluster o.table (room_for o.settings.capacity)
 
 -- how a bench ends on which all lines were answered: its answers have told which lines were bad, and
 -- which expectations weren't met

@@ -4,23 +4,30 @@ use Rattle.std.specs.Prelude.{Option}
 use Rattle.std.specs.List.{count_by}
 use Rattle.std.specs.Option.{option_map_or}
 use Rattle.lin_parts.specs.declared.parts.Parts.{Parts}
+use Rattle.lin_core.specs.Core.{CoreData}
 use Rattle.lin_core.specs.declared.log.LogEntry.{LogEntry}
 use Rattle.lin_values.specs.Coded.{CodedData}
 use Rattle.lin_bench.specs.Played.{is_unmet}
 use Rattle.lin_bench.specs.Texts.{found_text, what_text}
 use Rattle.lin_bench.specs.declared.got.Judgement.{Judgement}
-use Rattle.lin_export.specs.Jsonl.{end_line, objects_of, run_line, unmet_line}
+use Rattle.lin_export.specs.Jsonl.{IsObjectTrackOf, ObjectTrackData, end_line, objects_of, run_line, unmet_line}
+use Rattle.lin_export.specs.WhereTold.{given_coding}
 use Rattle.lin_export.specs.declared.jsonl.Counts.{Counts}
 use Rattle.lin_tool.specs.Page.{events_so, is_lost_event, is_refusal}
 use Rattle.lin_tool.specs.Tally.{waiting_in}
+use Rattle.lin_tool.specs.declared.formats.Shown.{Shown}
 
 -- a failed check of a script of this name, made after a history
-abbrev pub check_object : Parts → List ℕ → List LogEntry → Judgement → List ℕ
-check_object c script past j =
+abbrev pub failed_check_object : Parts → List ℕ → List LogEntry → Judgement → List ℕ
+failed_check_object c script past j =
     if is_unmet j.judged
     then unmet_line c past script j.line (what_text c j.judged)
     (option_map_or (λ text. text) (found_text c j.judged) [])
     else []
+
+-- what holds of each history of which this is the track
+abbrev pub AfterTrack : Parts → ObjectTrackData → (List LogEntry → Type 0) → Type 0
+AfterTrack c track Holds = (past : List LogEntry) → IsObjectTrackOf c past track → Holds past
 
 -- the objects of the entries from one on, and each failed check after the entries that the log had then
 abbrev pub checked_objects : Parts → Option CodedData → List ℕ → List LogEntry → ℕ → List Judgement → List ℕ
@@ -28,7 +35,7 @@ checked_objects c k script log from [] = objects_of c k (reverse (take from log)
 checked_objects c k script log from (j ∷ js) =
     let end = max (min j.entries (length log)) from
     in objects_of c k (reverse (take from log)) (drop from (take end log))
-    ++ (check_object c script (reverse (take end log)) j ++ checked_objects c k script log end js)
+    ++ (failed_check_object c script (reverse (take end log)) j ++ checked_objects c k script log end js)
 
 -- a run in numbers
 abbrev pub counts_of : Parts → List LogEntry → List Judgement → Counts
@@ -45,3 +52,12 @@ abbrev pub objects : Parts → Option CodedData → ℕ → ℕ → List ℕ →
 objects c k opening capacity script log js =
     run_line c opening capacity
     ++ (checked_objects c k script log 0 js ++ end_line c (reverse log) (counts_of c log js))
+
+-- the same of a core whose log is shown so, in a play of a script of this name
+abbrev pub shown_objects : Shown → List ℕ → CoreData → List ℕ
+shown_objects s script core =
+    objects core.cluster (given_coding s.coded) s.table s.capacity script core.log s.judgements.now
+
+abbrev pub shown_checked : Shown → List ℕ → CoreData → List ℕ
+shown_checked s script core =
+    checked_objects core.cluster (given_coding s.coded) script core.log 0 s.judgements.now

@@ -8,6 +8,7 @@ use Rattle.std.specs.Fmt.{decimal}
 use Rattle.lin_frame.specs.Words.{numbers}
 use Rattle.lin_parts.specs.Cluster.{frames_with, signal_of}
 use Rattle.lin_parts.specs.declared.parts.Parts.{Parts}
+use Rattle.lin_core.specs.Core.{CoreData}
 use Rattle.lin_core.specs.History.{events, time}
 use Rattle.lin_core.specs.Tables.{look_number, look_of, look_word, looks}
 use Rattle.lin_core.specs.declared.event.Event.{Event}
@@ -21,6 +22,7 @@ use Rattle.lin_export.specs.ListedFrames.{frame_listing}
 use Rattle.lin_export.specs.Listing.{listing}
 use Rattle.lin_export.specs.ListedSlots.{slots}
 use Rattle.lin_export.specs.FirstSlots.{first_slots}
+use Rattle.lin_export.specs.WhereTold.{given_coding}
 use Rattle.lin_bench.specs.Played.{is_unmet}
 use Rattle.lin_bench.specs.declared.got.Judgement.{Judgement}
 use Rattle.lin_tool.specs.PageFields.{field, guarded_text, is_inert}
@@ -28,6 +30,7 @@ use Rattle.lin_tool.specs.PageMeanings.{coded_lines}
 use Rattle.lin_tool.specs.Placing.{missed_line}
 use Rattle.lin_values.specs.Coded.{CodedData}
 use Rattle.lin_tool.specs.declared.page.pieces.TheConstants.{HEAD, MIDDLE, TAIL}
+use Rattle.lin_tool.specs.declared.formats.Shown.{Shown}
 
 -- what the data begin with: the version of these lines, the LDF's name and the speed
 abbrev pub data_head : Parts → List ℕ → List ℕ
@@ -96,12 +99,15 @@ summary c log =
     ++ labeled_number (codes ", time_us") (decimal (time c (reverse log)))
     ++ (codes "</p>" ++ 10 ∷ [])
 
+abbrev pub unmet_data : Option (Bor (List ℕ)) → Parts → List LogEntry → List Judgement → List ℕ
+unmet_data named c log judgements = flat_map (unmet_data_line named c log) judgements
+
 -- the data that the page's scripts read
 abbrev pub page_data : Option (Bor (List ℕ)) → Parts → Option CodedData → List ℕ → List LogEntry
     → List Judgement → List ℕ
 page_data named c k file log judgements =
     data_head c file ++ guarded_text (cluster_lines c) ++ log_head c k ++ text log
-    ++ flat_map (unmet_data_line named c log) judgements
+    ++ unmet_data named c log judgements
 
 -- the page of a log of a cluster, with what its values mean, the name of its LDF, and the judgements
 -- of its play, whose script has this name
@@ -110,6 +116,15 @@ abbrev pub page : Option (Bor (List ℕ)) → Parts → Option CodedData → Lis
 page named c k file log judgements =
     HEAD.now ++ page_data named c k file log judgements ++ (MIDDLE.now ++ summary c log)
     ++ first_slots c log ++ TAIL.now
+
+-- the same of a core whose log is shown so
+abbrev pub shown_page_data : Shown → List ℕ → CoreData → List ℕ
+shown_page_data s file core =
+    page_data s.script core.cluster (given_coding s.coded) file core.log s.judgements.now
+
+abbrev pub shown_page : Shown → List ℕ → CoreData → List ℕ
+shown_page s file core =
+    page s.script core.cluster (given_coding s.coded) file core.log s.judgements.now
 
 -- Whatever the names, the texts and the lines are, nothing in the data ends them: what stands in
 -- them is never a script's.

@@ -89,14 +89,18 @@ abbrev pub told_text : Option (Bor (List ℕ)) → Bool → ℕ → ℕ → Part
 told_text named strict faults missed c log js =
     missed_text named c log js ++ counts_text strict faults missed c log js
 
+abbrev pub script_counts : PlayedScript → CoreData → List Judgement → List ℕ
+script_counts script core js =
+    counts_text script.is_strict script.faults script.missed core.cluster core.log js
+
 -- what is told of a play of this script
 abbrev pub script_verdict : PlayedScript → CoreData → List Judgement → List ℕ
 script_verdict script core js =
     told_text script.name script.is_strict script.faults script.missed core.cluster core.log js
 
 -- A play fails where a judgement isn't met, or where it has faults and none of them changed a slot.
-abbrev pub fails : ℕ → ℕ → List Judgement → Bool
-fails faults missed js =
+abbrev pub play_fails : ℕ → ℕ → List Judgement → Bool
+play_fails faults missed js =
     if some_unmet js then true else (if faults == 0 then false else missed == faults)
 
 -- how many faults of a run changed no slot
@@ -122,7 +126,7 @@ WritesPlayed format whole failed text (Err _) old new silent heard = ⊥
 abbrev pub WritesShown : Shown → CoreData → PlayedScript → Result Unit Fault → Option (List ℕ) → Option (List ℕ)
     → Option (List ℕ) → Option (List ℕ) → Type 0
 WritesShown s core script result old new silent heard =
-    WritesPlayed s.format (shown_log s core) (fails script.faults script.missed s.judgements.now)
+    WritesPlayed s.format (shown_log s core) (play_fails script.faults script.missed s.judgements.now)
     (script_verdict script core s.judgements.now) result old new silent heard
 
 -- the lines of a bench script came to a run, and this was written of it
@@ -132,7 +136,7 @@ abbrev pub WritesRunOf : List SlotFault → Format → Option CodedData → Bool
 WritesRunOf fs format k shows named strict c opening capacity result told old new silent heard =
     (run : Run) × ComesTo fs strict k c opening capacity told (Ok run)
     × WritesPlayed format (run_as format k shows named c opening capacity run)
-    (fails (length fs) (missed_in run) (judgements_with_meanings k run.judgements))
+    (play_fails (length fs) (missed_in run) (judgements_with_meanings k run.judgements))
     (told_text named strict (length fs) (missed_in run) c (reverse run.bench.past)
     (judgements_with_meanings k run.judgements)) result old new silent heard
 
@@ -236,3 +240,9 @@ ReportsJudgements (Ok done) failed text silent heard = (failed ≡ false) × Wri
 ReportsJudgements (Err (Unmet outcome)) failed text silent heard =
     (failed ≡ true) × WritesText silent heard outcome text
 ReportsJudgements (Err _) failed text silent heard = ⊥
+
+-- the failed expectations of a play of this script and its counts were written, and whether it fails
+abbrev pub ReportsPlay : Result Unit Fault → PlayedScript → CoreData → List Judgement → Option (List ℕ)
+    → Option (List ℕ) → Type 0
+ReportsPlay result script core js silent heard =
+    ReportsJudgements result (play_fails script.faults script.missed js) (script_verdict script core js) silent heard

@@ -45,9 +45,9 @@ abbrev pub RefusesScript : ScriptFault → Option (List ℕ) → Option (List �
 RefusesScript fault told old new = IfSome told (ScriptFaults fault) × Keeps old new
 
 -- of the log in this format a beginning was written
-abbrev pub Stops : Format → Option CodedData → Parts → ℕ → ℕ
+abbrev pub StopsReplay : Format → Option CodedData → Parts → ℕ → ℕ
     → Option (List ℕ) → Option (List ℕ) → Option (List ℕ) → Type 0
-Stops format k c opening capacity told old new =
+StopsReplay format k c opening capacity told old new =
     (log : List LogEntry) × IsLogOf c opening capacity told log
     × Begins old new (log_in_format format None c k opening capacity log [])
 
@@ -64,9 +64,9 @@ Replays format k c opening capacity (Err ScriptTooLong) told old new =
     RefusesScript script.TooLong told old new
 Replays format k c opening capacity (Err ReadFailed) told old new = Keeps old new
 Replays format k c opening capacity (Err OutOfMemory) told old new =
-    Keeps old new ⊎ ((format ≢ Log) × Stops format k c opening capacity told old new)
+    Keeps old new ⊎ ((format ≢ Log) × StopsReplay format k c opening capacity told old new)
 Replays format k c opening capacity (Err WriteFailed) told old new =
-    Stops format k c opening capacity told old new
+    StopsReplay format k c opening capacity told old new
 Replays format k c opening capacity (Err _) told old new = ⊥
 
 -- the same with what was opened

@@ -6,9 +6,9 @@ ghost use Rattle.std.specs.Prelude.{IfOk, OnOk};
 ghost use Rattle.std.specs.Io.KnownBytes.{Keeps};
 ghost use Rattle.lin_text.specs.Written.{WritesText};
 ghost use Rattle.lin_tool.specs.campaign.Rows.{IsPart, rows};
-ghost use Rattle.lin_tool.specs.campaign.Steps.{AreWorstFaults, IsReady, IsTable, WritesCounts};
+ghost use Rattle.lin_tool.specs.campaign.Steps.{AreWorstFaults, IsCampaignReady, IsTable, WritesCounts};
 ghost use Rattle.lin_tool.specs.campaign.Steps.{PlaysAndWritesRow, PlaysAndWritesRows, WritesAfter, WritesTable};
-ghost use Rattle.lin_tool.specs.campaign.Steps.{calm_row, first_of, shows_calm, worst_places};
+ghost use Rattle.lin_tool.specs.campaign.Steps.{calm_row, head_with_calm, shows_calm, worst_places};
 ghost use Rattle.lin_tool.specs.campaign.Written.{WritesOpened, name_or};
 
 mod csv;
@@ -91,7 +91,7 @@ impl Campaign<'_, '_> {
         counts: &mut RowCounts,
         writer: &mut W,
     ) -> Result<Cluster, Fault>
-        requires ready { IsReady self.now cluster }
+        requires ready { IsCampaignReady self.now cluster }
         requires table { IsTable table.now }
         requires row { number < length (rows table.now.rows.now) }
         requires few { counts.old.rows + 1 < 2 ^ 64 }
@@ -138,7 +138,7 @@ impl Campaign<'_, '_> {
     ) -> Result<(), ExportFault>
         requires table { IsTable table.now }
         ensures { WritesText (W.contents writer.old) (W.contents writer.new) result
-            (first_of self.now table.now core.now.cluster (calm_row table.now core.now)) }
+            (head_with_calm self.now table.now core.now.cluster (calm_row table.now core.now)) }
     {
         let shown = ShownRow {
             number: 0,
@@ -167,7 +167,7 @@ impl Campaign<'_, '_> {
         writer: &mut W,
         errors: &mut E,
     ) -> Result<Cluster, Fault>
-        requires ready { IsReady self.now cluster }
+        requires ready { IsCampaignReady self.now cluster }
         requires table { IsTable table.now }
         requires none { counts.old.rows ≡ 0 }
         ensures writes { PlaysAndWritesRows self.now table.now cluster result
@@ -259,7 +259,7 @@ fn write_table<W: Write, E: Write>(
     writer: &mut W,
     errors: &mut E,
 ) -> Result<(), Fault>
-    requires ready { IsReady campaign.now core.cluster }
+    requires ready { IsCampaignReady campaign.now core.cluster }
     requires table { IsTable table.now }
     ensures { WritesTable campaign.now plan.now table.now core result
         (W.contents writer.old) (W.contents writer.new)
@@ -289,7 +289,7 @@ fn write_campaign<W: Write, E: Write>(
     writer: &mut W,
     errors: &mut E,
 ) -> Result<(), Fault>
-    requires ready { IsReady campaign.now calm.core.cluster }
+    requires ready { IsCampaignReady campaign.now calm.core.cluster }
     requires part { IsPart plan.now.part }
     ensures { WritesAfter campaign.now plan.now calm result
         (W.contents writer.old) (W.contents writer.new)
@@ -421,14 +421,14 @@ pub fn run_campaign<R: AllocGlobal + Files + Input + Print, E: Write>(
     notes.tell_warnings(errors);
     notes.begin_script();
     let (alloc, mut writer) = (rt.alloc(), io::writer(rt));
-    let planned = PlannedCampaign { opened, plan };
     let answer = match script {
         None => {
-            let reader = &mut rt.reader();
+            let (planned, reader) = (PlannedCampaign { opened, plan }, &mut rt.reader());
             campaign_script(alloc, planned, reader, &mut writer, errors, notes)
         }
         Some(path) => match fs::open(rt, path) {
             Ok(mut file) => {
+                let planned = PlannedCampaign { opened, plan };
                 campaign_script(alloc, planned, &mut file, &mut writer, errors, notes)
             }
             Err(_) => Err(Fault::ReadFailed),

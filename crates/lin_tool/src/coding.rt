@@ -8,8 +8,8 @@ ghost use Rattle.lin_ldf.specs.Symbols.{symbols_in};
 ghost use Rattle.lin_ldf.specs.Tokens.{AreTokens};
 ghost use Rattle.lin_ldf.specs.declared.token.Token.{Token};
 ghost use Rattle.lin_field.specs.Checks.{remark, remark_cmp};
-ghost use Rattle.lin_tool.specs.Coding.{are_read, coded_read, codings_kept, codings_read, codings_with};
-ghost use Rattle.lin_tool.specs.Coding.{attributes_read, configurables_read, configured_read, configuring_told, with_lints, sections_read, reported_findings, unknown_read, unused_told, AreWarnings};
+ghost use Rattle.lin_tool.specs.Coding.{AddsCommands, AddsLints, are_read, coded_read, codings_in, codings_kept, codings_with};
+ghost use Rattle.lin_tool.specs.Coding.{attributes_read, configurables_read, configured_read, sections_in, reported_findings, unknown_read, unused_told, AreWarnings};
 ghost use Rattle.lin_tool.specs.declared.fault.Fault.TheVariants.{OutOfMemory};
 
 use crate::fault::Fault;
@@ -105,11 +105,11 @@ fn codings_of(
     wide: Option<&[Name]>,
     is_read: bool,
 ) -> Result<Option<Codings>, AllocError>
-    ensures read { IfOk result (λ k. k ≡ codings_read (option_map (λ w. w.now) wide.entry) is_read
+    ensures read { IfOk result (λ k. k ≡ codings_in wide.entry is_read
         (symbols_in text.now (start_of text.now).tokens)) }
     ensures tokens { (ts : List Token) → AreTokens text.now ts
         → IfOk result
-        (λ k. k ≡ codings_read (option_map (λ w. w.now) wide.entry) is_read (symbols_in text.now ts)) }
+        (λ k. k ≡ codings_in wide.entry is_read (symbols_in text.now ts)) }
 {
     if is_read {
         Ok(Some(codings_with(alloc, text, wide)?))
@@ -189,11 +189,11 @@ pub(crate) fn sections_of(
     extras: Extras,
 ) -> Result<ExtraSections, AllocError>
     ensures read { IfOk result
-        (λ s. s ≡ sections_read (option_map (λ w. w.now) wide.entry) extras description.now
+        (λ s. s ≡ sections_in wide.entry extras description.now
         (symbols_in text.now (start_of text.now).tokens)) }
     ensures tokens { (ts : List Token) → AreTokens text.now ts
         → IfOk result
-        (λ s. s ≡ sections_read (option_map (λ w. w.now) wide.entry) extras description.now
+        (λ s. s ≡ sections_in wide.entry extras description.now
         (symbols_in text.now ts)) }
 {
     let codings = codings_of(alloc, text, wide, are_read(extras))?;
@@ -260,10 +260,8 @@ pub(crate) fn with_lints(
     codings: Option<&Codings>,
 ) -> Result<Many<Remark>, AllocError>
     requires { IsSorted remark_cmp warnings }
-    ensures all { IfOk result (λ all. IsPermutation
-        (with_lints description.now placed_elsewhere.now configurables
-        (option_map (λ k. k.now) codings.entry) warnings)
-        all) }
+    ensures all { IfOk result (λ all. AddsLints description.now placed_elsewhere.now configurables
+        codings.entry warnings all) }
     ensures ordered { IfOk result (λ all. IsSorted remark_cmp all) }
 {
     let Some(configurables) = configurables else {
@@ -347,10 +345,8 @@ pub(crate) fn configured(
     requires { IsSorted remark_cmp checked.warnings }
     ensures cluster { IfOk result (λ k. k.cluster ≡ configured_read extras.is_configured
         checked.cluster (symbols_in text.now (start_of text.now).tokens)) }
-    ensures warnings { IfOk result (λ k. IsPermutation
-        (checked.warnings ++ map (remark true) (configuring_told extras.is_configured checked.cluster
-        (symbols_in text.now (start_of text.now).tokens)))
-        k.warnings) }
+    ensures warnings { IfOk result (λ k. AddsCommands extras.is_configured checked
+        (symbols_in text.now (start_of text.now).tokens) k.warnings) }
     ensures ordered { IfOk result (λ k. IsSorted remark_cmp k.warnings) }
     ensures memory { IfErr result (λ fault. fault ≡ OutOfMemory) }
 {

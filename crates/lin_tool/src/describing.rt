@@ -5,7 +5,7 @@ ghost use Rattle.std.specs.Prelude.{◌≡◌, List, ℕ, IfOk, IsSome, true};
 ghost use Rattle.lin_ldf.specs.Describes.{Describes};
 ghost use Rattle.lin_cluster.specs.SlotTimes.{NoSlotIsShort};
 ghost use Rattle.lin_tool.specs.Clusters.{AnswersParse, AnswersText, IsSaidBy, IsParseFault};
-ghost use Rattle.lin_tool.specs.Coding.{AnswersCoded, AnswersSections};
+ghost use Rattle.lin_tool.specs.Coding.{AnswersCoded, AnswersParsed, AnswersSections};
 ghost use Rattle.lin_tool.specs.Reading.{AnswersLdf, AnswersReading, ReadsWholeInput};
 ghost use Rattle.lin_tool.specs.declared.describing.Reading.TheVariants.{Plain};
 
@@ -152,9 +152,7 @@ fn check_parsed(
     text: &[u8],
     notes: &mut Notes<'_>,
 ) -> Result<Described, Fault>
-    ensures { (source : List ℕ) → (extras.is_configured ≡ true → text.now ≡ source)
-        → AnswersSections extras parsed source
-        → AnswersCoded extras result notes.new.warnings source }
+    ensures { AnswersParsed extras parsed text.now result notes.new.warnings }
 {
     let (description, sections) = parsed?;
     let ExtraSections {

@@ -5,7 +5,7 @@ ghost use Rattle.lin_ldf.specs.Describes.{Describes};
 ghost use Rattle.lin_ldf.specs.Stream.{start_of};
 ghost use Rattle.lin_ldf.specs.Symbols.{symbols_in};
 ghost use Rattle.lin_tool.specs.Clusters.{AnswersText, IsSaidBy};
-ghost use Rattle.lin_tool.specs.Diffing.{codings_by, differences_of, read_data, ReadsCluster, ReadsField};
+ghost use Rattle.lin_tool.specs.Diffing.{codings_by, ldf_differences, read_data, ReadsCluster, ReadsField};
 ghost use Rattle.lin_tool.specs.Diffing.{ReadsLdf, ReadsStandard, WritesCompared};
 ghost use Rattle.lin_tool.specs.Levels.{is_in_ranges};
 ghost use Rattle.lin_sections.specs.Differences.{differences_data};
@@ -268,7 +268,7 @@ pub fn write_compared<W: Write>(
     writer: &mut W,
 ) -> Result<(), Fault>
     ensures { WritesCompared files.entry.0.now files.entry.1.now classes
-        (differences_of (read_data old.now) (read_data new.now)) result
+        (ldf_differences old.now new.now) result
         (W.contents writer.old) (W.contents writer.new) }
 {
     let (olds, news) = compared_things(alloc, old.compared(), new.compared())?;

@@ -5,8 +5,8 @@ ghost use Rattle.std.specs.Prelude.{◌≡◌, ◌≤◌, ◌∷◌, ◌==◌, l
 ghost use Rattle.std.specs.List.{slice_split};
 ghost use Rattle.lin_text.specs.Written.{Grows, WritesText};
 ghost use Rattle.lin_bench.specs.Read.{Gives};
-ghost use Rattle.lin_tool.specs.FaultText.{ReadsFault, ReadsFaults, ReadsNamed, absence, after, around};
-ghost use Rattle.lin_tool.specs.FaultText.{around_dots, bad_fault_text, damage, faults_left, lacks_slot, length_left};
+ghost use Rattle.lin_tool.specs.FaultText.{ReadsFault, ReadsFaults, ReadsNamed, absence, after, split_around};
+ghost use Rattle.lin_tool.specs.FaultText.{around_dots, bad_fault_text, damage_fault, faults_left, lacks_slot, length_left};
 ghost use Rattle.lin_tool.specs.FaultText.{of_line_fault, slots_between, read_slots, reason_line, slot_number};
 
 use lin_bench::{FaultKind, LineFault, Reason, SlotFault, present_node, put_reason};
@@ -62,7 +62,7 @@ impl From<LineFault> for OneFault {
 
 /// Returns the texts before and after the first byte that is this one.
 fn around(text: &[u8], mark: u8) -> Option<(&[u8], &[u8])>
-    ensures { option_map (λ parts. (parts.0.now, parts.1.now)) result ≡ around mark text.now }
+    ensures { option_map (λ parts. (parts.0.now, parts.1.now)) result ≡ split_around mark text.now }
 {
     for i in 0..text.len() {
         if text[i] == mark {
@@ -135,7 +135,7 @@ fn slots(alloc: Global, text: &[u8]) -> Result<(u32, Option<u32>), LineFault>
 
 /// Reads the damage of responses.
 fn damage(alloc: Global, range: &[u8]) -> Result<SlotFault, LineFault>
-    ensures { Gives (λ fault. fault) result (damage range.now) }
+    ensures { Gives (λ fault. fault) result (damage_fault range.now) }
 {
     let (first, last) = slots(alloc, range)?;
     Ok(SlotFault {

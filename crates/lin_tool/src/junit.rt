@@ -1,11 +1,11 @@
 //! The judgements of a play as a report for what reads those of tests (JUnit's, in XML 1.0).
 
-ghost use Rattle.std.specs.Prelude.{◌≡◌, ◌++◌, codes, flat_map, List, Some, ℕ};
+ghost use Rattle.std.specs.Prelude.{◌≡◌, List, Some, ℕ};
 ghost use Rattle.std.specs.Str.{is_utf8};
 ghost use Rattle.lin_log.specs.Words.{spaced_word};
 ghost use Rattle.lin_export.specs.Putting.{PutsAll};
 ghost use Rattle.lin_text.specs.Written.{Grows, WritesText};
-ghost use Rattle.lin_tool.specs.Junit.{case_end, case_name, case_text, xml_byte, xml_text, junit_head};
+ghost use Rattle.lin_tool.specs.Junit.{case_end, case_name, case_text, cases_text, xml_byte, xml_text, junit_head};
 ghost use Rattle.lin_tool.specs.Junit.{error_name, error_report, junit};
 ghost use Rattle.lin_tool.specs.Placing.{AtMoment};
 
@@ -118,8 +118,7 @@ fn put_cases<W: Write>(
     judgements: &[Judgement],
 ) -> Result<(), AllocError>
     ensures { PutsAll W.contents out.old out.new result
-        (flat_map (case_text file.now cluster.now log.now.entries) judgements.now
-        ++ codes "</testsuite>\n</testsuites>\n") }
+        (cases_text file.now cluster.now log.now.entries judgements.now) }
 {
     let mut read = 0;
     let mut moment = Moment::new();

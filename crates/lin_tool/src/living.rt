@@ -2,9 +2,7 @@
 
 ghost use Rattle.std.specs.Prelude.{◌≡◌, ◌<◌, ℕ, IfErr, IfOk, List, length};
 ghost use Rattle.std.specs.Borrow.{Bor};
-ghost use Rattle.lin_export.specs.Jsonl.{run_line};
-ghost use Rattle.lin_tool.specs.Living.{BeginsAnswers, Lives, ends, hand_of_opened};
-ghost use Rattle.lin_tool.specs.Opening.{room_for};
+ghost use Rattle.lin_tool.specs.Living.{BeginsAnswers, Lives, ends, hand_of_opened, opened_line};
 ghost use Rattle.lin_live.specs.declared.answer_format.AnswerFormat.TheVariants.{Log, Named, Jsonl};
 ghost use Rattle.lin_tool.specs.declared.fault.Fault.TheVariants.{OutOfMemory as NoMemory};
 ghost use Rattle.lin_tool.specs.declared.formats.Format.TheVariants.{Log as LogFormat};
@@ -109,8 +107,7 @@ fn begin_answers<W: Write>(
     format: AnswerFormat,
     writer: &mut W,
 ) -> Result<(), Fault>
-    ensures { BeginsAnswers format
-        (run_line opened.now.cluster opened.now.table (room_for opened.now.settings.capacity)) result
+    ensures { BeginsAnswers format (opened_line opened.now) result
         (W.contents writer.old) (W.contents writer.new) }
 {
     match format {

@@ -1,12 +1,10 @@
 //! The objects of a run, with the failed checks of its script.
 
-ghost use Rattle.std.specs.Prelude.{◌≡◌, [], List, OnOk, reverse};
-ghost use Rattle.lin_core.specs.declared.log.LogEntry.{LogEntry};
+ghost use Rattle.std.specs.Prelude.{◌≡◌, [], OnOk, reverse};
 ghost use Rattle.lin_export.specs.Jsonl.{IsObjectTrackOf};
 ghost use Rattle.lin_export.specs.Putting.{PutsAll};
-ghost use Rattle.lin_export.specs.WhereTold.{given_coding};
 ghost use Rattle.lin_text.specs.Written.{WritesText};
-ghost use Rattle.lin_tool.specs.Objects.{check_object, checked_objects, counts_of, objects};
+ghost use Rattle.lin_tool.specs.Objects.{AfterTrack, failed_check_object, counts_of, shown_checked, shown_objects};
 
 use crate::formats::Shown;
 use crate::page::summary::{messages_lost, steps_refused};
@@ -43,9 +41,8 @@ fn put_check<W: Write>(
     script: &str,
     judgement: &Judgement,
 ) -> Result<(), AllocError>
-    ensures { (past : List LogEntry) → IsObjectTrackOf cluster.now past objects.now
-        → PutsAll W.contents out.old out.new result
-        (check_object cluster.now script.now past judgement.now) }
+    ensures { AfterTrack cluster.now objects.now (λ past. PutsAll W.contents out.old out.new result
+        (failed_check_object cluster.now script.now past judgement.now)) }
 {
     let judged = &judgement.judged;
     if !is_unmet(judged) {
@@ -74,8 +71,7 @@ fn put_checked<W: Write>(
 ) -> Result<(), AllocError>
     requires { IsObjectTrackOf core.now.cluster [] objects.old }
     ensures text { PutsAll W.contents out.old out.new result
-        (checked_objects core.now.cluster (given_coding shown.now.coded) script.now core.now.log 0
-        shown.now.judgements.now) }
+        (shown_checked shown.now script.now core.now) }
     ensures track { OnOk result
         (IsObjectTrackOf core.now.cluster (reverse core.now.log) objects.new) }
 {
@@ -101,8 +97,7 @@ fn put_objects<W: Write>(
     core: &Core,
 ) -> Result<(), AllocError>
     ensures { PutsAll W.contents out.old out.new result
-        (objects core.now.cluster (given_coding shown.now.coded) shown.now.table shown.now.capacity
-        script.now core.now.log shown.now.judgements.now) }
+        (shown_objects shown.now script.now core.now) }
 {
     let opening = Opening {
         table: shown.table,
@@ -135,8 +130,7 @@ pub(crate) fn write_objects<W: Write>(
     writer: &mut W,
 ) -> Result<(), ExportFault>
     ensures { WritesText (W.contents writer.old) (W.contents writer.new) result
-        (objects core.now.cluster (given_coding shown.now.coded) shown.now.table shown.now.capacity
-        script.now core.now.log shown.now.judgements.now) }
+        (shown_objects shown.now script.now core.now) }
 {
     let mut buffer = TextBuffer::empty();
     let mut out = TextWriter::new(writer, &mut buffer);

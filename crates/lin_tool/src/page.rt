@@ -2,9 +2,8 @@
 //! them (the crate's `page/` has these as files of their own).
 
 ghost use Rattle.std.specs.Prelude.{◌++◌};
-ghost use Rattle.lin_export.specs.WhereTold.{given_coding};
 ghost use Rattle.lin_text.specs.Written.{WritesText};
-ghost use Rattle.lin_tool.specs.Page.{page, page_data, summary};
+ghost use Rattle.lin_tool.specs.Page.{shown_page, shown_page_data, summary};
 
 pub(crate) mod data;
 pub(crate) mod field;
@@ -38,8 +37,7 @@ fn write_data<W: Write>(
     writer: &mut W,
 ) -> Result<(), ExportFault>
     ensures { WritesText (W.contents writer.old) (W.contents writer.new) result
-        (page_data shown.now.script core.now.cluster (given_coding shown.now.coded) file.now core.now.log
-        shown.now.judgements.now) }
+        (shown_page_data shown.now file.now core.now) }
 {
     let cluster = core.cluster();
     let log = core.log();
@@ -88,8 +86,7 @@ pub(crate) fn write_page<W: Write>(
     writer: &mut W,
 ) -> Result<(), ExportFault>
     ensures { WritesText (W.contents writer.old) (W.contents writer.new) result
-        (page shown.now.script core.now.cluster (given_coding shown.now.coded) file.now core.now.log
-        shown.now.judgements.now) }
+        (shown_page shown.now file.now core.now) }
 {
     write_out(writer, HEAD.as_bytes())?;
     write_data(alloc, shown, file, core, writer)?;

@@ -7,8 +7,8 @@ ghost use Rattle.lin_text.specs.Written.{WritesText};
 ghost use Rattle.lin_export.specs.WhereTold.{given_coding};
 ghost use Rattle.lin_tool.specs.Placing.{missed_text};
 ghost use Rattle.lin_tool.specs.Playing.{judgements_with_meanings, coding_if_physical};
-ghost use Rattle.lin_tool.specs.Playing.{counts_text, fails, script_errors, script_verdict, PlaysOpened};
-ghost use Rattle.lin_tool.specs.Playing.{PlaysOpenedUnder, ReadsScriptLines, ReportsJudgements, TakesFaults, TellsBad, WritesShown};
+ghost use Rattle.lin_tool.specs.Playing.{play_fails, script_counts, script_errors, script_verdict, PlaysOpened};
+ghost use Rattle.lin_tool.specs.Playing.{PlaysOpenedUnder, ReadsScriptLines, ReportsPlay, TakesFaults, TellsBad, WritesShown};
 
 use crate::fault::Fault;
 use crate::fault_text::{FaultsFault, read_faults, write_bad_fault};
@@ -140,8 +140,7 @@ fn tell_counts<E: Write>(
     errors: &mut E,
 ) -> Result<(), WriteFailed>
     ensures { WritesText (E.contents errors.old) (E.contents errors.new) result
-        (counts_text script.entry.is_strict script.entry.faults script.entry.missed core.now.cluster core.now.log
-        judgements.now) }
+        (script_counts script.entry core.now judgements.now) }
 {
     write_missed_faults(script.faults, script.missed, errors)?;
     if script.is_strict {
@@ -170,7 +169,7 @@ fn tell<E: Write>(
 
 /// Whether an expectation failed, or the script has faults and none of them changed a slot.
 fn fails(script: Script<'_>, judgements: &[Judgement]) -> bool
-    ensures { result ≡ fails script.entry.faults script.entry.missed judgements.now }
+    ensures { result ≡ play_fails script.entry.faults script.entry.missed judgements.now }
 {
     if some_unmet(judgements) {
         true
@@ -191,9 +190,8 @@ pub(crate) fn judge<E: Write>(
     judgements: &[Judgement],
     errors: &mut E,
 ) -> Result<(), Fault>
-    ensures { ReportsJudgements result
-        (fails script.entry.faults script.entry.missed judgements.now)
-        (script_verdict script.entry core.now judgements.now) (E.contents errors.old) (E.contents errors.new) }
+    ensures { ReportsPlay result script.entry core.now judgements.now (E.contents errors.old)
+        (E.contents errors.new) }
 {
     let told = tell(core, script, judgements, errors);
     if fails(script, judgements) {
@@ -430,18 +428,16 @@ fn play_file<R: AllocGlobal + Files + Input + Print, E: Write>(
     notes.tell_warnings(errors);
     let (alloc, mut writer) = (rt.alloc(), io::writer(rt));
     let faults = faults_of(alloc, &opened.cluster, faults, errors, notes)?;
-    let play = DisturbedPlay {
-        opened,
-        faults: faults.as_slice(),
-    };
+    let faults = faults.as_slice();
     notes.begin_script();
     let answer = match script {
         None => {
-            let reader = &mut rt.reader();
+            let (play, reader) = (DisturbedPlay { opened, faults }, &mut rt.reader());
             play_under_faults(alloc, play, reader, &mut writer, errors, notes)
         }
         Some(path) => match fs::open(rt, path) {
             Ok(mut file) => {
+                let play = DisturbedPlay { opened, faults };
                 play_under_faults(alloc, play, &mut file, &mut writer, errors, notes)
             }
             Err(_) => Err(Fault::ReadFailed),

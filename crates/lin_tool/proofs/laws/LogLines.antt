@@ -1,5 +1,5 @@
 -- The lines of logs: none begins with `#`.
-use Rattle.std.proofs.Common.{◌≡◌, ◌∙◌, ℕ, ◌==◌, true, false, List, [], ◌∷◌, ◌++◌, refl, sym, ap, subst, append_assoc, flat_map, map, reverse, codes, if◌then◌else◌, Option}
+use Rattle.std.proofs.Common.{◌≡◌, ◌∙◌, ℕ, ◌==◌, true, false, List, [], ◌∷◌, ◌++◌, refl, sym, ap, subst, append_assoc, flat_map, map, reverse, codes, Option}
 use Rattle.std.proofs.lemmas.List.{reverse-append}
 use Rattle.lin_parts.specs.declared.parts.Parts.{Parts}
 use Rattle.lin_core.specs.declared.log.LogEntry.{LogEntry}

@@ -103,22 +103,22 @@ refusal_object r =
     object (decimal_member (codes "line") r.line ∷ word_member (codes "name") (refusal_word r.refusal) ∷ [])
 
 -- a letter for each of the first 1,000 slots
-abbrev pub letter : Seen → ℕ
-letter Silent = 115
-letter NoAnswer = 110
-letter (Good bytes) = 103
-letter Damaged = 100
-letter Collided = 99
+abbrev pub seen_letter : Seen → ℕ
+seen_letter Silent = 115
+seen_letter NoAnswer = 110
+seen_letter (Good bytes) = 103
+seen_letter Damaged = 100
+seen_letter Collided = 99
 
-abbrev pub letters_of : List Slot → List ℕ
-letters_of slots = map (λ s. letter (seen_of s)) slots
+abbrev pub slot_letters : List Slot → List ℕ
+slot_letters slots = map (λ s. seen_letter (seen_of s)) slots
 
 abbrev pub letters : List LogEntry → List ℕ
-letters log = letters_of (take 1000 (finished_slots log))
+letters log = slot_letters (take 1000 (finished_slots log))
 
 -- the letter of the slot that an entry after a history finishes, if it does, after so many letters
 abbrev pub next_letter : ℕ → LogEntry → List LogEntry → List ℕ
-next_letter count e past = letters_of (take (1000 - count) (option_to_list (finished_slot e past)))
+next_letter count e past = slot_letters (take (1000 - count) (option_to_list (finished_slot e past)))
 
 abbrev pub ended_members : Parts → RowData → List (List ℕ)
 ended_members c p =

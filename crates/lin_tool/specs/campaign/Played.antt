@@ -26,9 +26,9 @@ IsUnfinished on c fs ls LogFull = OverfillsUnder c on.table on.capacity fs ls
 IsUnfinished on c fs ls OutOfMemory = Unit {0}
 IsUnfinished on c fs ls fault = ⊥
 
-abbrev pub IsOutOfMemory : Fault → Type 0
-IsOutOfMemory OutOfMemory = Unit {0}
-IsOutOfMemory fault = ⊥
+abbrev pub IsMemoryFault : Fault → Type 0
+IsMemoryFault OutOfMemory = Unit {0}
+IsMemoryFault fault = ⊥
 
 -- a play of these lines under these faults
 pub record IsPlayUnder (on : Campaign) (c : Parts) (fs : List SlotFault) (ls : List (ℕ × ScriptLine))
@@ -50,7 +50,7 @@ pub record ReachesLimit (on : Campaign) (c : Parts) (ls : List (ℕ × ScriptLin
     pub comes : ComesUnder on.is_strict c on.table on.capacity [] ls it
     pub limit : it.limit ≡ Some n
 
-pub record IsUndisturbed (on : Campaign) (c : Parts) (ls : List (ℕ × ScriptLine)) (p : Play)
+pub record IsUndisturbedPlay (on : Campaign) (c : Parts) (ls : List (ℕ × ScriptLine)) (p : Play)
     : Type 0 where
   pub it : PlayedUnder
   pub comes : ComesUnder on.is_strict c on.table on.capacity [] ls it
@@ -58,6 +58,6 @@ pub record IsUndisturbed (on : Campaign) (c : Parts) (ls : List (ℕ × ScriptLi
   pub limit : it.limit ≡ None
 
 abbrev pub PlaysUndisturbed : Campaign → Parts → List (ℕ × ScriptLine) → Result Play Fault → Type 0
-PlaysUndisturbed on c ls (Ok p) = IsUndisturbed on c ls p
+PlaysUndisturbed on c ls (Ok p) = IsUndisturbedPlay on c ls p
 PlaysUndisturbed on c ls (Err (SlotLimit n)) = ReachesLimit on c ls n
 PlaysUndisturbed on c ls (Err fault) = IsUnfinished on c [] ls fault

@@ -58,13 +58,13 @@ refusal_on n (Refused why) = Some (record { line = n; refusal = why })
 abbrev pub is_same_refusal : RefusedStep → RefusedStep → Bool
 is_same_refusal a b = a.line == b.line && refusal_number a.refusal == refusal_number b.refusal
 
-abbrev pub is_among : List RefusedStep → RefusedStep → Bool
-is_among before r = list_any (λ s. is_same_refusal s r) before
+abbrev pub has_refusal : List RefusedStep → RefusedStep → Bool
+has_refusal before r = list_any (λ s. is_same_refusal s r) before
 
 -- a refused step, if it isn't among these
 abbrev pub new_refusal : List RefusedStep → Option RefusedStep → List RefusedStep
 new_refusal before None = []
-new_refusal before (Some r) = if is_among before r then [] else r ∷ []
+new_refusal before (Some r) = if has_refusal before r then [] else r ∷ []
 
 -- the refused steps of line n, which has these entries, the same two once; before them are these
 abbrev pub refused_after : List RefusedStep → ℕ → List LogEntry → List RefusedStep

@@ -12,14 +12,14 @@ use Rattle.lin_bench.specs.Faults.{is_intact}
 use Rattle.lin_bench.specs.declared.faults.FaultKind.{FaultKind}
 use Rattle.lin_bench.specs.declared.faults.FaultKind.TheVariants.{Damage, Absent}
 use Rattle.lin_bench.specs.declared.faults.SlotFault.{SlotFault}
-use Rattle.lin_tool.specs.campaign.Slots.{finished_slots, frame_shown, kept_slot, responders}
+use Rattle.lin_tool.specs.campaign.Slots.{finished_slots, frame_shown, kept_of_slot, responders}
 use Rattle.lin_tool.specs.declared.campaign.singles.Kinds.{Kinds}
 use Rattle.lin_tool.specs.declared.campaign.singles.Single.{Single}
 use Rattle.lin_tool.specs.declared.campaign.slots.KeptSlot.{KeptSlot}
 
 -- the fault of one slot, or from that slot on
-abbrev pub fault_of : Single → SlotFault
-fault_of s = record {
+abbrev pub fault_of_single : Single → SlotFault
+fault_of_single s = record {
   first = s.slot;
   last = if s.goes_on then None else Some s.slot;
   kind = s.kind;
@@ -76,7 +76,7 @@ pub record AreSinglesOf (c : Parts) (kinds : Kinds) (slots : List Slot) (ss : Li
 abbrev pub AddsSinglesOf : {E : Type 0} → Parts → Kinds → Option KeptSlot → List Single → List Single
     → ℕ → Result ℕ E → Type 0
 AddsSinglesOf c kinds slot old new number result =
-    (slots : List Slot) → (next : Option Slot) → slot ≡ option_map kept_slot next
+    (slots : List Slot) → (next : Option Slot) → slot ≡ option_map kept_of_slot next
     → AreSinglesOf c kinds slots old number
     → IfOk result (λ n. AreSinglesOf c kinds (slots ++ option_to_list next) new n)
 
@@ -91,4 +91,4 @@ only_single ss (i ∷ []) = slice_get ss i
 only_single ss places = None
 
 abbrev pub faults_at : List Single → List ℕ → List SlotFault
-faults_at ss places = map fault_of (at_places ss places)
+faults_at ss places = map fault_of_single (at_places ss places)

@@ -39,8 +39,8 @@ frame_or_entry_name c table entry frame =
 -- ---- a reader of a log
 -- what is kept of a slot: which of 16 nodes responded, the first of them, and how many responses there
 -- are, up to 255
-abbrev pub kept_slot : Slot → KeptSlot
-kept_slot s = record {
+abbrev pub kept_of_slot : Slot → KeptSlot
+kept_of_slot s = record {
   table = s.table;
   entry = s.entry;
   header = s.header;
@@ -51,5 +51,11 @@ kept_slot s = record {
 }
 
 -- the entries of this history were read
-abbrev pub Follows : SlotReader → List LogEntry → Type 0
-Follows reader past = reader.open ≡ option_map kept_slot (open_slot past)
+abbrev pub HasRead : SlotReader → List LogEntry → Type 0
+HasRead reader past = reader.open ≡ option_map kept_of_slot (open_slot past)
+
+-- one entry more was read; this slot was finished by it, if one was
+abbrev pub ReadsEntry : SlotReader → LogEntry → SlotReader → Option KeptSlot → Type 0
+ReadsEntry old entry new slot =
+    (past : List LogEntry) → HasRead old past
+    → HasRead new (entry ∷ past) × (slot ≡ option_map kept_of_slot (finished_slot entry past))

@@ -22,7 +22,7 @@ use Rattle.lin_tool.specs.campaign.Singles.{faults_at, singles}
 use Rattle.lin_tool.specs.campaign.Summary.{AreCountsOf, RowCountsData, NumberedRow, is_denied, lines_text, numbers_text}
 use Rattle.lin_tool.specs.campaign.Summary.{rows_of, worst_faults}
 use Rattle.lin_tool.specs.campaign.Text.{known_losses, known_refusals}
-use Rattle.lin_tool.specs.campaign.Written.{IsRowOf, Stage, WritesPlays, text_before_rows, numbered_row, object_of, row_as}
+use Rattle.lin_tool.specs.campaign.Written.{IsRowOf, PlaySetup, WritesPlays, text_before_rows, numbered_row, object_of, row_as}
 use Rattle.lin_tool.specs.declared.campaign.Campaign.{Campaign}
 use Rattle.lin_tool.specs.declared.campaign.plan.CampaignPlan.{CampaignPlan}
 use Rattle.lin_tool.specs.declared.campaign.Play.{Play}
@@ -39,8 +39,8 @@ use Rattle.lin_tool.specs.declared.fault.Fault.TheVariants.{LogFull, OutOfMemory
 
 -- ---- what is played
 -- the campaign's table is one of the cluster, and its queues and its script have the sizes that a play takes
-abbrev pub IsReady : Campaign → Parts → Type 0
-IsReady on c =
+abbrev pub IsCampaignReady : Campaign → Parts → Type 0
+IsCampaignReady on c =
     (on.table < length c.tables) × (1 ≤ on.capacity) × (on.capacity ≤ 1024)
     × (length on.bytes.now ≤ 16777216)
 
@@ -49,7 +49,7 @@ abbrev pub SaysLines : Campaign → Parts → List (ℕ × ScriptLine) → Type 
 SaysLines on c ls = read c (given_coding on.coded) on.bytes.now ≡ Ok ls
 
 -- what the plays of these lines have in common
-abbrev pub stage_of : Campaign → Parts → List (ℕ × ScriptLine) → Stage
+abbrev pub stage_of : Campaign → Parts → List (ℕ × ScriptLine) → PlaySetup
 stage_of on c ls = record {
   strict = on.is_strict;
   cluster = c;
@@ -63,12 +63,12 @@ stage_of on c ls = record {
 abbrev pub IsTable : RowSource → Type 0
 IsTable t = IsPart t.part × (t.rows.now.singles ≤ 33000000)
 
-abbrev pub first_row : RowSource → ℕ
-first_row t = bound (length (rows t.rows.now)) (t.part.number - 1) t.part.count
+abbrev pub first_part_row : RowSource → ℕ
+first_part_row t = bound (length (rows t.rows.now)) (t.part.number - 1) t.part.count
 
 -- the one after the last row
-abbrev pub end_row : RowSource → ℕ
-end_row t = bound (length (rows t.rows.now)) t.part.number t.part.count
+abbrev pub end_part_row : RowSource → ℕ
+end_part_row t = bound (length (rows t.rows.now)) t.part.number t.part.count
 
 -- row 0 has no faults
 abbrev pub first_disturbed : ℕ → ℕ
@@ -76,22 +76,22 @@ first_disturbed from = max from 1
 
 -- how many rows of the part aren't row 0
 abbrev pub cases_of : RowSource → ℕ
-cases_of t = end_row t - first_disturbed (first_row t)
+cases_of t = end_part_row t - first_disturbed (first_part_row t)
 
 -- the plays of rows from number n on
-abbrev pub AreRowsOf : Stage → List Single → Rows → ℕ → List RowData → Type 0
+abbrev pub AreRowsOf : PlaySetup → List Single → Rows → ℕ → List RowData → Type 0
 AreRowsOf on ss t n [] = Unit {0}
 AreRowsOf on ss t n (p ∷ ps) = IsRowOf on ss n (places_of t n) p × AreRowsOf on ss t (suc n) ps
 
 -- these are rows of a table, with their faults
-abbrev pub IsNamed : RowSource → NumberedRow → Type 0
-IsNamed t r =
+abbrev pub IsTableRow : RowSource → NumberedRow → Type 0
+IsTableRow t r =
     (r.number < length (rows t.rows.now))
     × (r.faults ≡ faults_at t.singles.now (places_of t.rows.now r.number))
 
-abbrev pub AreNamed : RowSource → List NumberedRow → Type 0
-AreNamed t [] = Unit {0}
-AreNamed t (r ∷ rs) = IsNamed t r × AreNamed t rs
+abbrev pub AreTableRows : RowSource → List NumberedRow → Type 0
+AreTableRows t [] = Unit {0}
+AreTableRows t (r ∷ rs) = IsTableRow t r × AreTableRows t rs
 
 -- the places of the single faults of the worst row
 abbrev pub worst_places : RowSource → Option Worst → List ℕ
@@ -104,7 +104,7 @@ is_page format = false
 
 -- whether the undisturbed play is written: as row 0 of the part, or in a page
 abbrev pub shows_calm : RowFormat → RowSource → Bool
-shows_calm format t = (first_row t == 0) && nat_lt 0 (end_row t) || is_page format
+shows_calm format t = (first_part_row t == 0) && nat_lt 0 (end_part_row t) || is_page format
 
 -- the undisturbed play, as row 0
 abbrev pub calm_row : RowSource → CoreData → RowData
@@ -123,8 +123,8 @@ head_of on t c calm =
     t.rows.now c calm
 
 -- what stands before the rows with faults
-abbrev pub first_of : Campaign → RowSource → Parts → RowData → List ℕ
-first_of on t c calm =
+abbrev pub head_with_calm : Campaign → RowSource → Parts → RowData → List ℕ
+head_with_calm on t c calm =
     head_of on t c calm
     ++ (if shows_calm on.format t then row_as on.format on.script.now c [] [] calm else [])
 
@@ -154,14 +154,14 @@ counts_text on t c rows =
 -- these are the faults of the worst row, if the counters count rows of the table
 abbrev pub AreWorstFaults : RowSource → RowCountsData → List SlotFault → Type 0
 AreWorstFaults t counts fs =
-    (js : List Judgement) → (rows : List NumberedRow) → AreCountsOf js rows counts → AreNamed t rows
+    (js : List Judgement) → (rows : List NumberedRow) → AreCountsOf js rows counts → AreTableRows t rows
     → worst_faults rows ≡ fs
 
 -- the counts of the rows of a table were written, as far as the writer took them
 abbrev pub WritesCounts : Campaign → RowSource → Parts → RowCountsData → Option (List ℕ)
     → Option (List ℕ) → Type 0
 WritesCounts on t c counts silent heard =
-    (rows : List NumberedRow) → AreCountsOf t.judgements.now rows counts → AreNamed t rows
+    (rows : List NumberedRow) → AreCountsOf t.judgements.now rows counts → AreTableRows t rows
     → WritesTextOrPart silent heard (counts_text on t c rows)
 
 -- whether the plan denies what these counters count
@@ -201,11 +201,11 @@ WritesRow on t c ls n (Err fault) counts more old new =
 abbrev pub WritesRows : Campaign → RowSource → Parts → List (ℕ × ScriptLine) → Result Parts Fault
     → RowCountsData → RowCountsData → Option (List ℕ) → Option (List ℕ) → Type 0
 WritesRows on t c ls (Ok handed) counts more old new =
-    (ps : List RowData) × AreRowsOf (stage_of on c ls) t.singles.now t.rows.now (first_disturbed (first_row t)) ps
+    (ps : List RowData) × AreRowsOf (stage_of on c ls) t.singles.now t.rows.now (first_disturbed (first_part_row t)) ps
     × (length ps ≡ cases_of t) × Appends old new (flat_map (disturbed_row on t c) ps)
     × CountsMore ps counts more
 WritesRows on t c ls (Err fault) counts more old new =
-    (ps : List RowData) × AreRowsOf (stage_of on c ls) t.singles.now t.rows.now (first_disturbed (first_row t)) ps
+    (ps : List RowData) × AreRowsOf (stage_of on c ls) t.singles.now t.rows.now (first_disturbed (first_part_row t)) ps
     × (length ps ≡ cases_of t) × Begins old new (flat_map (disturbed_row on t c) ps)
     × BreaksOff on t c ls fault
 
@@ -232,7 +232,7 @@ row_of_play p = record {
 }
 
 -- the script's lines were played undisturbed, and each judgement is met
-pub record IsBegun (on : Campaign) (plan : CampaignPlan) (calm : Play) (ls : List (ℕ × ScriptLine)) : Type 0 where
+pub record IsCampaignBegun (on : Campaign) (plan : CampaignPlan) (calm : Play) (ls : List (ℕ × ScriptLine)) : Type 0 where
   pub says : SaysLines on calm.core.cluster ls
   pub undisturbed : IsRowOf (stage_of on calm.core.cluster ls) [] 0 [] (row_of_play calm)
   pub met : some_unmet calm.judgements ≡ false
@@ -262,6 +262,6 @@ WritesTable on plan t core result old new silent heard =
 abbrev pub WritesAfter : Campaign → CampaignPlan → Play → Result Unit Fault → Option (List ℕ)
     → Option (List ℕ) → Option (List ℕ) → Option (List ℕ) → Type 0
 WritesAfter on plan calm result old new silent heard =
-    (ls : List (ℕ × ScriptLine)) → IsBegun on plan calm ls
+    (ls : List (ℕ × ScriptLine)) → IsCampaignBegun on plan calm ls
     → WritesPlays (stage_of on calm.core.cluster ls) plan plan.is_watched on.script.now on.file.now
     on.bytes.now result old new silent heard

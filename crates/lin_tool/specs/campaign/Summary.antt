@@ -14,6 +14,7 @@ use Rattle.lin_bench.specs.Texts.{what_text}
 use Rattle.lin_bench.specs.declared.faults.SlotFault.{SlotFault}
 use Rattle.lin_bench.specs.declared.got.Judgement.{Judgement}
 use Rattle.lin_tool.specs.campaign.FaultNames.{faults_text}
+use Rattle.lin_tool.specs.declared.campaign.summary.JudgedScript.{JudgedScript}
 use Rattle.lin_tool.specs.declared.campaign.summary.LineCount.{LineCount}
 use Rattle.lin_tool.specs.declared.campaign.summary.Worst.{Worst}
 use Rattle.lin_tool.specs.declared.campaign.row.Row.{Row}
@@ -25,9 +26,9 @@ abbrev pub is_tolerated : RowVerdict → Bool
 is_tolerated Tolerated = true
 is_tolerated verdict = false
 
-abbrev pub is_broken : RowVerdict → Bool
-is_broken Broken = true
-is_broken verdict = false
+abbrev pub is_broken_verdict : RowVerdict → Bool
+is_broken_verdict Broken = true
+is_broken_verdict verdict = false
 
 abbrev pub is_limited : RowVerdict → Bool
 is_limited (Limit n) = true
@@ -36,7 +37,7 @@ is_limited verdict = false
 -- ---- lines
 -- the lines that a row breaks
 abbrev pub broken_lines : Row → List ℕ
-broken_lines r = if is_broken r.verdict then r.lines else []
+broken_lines r = if is_broken_verdict r.verdict then r.lines else []
 
 abbrev pub breaks : ℕ → Row → Bool
 breaks n r = is_in (broken_lines r) n
@@ -138,7 +139,7 @@ numbers_text c rows =
     ++ (codes " rows, "
     ++ (decimal (count_by (λ (r : Row). is_tolerated r.verdict) rs)
     ++ (codes " tolerated, "
-    ++ (decimal (count_by (λ (r : Row). is_broken r.verdict) rs)
+    ++ (decimal (count_by (λ (r : Row). is_broken_verdict r.verdict) rs)
     ++ (codes " broken, "
     ++ (decimal (count_by (λ (r : Row). is_limited r.verdict) rs)
     ++ (codes " at the slot limit, "
@@ -179,7 +180,7 @@ pub record AreCountsOf (js : List Judgement) (rows : List NumberedRow) (c : RowC
   pub lines : (n : ℕ) → IsCountOf js (rows_of rows) n (line_at c.lines n)
   pub rows_are : c.rows ≡ length (rows_of rows)
   pub tolerated : c.tolerated ≡ count_by (λ (r : Row). is_tolerated r.verdict) (rows_of rows)
-  pub broken : c.broken ≡ count_by (λ (r : Row). is_broken r.verdict) (rows_of rows)
+  pub broken : c.broken ≡ count_by (λ (r : Row). is_broken_verdict r.verdict) (rows_of rows)
   pub limited : c.limited ≡ count_by (λ (r : Row). is_limited r.verdict) (rows_of rows)
   pub missed : c.missed ≡ count_by (λ (r : Row). nat_lt 0 r.missed) (rows_of rows)
   pub worst : c.worst ≡ option_map worst_of (worst_after None rows)
@@ -204,6 +205,36 @@ counted_by row l =
       last = row;
     }
 
+-- what holds of all rows by which this line of a script is counted so, by which the counters are so, and of
+-- which the worst row has these faults
+abbrev pub WhereLineIs : JudgedScript → RowCountsData → ℕ → LineCount → (List Row → Type 0) → Type 0
+WhereLineIs script counts n one Holds =
+    (rows : List Row) → IsCountOf script.judgements.now rows n one → counts.rows ≡ length rows → Holds rows
+
+abbrev pub WhereCounted : JudgedScript → RowCountsData → (List Row → Type 0) → Type 0
+WhereCounted script counts Holds =
+    (rows : List NumberedRow) → AreCountsOf script.judgements.now rows counts → Holds (rows_of rows)
+
+abbrev pub WhereWorst : RowCountsData → List SlotFault → (List NumberedRow → Type 0) → Type 0
+WhereWorst counts faults Holds =
+    (js : List Judgement) → (rows : List NumberedRow) → AreCountsOf js rows counts
+    → worst_faults rows ≡ faults → Holds rows
+
+-- the line of a line of such a script, the same if it is counted, and all these lines
+abbrev pub script_line : JudgedScript → List Row → ℕ → List ℕ
+script_line s rows n = line_count_text s.name.now s.cluster.now s.judgements.now rows n
+
+abbrev pub script_line_if_counted : JudgedScript → List Row → ℕ → List ℕ
+script_line_if_counted s rows n = line_if_counted s.name.now s.cluster.now s.judgements.now rows n
+
+abbrev pub script_lines : JudgedScript → List Row → List ℕ
+script_lines s rows = lines_text s.name.now s.cluster.now s.judgements.now rows
+
+-- lines that a test passes are changed, and the others are as they were
+abbrev pub AreChanged : (ℕ → Bool) → (LineCount → LineCount) → List LineCount → List LineCount → Type 0
+AreChanged test change old new =
+    (n : ℕ) → line_at new n ≡ (if test n then change (line_at old n) else line_at old n)
+
 -- 1 for what passes a test
 abbrev pub one_if : Bool → ℕ
 one_if test = if test then 1 else 0
@@ -218,7 +249,7 @@ worse_of worst row count =
 abbrev pub IsLineCount : ℕ → LineCount → Type 0
 IsLineCount rows l = (l.broken ≤ l.last) × (l.last ≤ rows)
 
-pub record AreCounts (c : RowCountsData) : Type 0 where
+pub record AreRowCounts (c : RowCountsData) : Type 0 where
   pub tolerated : c.tolerated ≤ c.rows
   pub broken : c.broken ≤ c.rows
   pub limited : c.limited ≤ c.rows

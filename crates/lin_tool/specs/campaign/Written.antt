@@ -47,7 +47,7 @@ use Rattle.lin_tool.specs.declared.opening.Opened.{Opened}
 
 -- ---- plays
 -- what a script is played with
-pub record Stage : Type 0 where
+pub record PlaySetup : Type 0 where
   pub strict : Bool
   pub cluster : Parts
   pub coded : Option CodedData
@@ -56,7 +56,7 @@ pub record Stage : Type 0 where
   pub lines : List (ℕ × ScriptLine)
 
 -- the play of row n, which has the single faults at these places
-pub record IsRowOf (on : Stage) (ss : List Single) (n : ℕ) (places : List ℕ) (p : RowData)
+pub record IsRowOf (on : PlaySetup) (ss : List Single) (n : ℕ) (places : List ℕ) (p : RowData)
     : Type 0 where
   pub it : PlayedUnder
   pub comes
@@ -69,7 +69,7 @@ pub record IsRowOf (on : Stage) (ss : List Single) (n : ℕ) (places : List ℕ)
   pub judgements : p.judgements ≡ judgements_with_meanings on.coded it.judgements
 
 -- the plays of rows, of which the first has number n
-abbrev pub AreRowsFrom : Stage → List Single → ℕ → List (List ℕ) → List RowData → Type 0
+abbrev pub AreRowsFrom : PlaySetup → List Single → ℕ → List (List ℕ) → List RowData → Type 0
 AreRowsFrom on ss n [] [] = Unit {0}
 AreRowsFrom on ss n (places ∷ more) (p ∷ ps) =
     IsRowOf on ss n places p × AreRowsFrom on ss (suc n) more ps
@@ -116,7 +116,7 @@ text_after_rows format = []
 -- ---- the whole
 -- the plays of a campaign: the undisturbed one, of which each judgement is met, and those of the rows of
 -- a part
-pub record Plays (on : Stage) (plan : CampaignPlan) : Type 0 where
+pub record PlaysOfCampaign (on : PlaySetup) (plan : CampaignPlan) : Type 0 where
   pub calm : RowData
   pub undisturbed : IsRowOf on [] 0 [] calm
   pub met : some_unmet calm.judgements ≡ false
@@ -140,7 +140,7 @@ plays_in_output format calm ps = ps
 abbrev pub rows_with_faults : List RowData → List RowData
 rows_with_faults ps = filter (λ (p : RowData). not (p.number == 0)) ps
 
-abbrev pub campaign_output : {on : Stage} {plan : CampaignPlan} → List ℕ → List ℕ → List ℕ → Plays on plan → List ℕ
+abbrev pub campaign_output : {on : PlaySetup} {plan : CampaignPlan} → List ℕ → List ℕ → List ℕ → PlaysOfCampaign on plan → List ℕ
 campaign_output {on} {plan} script file bytes it =
     text_before_rows plan.format (plan.part.number == 1) script file bytes (length (rows_with_faults it.played))
     it.table on.cluster it.calm
@@ -157,12 +157,12 @@ numbered_row p = record {
 abbrev pub numbered_rows : List RowData → List NumberedRow
 numbered_rows ps = map numbered_row (rows_with_faults ps)
 
-abbrev pub counts : {on : Stage} {plan : CampaignPlan} → List ℕ → Plays on plan → List ℕ
+abbrev pub counts : {on : PlaySetup} {plan : CampaignPlan} → List ℕ → PlaysOfCampaign on plan → List ℕ
 counts {on} script it =
     lines_text script on.cluster it.calm.judgements (rows_of (numbered_rows it.played))
     ++ numbers_text on.cluster (numbered_rows it.played)
 
-abbrev pub denies : {on : Stage} {plan : CampaignPlan} → Plays on plan → Bool
+abbrev pub denies : {on : PlaySetup} {plan : CampaignPlan} → PlaysOfCampaign on plan → Bool
 denies {on} {plan} it =
     is_denied plan.denies_broken plan.denies_never it.calm.judgements
     (rows_of (numbered_rows it.played))
@@ -181,7 +181,7 @@ Ends watched (Err LogFull) denied text told old new silent heard = Begins old ne
 Ends watched (Err fault) denied text told old new silent heard = ⊥
 
 -- the log is full in some row: it would have more entries than a log takes
-abbrev pub SomeRowOverfills : {on : Stage} {plan : CampaignPlan} → Plays on plan → Type 0
+abbrev pub SomeRowOverfills : {on : PlaySetup} {plan : CampaignPlan} → PlaysOfCampaign on plan → Type 0
 SomeRowOverfills {on} it =
     (n : ℕ) × (n < length (rows it.table))
     × OverfillsUnder on.cluster on.opening on.capacity
@@ -192,10 +192,10 @@ is_full (Err LogFull) = true
 is_full result = false
 
 -- the lines of a script that is read, and what is written of their plays
-abbrev pub WritesPlays : Stage → CampaignPlan → Bool → List ℕ → List ℕ → List ℕ → Result Unit Fault
+abbrev pub WritesPlays : PlaySetup → CampaignPlan → Bool → List ℕ → List ℕ → List ℕ → Result Unit Fault
     → Option (List ℕ) → Option (List ℕ) → Option (List ℕ) → Option (List ℕ) → Type 0
 WritesPlays on plan watched script file bytes result old new silent heard =
-    (it : Plays on plan) × (is_full result ≡ true → SomeRowOverfills it)
+    (it : PlaysOfCampaign on plan) × (is_full result ≡ true → SomeRowOverfills it)
     × Ends watched result (denies it) (campaign_output script file bytes it) (counts script it) old new
     silent heard
 

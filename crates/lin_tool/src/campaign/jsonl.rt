@@ -13,12 +13,12 @@ ghost use Rattle.lin_export.specs.Json.{with_commas};
 ghost use Rattle.lin_export.specs.Putting.{PutsAll};
 ghost use Rattle.lin_tool.specs.Placing.{AtMoment};
 ghost use Rattle.lin_tool.specs.campaign.Jsonl.{failure_objects, ended_members, expectation, failure_object};
-ghost use Rattle.lin_tool.specs.campaign.Jsonl.{last_of, letter, letters, next_letter};
+ghost use Rattle.lin_tool.specs.campaign.Jsonl.{last_of, seen_letter, letters, next_letter};
 ghost use Rattle.lin_tool.specs.campaign.Jsonl.{loss_object, decimal_member, outcome_members, single_members, refusal_object};
 ghost use Rattle.lin_tool.specs.campaign.Jsonl.{row_object, sized_object, verdict_part};
 ghost use Rattle.lin_tool.specs.campaign.Page.{in_page};
 ghost use Rattle.lin_tool.specs.campaign.Shown.{row_data};
-ghost use Rattle.lin_tool.specs.campaign.Slots.{Follows, kept_slot};
+ghost use Rattle.lin_tool.specs.campaign.Slots.{HasRead, kept_of_slot};
 
 use crate::campaign::fault_names::{put_fault_array, put_node_name};
 use crate::campaign::page::put_object_text;
@@ -249,7 +249,7 @@ fn put_refusals<W: Write>(out: &mut TextWriter<'_, W>, steps: &[RefusedStep])
 
 /// The letter of a slot that was seen so.
 fn letter(look: Look) -> u8
-    ensures { (how : Seen) → look ≡ look_of how → result ≡ letter how }
+    ensures { (how : Seen) → look ≡ look_of how → result ≡ seen_letter how }
 {
     match look {
         Look::Silent => b's',
@@ -262,9 +262,9 @@ fn letter(look: Look) -> u8
 
 /// The letter of a slot after `count` slots, unless that many are enough.
 fn put_letter<W: Write>(out: &mut TextWriter<'_, W>, slot: &KeptSlot, count: usize)
-    ensures { (s : Slot) → slot.now ≡ kept_slot s
+    ensures { (s : Slot) → slot.now ≡ kept_of_slot s
         → Grows W.contents out.old out.new
-        (if nat_lt count 1000 then letter (seen_of s) ∷ [] else []) }
+        (if nat_lt count 1000 then seen_letter (seen_of s) ∷ [] else []) }
 {
     if count < MOST_LETTERS {
         out.put_byte(letter(slot.look()));
@@ -280,11 +280,11 @@ fn put_next_letter<W: Write>(
     count: usize,
 ) -> usize
     requires { count < 2 ^ 32 }
-    ensures follows { (past : List LogEntry) → Follows reader.old past
-        → Follows reader.new (entry.now ∷ past) }
-    ensures count { (past : List LogEntry) → Follows reader.old past
+    ensures follows { (past : List LogEntry) → HasRead reader.old past
+        → HasRead reader.new (entry.now ∷ past) }
+    ensures count { (past : List LogEntry) → HasRead reader.old past
         → result ≡ count + length (option_to_list (finished_slot entry.now past)) }
-    ensures text { (past : List LogEntry) → Follows reader.old past
+    ensures text { (past : List LogEntry) → HasRead reader.old past
         → Grows W.contents out.old out.new
         (next_letter count entry.now past) }
 {

@@ -6,7 +6,7 @@ ghost use Rattle.lin_core.specs.declared.log.LogEntry.{LogEntry};
 ghost use Rattle.lin_text.specs.Written.{Grows};
 ghost use Rattle.lin_tool.specs.campaign.Page.{data_head, next_page_slot, object_byte, object_text, page_line};
 ghost use Rattle.lin_tool.specs.campaign.Page.{page_lines, page_slot, without_empty_last};
-ghost use Rattle.lin_tool.specs.campaign.Slots.{Follows, finished_slots, kept_slot};
+ghost use Rattle.lin_tool.specs.campaign.Slots.{HasRead, finished_slots, kept_of_slot};
 
 use crate::campaign::slots::{KeptSlot, SlotReader, slot_name, table_name};
 use crate::page::field::{put_field, put_guarded};
@@ -63,7 +63,7 @@ fn put_script<W: Write>(out: &mut TextWriter<'_, W>, script: &[u8])
 
 /// The line of a slot.
 fn put_slot<W: Write>(out: &mut TextWriter<'_, W>, cluster: &Cluster, slot: &KeptSlot)
-    ensures { (s : Slot) → slot.now ≡ kept_slot s
+    ensures { (s : Slot) → slot.now ≡ kept_of_slot s
         → Grows W.contents out.old out.new (page_slot cluster.now s) }
 {
     out.put_text("slot ");
@@ -86,9 +86,9 @@ fn put_next_slot<W: Write>(
     reader: &mut SlotReader,
     entry: &LogEntry,
 )
-    ensures follows { (past : List LogEntry) → Follows reader.old past
-        → Follows reader.new (entry.now ∷ past) }
-    ensures text { (past : List LogEntry) → Follows reader.old past
+    ensures follows { (past : List LogEntry) → HasRead reader.old past
+        → HasRead reader.new (entry.now ∷ past) }
+    ensures text { (past : List LogEntry) → HasRead reader.old past
         → Grows W.contents out.old out.new (next_page_slot cluster.now entry.now past) }
 {
     if let Some(slot) = reader.next(entry) {

@@ -4,8 +4,8 @@ ghost use Rattle.std.specs.Prelude.{◌≡◌, ℕ, IfErr, IfOk, List};
 ghost use Rattle.lin_bench.specs.Plays.{ComesUnder};
 ghost use Rattle.lin_bench.specs.declared.line.ScriptLine.{ScriptLine};
 ghost use Rattle.lin_export.specs.WhereTold.{given_coding};
-ghost use Rattle.lin_tool.specs.campaign.Played.{IsOutOfMemory, IsPlayOf, IsUnfinished, PlaysRow, PlaysUndisturbed};
-ghost use Rattle.lin_tool.specs.campaign.Steps.{IsReady, SaysLines};
+ghost use Rattle.lin_tool.specs.campaign.Played.{IsMemoryFault, IsPlayOf, IsUnfinished, PlaysRow, PlaysUndisturbed};
+ghost use Rattle.lin_tool.specs.campaign.Steps.{IsCampaignReady, SaysLines};
 
 use crate::campaign::row::row_of;
 use crate::campaign::{Campaign, Play};
@@ -21,7 +21,7 @@ impl Campaign<'_, '_> {
     /// # Errors
     /// `LogFull`, `OutOfMemory`.
     pub(crate) fn play(&self, cluster: Cluster, faults: &[SlotFault]) -> Result<Play, Fault>
-        requires ready { IsReady self.now cluster }
+        requires ready { IsCampaignReady self.now cluster }
         ensures plays { (ls : List (ℕ × ScriptLine)) → SaysLines self.now cluster ls
             → PlaysRow self.now cluster faults.now ls result }
         ensures same { IfOk result (λ play. play.core.cluster ≡ cluster) }
@@ -47,7 +47,7 @@ impl Campaign<'_, '_> {
         lines: Vec<(u64, ScriptLine)>,
         notes: &mut Notes<'_>,
     ) -> Result<Play, Fault>
-        requires ready { IsReady self.now cluster }
+        requires ready { IsCampaignReady self.now cluster }
         ensures { PlaysUndisturbed self.now cluster lines.items result }
     {
         let played = self.played(cluster, lines, &[])?;
@@ -68,7 +68,7 @@ impl Campaign<'_, '_> {
         lines: Vec<(u64, ScriptLine)>,
         faults: &[SlotFault],
     ) -> Result<PlayedUnder, Fault>
-        requires ready { IsReady self.now cluster }
+        requires ready { IsCampaignReady self.now cluster }
         ensures plays { IfOk result (λ it. ComesUnder self.now.is_strict cluster self.now.table
             self.now.capacity faults.now lines.items it) }
         ensures fails { IfErr result (IsUnfinished self.now cluster faults.now lines.items) }
@@ -91,7 +91,7 @@ impl Campaign<'_, '_> {
     /// `OutOfMemory`.
     fn judged(&self, played: PlayedUnder) -> Result<Play, Fault>
         ensures row { IfOk result (λ play. IsPlayOf (given_coding self.now.coded) played play) }
-        ensures fails { IfErr result IsOutOfMemory }
+        ensures fails { IfErr result IsMemoryFault }
     {
         let row = row_of(self.alloc, &played)?;
         let PlayedUnder {

@@ -4,7 +4,7 @@ ghost use Rattle.std.specs.Prelude.{◌≡◌, ◌≤◌, ◌++◌, [], IfOk, On
 ghost use Rattle.std.specs.List.{filter_map, list_any};
 ghost use Rattle.std.specs.Option.{option_to_list};
 ghost use Rattle.lin_core.specs.History.{reply_events};
-ghost use Rattle.lin_tool.specs.campaign.Row.{is_again, is_among, is_same_loss, is_same_refusal, loss_in, lost_messages};
+ghost use Rattle.lin_tool.specs.campaign.Row.{is_again, has_refusal, is_same_loss, is_same_refusal, loss_in, lost_messages};
 ghost use Rattle.lin_tool.specs.campaign.Row.{new_refusal, refusal_on, refused_after, refused_steps};
 ghost use Rattle.lin_tool.specs.campaign.Row.{row_of, unmet_lines, verdict_of};
 
@@ -84,7 +84,7 @@ fn is_same_refusal(one: &RefusedStep, other: &RefusedStep) -> bool
 
 /// Whether a step is one of these refused ones.
 pub(crate) fn has_refused(refused: &[RefusedStep], step: &RefusedStep) -> bool
-    ensures { result ≡ is_among refused.now step.now }
+    ensures { result ≡ has_refusal refused.now step.now }
 {
     refused.iter().any(|other| is_same_refusal(other, step))
 }

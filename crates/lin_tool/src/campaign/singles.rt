@@ -2,9 +2,9 @@
 
 ghost use Rattle.std.specs.Prelude.{◌≡◌, ◌≤◌, ◌∷◌, ◌++◌, [], IfOk, OnOk, if◌then◌else◌, length};
 ghost use Rattle.lin_core.specs.History.{Slot};
-ghost use Rattle.lin_tool.specs.campaign.Singles.{AddsSinglesOf, absent_from, fault_of, faults_at, only_single};
+ghost use Rattle.lin_tool.specs.campaign.Singles.{AddsSinglesOf, absent_from, fault_of_single, faults_at, only_single};
 ghost use Rattle.lin_tool.specs.campaign.Singles.{singles, singles_of};
-ghost use Rattle.lin_tool.specs.campaign.Slots.{kept_slot};
+ghost use Rattle.lin_tool.specs.campaign.Slots.{kept_of_slot};
 
 use crate::campaign::slots::{KeptSlot, SlotReader};
 use crate::fault_text::LAST_SLOT;
@@ -40,7 +40,7 @@ pub(crate) struct Single {
 impl Single {
     /// The fault itself.
     pub(crate) fn fault(&self) -> SlotFault
-        ensures { result ≡ fault_of self.now }
+        ensures { result ≡ fault_of_single self.now }
     {
         SlotFault {
             first: self.slot,
@@ -96,7 +96,7 @@ fn add_of_slot(
     number: u32,
     slot: &KeptSlot,
 ) -> Result<(), AllocError>
-    ensures { OnOk result ((s : Slot) → slot.now ≡ kept_slot s
+    ensures { OnOk result ((s : Slot) → slot.now ≡ kept_of_slot s
         → singles.new.items ≡ singles.old.items ++ singles_of cluster.now kinds (number, s)) }
 {
     let damage = Single {

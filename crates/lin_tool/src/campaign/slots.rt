@@ -1,16 +1,15 @@
 //! The slots that a log finished, in order, as the rows of a campaign need them.
 
-ghost use Rattle.std.specs.Prelude.{◌≡◌, ◌<◌, ◌==◌, ◌∷◌, [], All, List, None, ℕ, find, if◌then◌else◌};
-ghost use Rattle.std.specs.Prelude.{length, nat_lt, option_map, slice_set, true};
+ghost use Rattle.std.specs.Prelude.{◌≡◌, ◌<◌, ◌==◌, [], All, List, None, ℕ, find, if◌then◌else◌};
+ghost use Rattle.std.specs.Prelude.{length, nat_lt, slice_set, true};
 ghost use Rattle.std.specs.Option.{option_map_or};
 ghost use Rattle.lin_parts.specs.Cluster.{frame_of, named_table};
-ghost use Rattle.lin_core.specs.History.{Slot, finished_slot, no_slot, seen_of, slot_after_event};
+ghost use Rattle.lin_core.specs.History.{Slot, no_slot, seen_of, slot_after_event};
 ghost use Rattle.lin_core.specs.History.{slot_after_events};
 ghost use Rattle.lin_core.specs.Tables.{look_of};
 ghost use Rattle.lin_core.specs.declared.event.Event.TheVariants.{Put};
-ghost use Rattle.lin_core.specs.declared.log.LogEntry.{LogEntry};
 ghost use Rattle.lin_bench.specs.Faults.{is_intact};
-ghost use Rattle.lin_tool.specs.campaign.Slots.{Follows, frame_shown, kept_slot, frame_or_entry_name};
+ghost use Rattle.lin_tool.specs.campaign.Slots.{HasRead, ReadsEntry, frame_shown, kept_of_slot, frame_or_entry_name};
 
 use lin_core::{Event, LogEntry, Look, NODES, Reply, Step, frame_under};
 use lin_parts::{Cluster, Entry};
@@ -74,7 +73,7 @@ fn with_node(answered: [bool; NODES], node: u8) -> [bool; NODES]
 impl KeptSlot {
     /// Returns a slot before its first event.
     fn new() -> KeptSlot
-        ensures { result ≡ kept_slot no_slot }
+        ensures { result ≡ kept_of_slot no_slot }
     {
         KeptSlot {
             table: 0,
@@ -89,8 +88,8 @@ impl KeptSlot {
 
     /// A node responded.
     fn respond(&mut self, node: u8)
-        ensures { (s : Slot) → (answer : List ℕ) → self.old ≡ kept_slot s
-            → self.new ≡ kept_slot (slot_after_event (Put node answer) s) }
+        ensures { (s : Slot) → (answer : List ℕ) → self.old ≡ kept_of_slot s
+            → self.new ≡ kept_of_slot (slot_after_event (Put node answer) s) }
     {
         self.answered = with_node(self.answered, node);
         self.first = self.first.or(Some(node));
@@ -99,8 +98,8 @@ impl KeptSlot {
 
     /// Keeps an event of the slot.
     fn tell(&mut self, event: &Event)
-        ensures { (s : Slot) → self.old ≡ kept_slot s
-            → self.new ≡ kept_slot (slot_after_event event.now s) }
+        ensures { (s : Slot) → self.old ≡ kept_of_slot s
+            → self.new ≡ kept_of_slot (slot_after_event event.now s) }
     {
         match event {
             Event::Slot {
@@ -119,8 +118,8 @@ impl KeptSlot {
 
     /// Keeps the events of a step in the slot.
     fn tell_all(&mut self, events: &[Event])
-        ensures { (s : Slot) → self.old ≡ kept_slot s
-            → self.new ≡ kept_slot (slot_after_events events.now s) }
+        ensures { (s : Slot) → self.old ≡ kept_of_slot s
+            → self.new ≡ kept_of_slot (slot_after_events events.now s) }
     {
         for event in events {
             self.tell(event);
@@ -129,14 +128,14 @@ impl KeptSlot {
 
     /// Whether exactly one node responded, and no step corrupted the response.
     pub(crate) fn is_intact(&self) -> bool
-        ensures { (s : Slot) → self.now ≡ kept_slot s → result ≡ is_intact s }
+        ensures { (s : Slot) → self.now ≡ kept_of_slot s → result ≡ is_intact s }
     {
         self.responses == 1 && !self.is_hurt
     }
 
     /// How the slot is seen when it is finished.
     pub(crate) fn look(&self) -> Look
-        ensures { (s : Slot) → self.now ≡ kept_slot s → result ≡ look_of (seen_of s) }
+        ensures { (s : Slot) → self.now ≡ kept_of_slot s → result ≡ look_of (seen_of s) }
     {
         if self.header.is_none() {
             return Look::Silent;
@@ -152,7 +151,7 @@ impl KeptSlot {
     /// Returns the frame of a good slot or, unless the entry is event-triggered, of any other; `None` if the
     /// slot has the name of its entry.
     pub(crate) fn frame(&self, cluster: &Cluster) -> Option<u16>
-        ensures { (s : Slot) → self.now ≡ kept_slot s → result ≡ frame_shown cluster.now s }
+        ensures { (s : Slot) → self.now ≡ kept_of_slot s → result ≡ frame_shown cluster.now s }
     {
         cluster.sound();
         match cluster.line_at(self.table, self.entry).entry {
@@ -172,16 +171,14 @@ impl KeptSlot {
 impl SlotReader {
     /// No entry was read.
     pub(crate) fn new() -> SlotReader
-        ensures { Follows result [] }
+        ensures { HasRead result [] }
     {
         SlotReader { open: None }
     }
 
     /// Reads the next entry of the log, and returns the slot that it finished, if it did.
     pub(crate) fn next(&mut self, entry: &LogEntry) -> Option<KeptSlot>
-        ensures { (past : List LogEntry) → Follows self.old past
-            → Follows self.new (entry.now ∷ past)
-            × (result ≡ option_map kept_slot (finished_slot entry.now past)) }
+        ensures { ReadsEntry self.old entry.now self.new result }
     {
         let Reply::Done(events) = &entry.reply else {
             return None;

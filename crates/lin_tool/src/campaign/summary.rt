@@ -1,18 +1,19 @@
 //! What is counted over the rows of a campaign, and the lines that report it.
 
 ghost use Rattle.std.specs.Prelude.{◌≡◌, ◌<◌, ◌^◌, [], All, IfOk, List, OnOk, Some, length, ℕ};
-ghost use Rattle.std.specs.Prelude.{◌+◌, ◌==◌, ◌||◌, if◌then◌else◌};
+ghost use Rattle.std.specs.Prelude.{◌+◌, ◌==◌, ◌||◌};
 ghost use Rattle.std.specs.List.{list_any};
 ghost use Rattle.std.specs.Option.{option_map_or};
 ghost use Rattle.lin_text.specs.Written.{Grows};
 ghost use Rattle.lin_core.specs.History.{is_in};
 ghost use Rattle.lin_bench.specs.declared.got.Judgement.{Judgement};
-ghost use Rattle.lin_tool.specs.campaign.Summary.{AreCountsOf, CountsRow, IsCountOf, IsLineCount, NumberedRow, counted_by};
-ghost use Rattle.lin_tool.specs.campaign.Summary.{broken_lines, expectation, first_at, is_broken, line_if_counted, line_or_lines};
+ghost use Rattle.lin_tool.specs.campaign.Summary.{AreChanged, AreCountsOf, CountsRow, IsLineCount, NumberedRow};
+ghost use Rattle.lin_tool.specs.campaign.Summary.{WhereCounted, WhereLineIs, WhereWorst, counted_by};
+ghost use Rattle.lin_tool.specs.campaign.Summary.{broken_lines, expectation, first_at, is_broken_verdict, line_or_lines};
 ghost use Rattle.lin_tool.specs.campaign.Summary.{is_limited, is_tolerated, broken_mark, one_if, place_from, worse_of, worst_lines};
-ghost use Rattle.lin_tool.specs.campaign.Summary.{line_at, line_count_text, lines_text, numbers_text, rows_of};
-ghost use Rattle.lin_tool.specs.campaign.Summary.{some_never_broken, some_not_tolerated, worst_faults};
-ghost use Rattle.lin_tool.specs.declared.campaign.row.Row.{Row};
+ghost use Rattle.lin_tool.specs.campaign.Summary.{line_at, numbers_text, rows_of, script_line};
+ghost use Rattle.lin_tool.specs.campaign.Summary.{script_line_if_counted, script_lines};
+ghost use Rattle.lin_tool.specs.campaign.Summary.{some_never_broken, some_not_tolerated};
 
 use crate::campaign::fault_names::put_faults;
 use crate::campaign::row::{Row, RowVerdict};
@@ -63,7 +64,7 @@ pub(crate) struct RowCounts {
 }
 
 impl Model for RowCounts {
-    ghost use Rattle.lin_tool.specs.campaign.Summary.{AreCounts, RowCountsData};
+    ghost use Rattle.lin_tool.specs.campaign.Summary.{AreRowCounts, RowCountsData};
 
     ghost Value = { RowCountsData };
 
@@ -77,7 +78,7 @@ impl Model for RowCounts {
       worst = t.worst;
     } };
 
-    ghost invariant = { λ t. AreCounts (record {
+    ghost invariant = { λ t. AreRowCounts (record {
       lines = t.lines.items;
       rows = t.rows;
       tolerated = t.tolerated;
@@ -107,9 +108,8 @@ fn add_lines(lines: &mut Vec<LineCount>, line: u64) -> Result<(), AllocError>
 
 /// Keeps the index of a line's expectation, if it is the first one. An error means out of memory.
 fn add_judgement(lines: &mut Vec<LineCount>, line: u64, place: usize) -> Result<(), AllocError>
-    ensures same { OnOk result ((n : ℕ) → line_at lines.new.items n
-        ≡ (if n == line then first_at place (line_at lines.old.items n)
-        else line_at lines.old.items n)) }
+    ensures same { OnOk result
+        (AreChanged (λ n. n == line) (first_at place) lines.old.items lines.new.items) }
     ensures counts { (rows : ℕ) → All (IsLineCount rows) lines.old.items
         → All (IsLineCount rows) lines.new.items }
 {
@@ -138,13 +138,12 @@ fn counted(one: LineCount, row: u64) -> LineCount
     }
 }
 
-/// RowCounts that a row breaks a line, the `row`-th that is counted: the same row counts once. An error
+/// Counts that a row breaks a line, the `row`-th that is counted: the same row counts once. An error
 /// means out of memory.
 fn count_line(lines: &mut Vec<LineCount>, line: u64, row: u64) -> Result<(), AllocError>
     requires { All (IsLineCount row) lines.old.items }
-    ensures same { OnOk result ((n : ℕ) → line_at lines.new.items n
-        ≡ (if n == line then counted_by row (line_at lines.old.items n)
-        else line_at lines.old.items n)) }
+    ensures same { OnOk result
+        (AreChanged (λ n. n == line) (counted_by row) lines.old.items lines.new.items) }
     ensures counts { All (IsLineCount row) lines.new.items }
 {
     add_lines(lines, line)?;
@@ -153,12 +152,11 @@ fn count_line(lines: &mut Vec<LineCount>, line: u64, row: u64) -> Result<(), All
     Ok(())
 }
 
-/// RowCounts that a row breaks these lines, the `row`-th that is counted. An error means out of memory.
+/// Counts that a row breaks these lines, the `row`-th that is counted. An error means out of memory.
 fn count_lines(lines: &mut Vec<LineCount>, broken: &[u64], row: u64) -> Result<(), AllocError>
     requires { All (IsLineCount row) lines.old.items }
-    ensures same { OnOk result ((n : ℕ) → line_at lines.new.items n
-        ≡ (if is_in broken.now n then counted_by row (line_at lines.old.items n)
-        else line_at lines.old.items n)) }
+    ensures same { OnOk result
+        (AreChanged (is_in broken.now) (counted_by row) lines.old.items lines.new.items) }
     ensures counts { All (IsLineCount row) lines.new.items }
 {
     for line in broken {
@@ -201,7 +199,7 @@ fn is_tolerated(verdict: RowVerdict) -> bool
 }
 
 fn is_broken(verdict: RowVerdict) -> bool
-    ensures { result ≡ is_broken verdict }
+    ensures { result ≡ is_broken_verdict verdict }
 {
     matches!(verdict, RowVerdict::Broken)
 }
@@ -382,10 +380,8 @@ impl RowCounts {
         line: u64,
         one: LineCount,
     )
-        ensures { (rows : List Row) → IsCountOf script.entry.judgements.now rows line one
-            → self.now.rows ≡ length rows
-            → Grows W.contents out.old out.new (line_count_text script.entry.name.now
-            script.entry.cluster.now script.entry.judgements.now rows line) }
+        ensures { WhereLineIs script.entry self.now line one (λ rows. Grows W.contents out.old out.new
+            (script_line script.entry rows line)) }
     {
         out.put_text(script.name);
         out.put_numbered(b':', line);
@@ -406,9 +402,8 @@ impl RowCounts {
         line: usize,
     )
         requires { line < length self.now.lines }
-        ensures { (rows : List NumberedRow) → AreCountsOf script.entry.judgements.now rows self.now
-            → Grows W.contents out.old out.new (line_if_counted script.entry.name.now
-            script.entry.cluster.now script.entry.judgements.now (rows_of rows) line) }
+        ensures { WhereCounted script.entry self.now (λ rows. Grows W.contents out.old out.new
+            (script_line_if_counted script.entry rows line)) }
     {
         let one = self.lines[line];
         if either(one.judgement.is_some(), one.broken > 0) {
@@ -418,9 +413,8 @@ impl RowCounts {
 
     /// A line for each line that is counted.
     pub(crate) fn put_lines<W: Write>(&self, out: &mut TextWriter<'_, W>, script: JudgedScript<'_>)
-        ensures { (rows : List NumberedRow) → AreCountsOf script.entry.judgements.now rows self.now
-            → Grows W.contents out.old out.new (lines_text script.entry.name.now
-            script.entry.cluster.now script.entry.judgements.now (rows_of rows)) }
+        ensures { WhereCounted script.entry self.now (λ rows. Grows W.contents out.old out.new
+            (script_lines script.entry rows)) }
     {
         for line in 0..self.lines.len() {
             self.put_if_counted(out, script, line);
@@ -434,8 +428,8 @@ impl RowCounts {
         cluster: &Cluster,
         faults: &[SlotFault],
     )
-        ensures { (js : List Judgement) → (rows : List NumberedRow) → AreCountsOf js rows self.now
-            → worst_faults rows ≡ faults.now → Grows W.contents out.old out.new (numbers_text cluster.now rows) }
+        ensures { WhereWorst self.now faults.now (λ rows. Grows W.contents out.old out.new
+            (numbers_text cluster.now rows)) }
     {
         out.put_text("campaign: ");
         out.put_number(self.rows);

@@ -1,9 +1,8 @@
 //! The judgements of a play that aren't met, as lines of a page.
 
-ghost use Rattle.std.specs.Prelude.{flat_map};
 ghost use Rattle.lin_export.specs.Putting.{PutsAll};
 ghost use Rattle.lin_text.specs.Written.{WritesText};
-ghost use Rattle.lin_tool.specs.Page.{unmet_data_line};
+ghost use Rattle.lin_tool.specs.Page.{unmet_data, unmet_data_line};
 ghost use Rattle.lin_tool.specs.Placing.{AtMoment};
 
 use crate::page::field::put_field;
@@ -52,7 +51,7 @@ fn put_unmet_lines<W: Write>(
     judgements: &[Judgement],
 ) -> Result<(), AllocError>
     ensures { PutsAll W.contents out.old out.new result
-        (flat_map (unmet_data_line script.entry cluster.now log.now.entries) judgements.now) }
+        (unmet_data script.entry cluster.now log.now.entries judgements.now) }
 {
     let mut read = 0;
     let mut moment = Moment::new();
@@ -78,7 +77,7 @@ pub(crate) fn write_unmet_lines<W: Write>(
     writer: &mut W,
 ) -> Result<(), ExportFault>
     ensures { WritesText (W.contents writer.old) (W.contents writer.new) result
-        (flat_map (unmet_data_line script.entry cluster.now log.now.entries) judgements.now) }
+        (unmet_data script.entry cluster.now log.now.entries judgements.now) }
 {
     let mut buffer = TextBuffer::empty();
     let mut out = TextWriter::new(writer, &mut buffer);

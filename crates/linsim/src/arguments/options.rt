@@ -57,19 +57,25 @@ pub(crate) fn format<'a>(alloc: Global, words: &'a [&'a str]) -> Arg<'a> {
         .help("Output format")
 }
 
+/// An option that isn't given together with the lists of `check`.
+fn without_lists<'a>(option: Arg<'a>) -> Result<Arg<'a>, AllocError> {
+    option
+        .conflicts_with("frames")?
+        .conflicts_with("map")?
+        .conflicts_with("slots")?
+        .conflicts_with("timing")
+}
+
 /// The value of `--to` of `check`.
 static OBJECTS: [&str; 1] = ["json"];
 
 pub(crate) fn object<'a>(alloc: Global) -> Result<Arg<'a>, AllocError> {
-    Arg::new(alloc, "to")
+    let option = Arg::new(alloc, "to")
         .long("to")
         .value_name("FORMAT")
         .value_parser(OBJECTS.as_slice())
-        .help("Write one object with all that was found instead of the list")
-        .conflicts_with("frames")?
-        .conflicts_with("map")?
-        .conflicts_with("slots")?
-        .conflicts_with("timing")?
+        .help("Write one object with all that was found instead of the list");
+    without_lists(option)?
         .conflicts_with("signals")?
         .conflicts_with("plain")
 }
@@ -156,12 +162,8 @@ pub(crate) fn compared_field<'a>(alloc: Global) -> Arg<'a> {
 
 pub(crate) fn plain<'a>(alloc: Global) -> Result<Arg<'a>, AllocError> {
     let help = "Write the LDF as LIN 2.2A text instead of the list (needs --field)";
-    flag(alloc, "plain", help)
-        .requires_arg("field")?
-        .conflicts_with("frames")?
-        .conflicts_with("map")?
-        .conflicts_with("slots")?
-        .conflicts_with("timing")?
+    let option = flag(alloc, "plain", help).requires_arg("field")?;
+    without_lists(option)?
         .conflicts_with("physical")?
         .conflicts_with("lint")?
         .conflicts_with("configuration")?

@@ -2,7 +2,7 @@ use Rattle.std.proofs.Common.{◌≡◌, ◌∙◌, Err, Ok, refl, subst, sym}
 use Rattle.std.proofs.lemmas.Result.{err_from_is_err_and}
 use Rattle.lin_tool.specs.Formats.{export_fault}
 use Rattle.lin_tool.specs.Playing.{WritesTextOrPart}
-use Rattle.lin_tool.specs.campaign.Steps.{SaysLines, WritesRows, calm_row, counts_text, first_of}
+use Rattle.lin_tool.specs.campaign.Steps.{SaysLines, WritesRows, calm_row, counts_text, head_with_calm}
 use Rattle.lin_tool.specs.declared.fault.Fault.TheVariants.{Denied, OutOfMemory, WriteFailed}
 use Rattle.lin_tool.proofs.CampaignEnds.{begins-nothing, campaign-unplayed, no_counts, rows-fail, table-done, tail-fails, text-begins, written-fault}
 use Rattle.lin_tool.proofs.CampaignTexts.{when-ok, writes-whole}
@@ -16,7 +16,7 @@ returns-in_err-counts g c = λ ls is.
     let silent = g.E.Write.contents c.args.errors.now in
     rw (p.1, p.2)
     (campaign-unplayed c.args.campaign.now c.args.plan.now c.args.table.now core ls c.args.table.now.is_watched OutOfMemory old old silent silent c.requires.table is tt
-    (begins-nothing old (first_of c.args.campaign.now c.args.table.now core.cluster (calm_row c.args.table.now core))))
+    (begins-nothing old (head_with_calm c.args.campaign.now c.args.table.now core.cluster (calm_row c.args.table.now core))))
 
 pub returns-in_err-write_first : goal.returns-in_err-write_first
 returns-in_err-write_first g c = λ ls is.

@@ -10,7 +10,7 @@ use Rattle.lin_export.proofs.Puttings.{puts-all, puts-some}
 use Rattle.lin_bench.specs.Played.{is_unmet}
 use Rattle.lin_bench.specs.Texts.{found_text, what_text}
 use Rattle.lin_bench.specs.declared.got.Judgement.{Judgement}
-use Rattle.lin_tool.specs.Objects.{check_object}
+use Rattle.lin_tool.specs.Objects.{failed_check_object}
 use Rattle.lin_tool.proofs.objects.put_check.Goals as goal
 
 abbrev text_or_none : Option (List ℕ) → List ℕ
@@ -21,12 +21,12 @@ behind-space None = refl
 behind-space (Some text) = refl
 
 unmet-object : (c : Parts) (script : List ℕ) (past : List LogEntry) (j : Judgement) (what got : List ℕ) → is_unmet j.judged ≡ true
-    → what ≡ what_text c j.judged → got ≡ text_or_none (found_text c j.judged) → unmet_line c past script j.line what got ≡ check_object c script past j
+    → what ≡ what_text c j.judged → got ≡ text_or_none (found_text c j.judged) → unmet_line c past script j.line what got ≡ failed_check_object c script past j
 unmet-object c script past j what got h e f =
     ap (λ w. unmet_line c past script j.line w got) e ∙ ap (λ t. unmet_line c past script j.line (what_text c j.judged) t) f
     ∙ ap (λ (b : Bool). if b then unmet_line c past script j.line (what_text c j.judged) (text_or_none (found_text c j.judged)) else []) (sym h)
 
-met-object : (c : Parts) (script : List ℕ) (past : List LogEntry) (j : Judgement) → is_unmet j.judged ≡ false → [] ≡ check_object c script past j
+met-object : (c : Parts) (script : List ℕ) (past : List LogEntry) (j : Judgement) → is_unmet j.judged ≡ false → [] ≡ failed_check_object c script past j
 met-object c script past j h =
     ap (λ (b : Bool). if b then unmet_line c past script j.line (what_text c j.judged) (text_or_none (found_text c j.judged)) else []) (sym h)
 
@@ -36,11 +36,11 @@ returns-then-not-is_unmet g c = λ past told.
 
 pub returns-in_err-what : goal.returns-in_err-what
 returns-in_err-what g c = λ past told.
-    puts-some (check_object c.args.cluster.now c.args.script.now past c.args.judgement.now) c.from_residual.ensures.0 refl (grows-nothing c.args.out.now)
+    puts-some (failed_check_object c.args.cluster.now c.args.script.now past c.args.judgement.now) c.from_residual.ensures.0 refl (grows-nothing c.args.out.now)
 
 pub returns-in_err-got : goal.returns-in_err-got
 returns-in_err-got g c = λ past told.
-    puts-some (check_object c.args.cluster.now c.args.script.now past c.args.judgement.now) c.from_residual-in_err-got.ensures.0 refl (grows-nothing c.args.out.now)
+    puts-some (failed_check_object c.args.cluster.now c.args.script.now past c.args.judgement.now) c.from_residual-in_err-got.ensures.0 refl (grows-nothing c.args.out.now)
 
 pub returns : goal.returns
 returns g c = λ past told.

@@ -9,7 +9,7 @@ use Rattle.lin_export.proofs.Puttings.{puts-all}
 use Rattle.lin_export.proofs.Slots.{drop-end, drop-next}
 use Rattle.lin_export.specs.Jsonl.{objects_of}
 use Rattle.lin_export.specs.WhereTold.{given_coding}
-use Rattle.lin_tool.specs.Objects.{check_object, checked_objects}
+use Rattle.lin_tool.specs.Objects.{failed_check_object, checked_objects}
 use Rattle.lin_tool.proofs.Remaining.{broke-off, none-put, put-all, put-whole, same-rest}
 use Rattle.lin_tool.proofs.objects.put_checked.Goals as goal
 
@@ -25,10 +25,10 @@ checked-next : (c : Parts) (k : Option CodedData) (script : List ℕ) (log : Lis
     → end ≡ max (min j.entries (length log)) from
     → checked_objects c k script log from (drop i js)
     ≡ objects_of c k (reverse (take from log)) (drop from (take end log))
-    ++ (check_object c script (reverse (take end log)) j ++ checked_objects c k script log end (drop (i + 1) js))
+    ++ (failed_check_object c script (reverse (take end log)) j ++ checked_objects c k script log end (drop (i + 1) js))
 checked-next c k script log from end js i j is h e =
     ap (checked_objects c k script log from) (drop-next js i j is h)
-    ∙ ap (λ n. objects_of c k (reverse (take from log)) (drop from (take n log)) ++ (check_object c script (reverse (take n log)) j ++ checked_objects c k script log n (drop (i + 1) js)))
+    ∙ ap (λ n. objects_of c k (reverse (take from log)) (drop from (take n log)) ++ (failed_check_object c script (reverse (take n log)) j ++ checked_objects c k script log n (drop (i + 1) js)))
     (sym e)
 
 pub loop-one-preserved : goal.loop-one-preserved
@@ -44,7 +44,7 @@ loop-one-preserved g c =
     let check = rw c.in_ok-put_check.was at (c.put_check.ensures (reverse (take end log)) track) in
     let next = checked-next c.cluster-cluster.result.now k c.args.script.now log c.loop-one.read end js c.loop-one.one-index j c.one-item.is (omega arith) (c.max-end.ensures ∙ ap (λ n. max n c.loop-one.read) c.within.ensures.count) in
     record {
-      put = put-all rest (put-all (check_object c.cluster-cluster.result.now c.args.script.now (reverse (take end log)) j ++ rest) (same-rest next c.loop-one.invariant.put) entries) check;
+      put = put-all rest (put-all (failed_check_object c.cluster-cluster.result.now c.args.script.now (reverse (take end log)) j ++ rest) (same-rest next c.loop-one.invariant.put) entries) check;
       track = track;
       few = omega arith;
     }
@@ -61,7 +61,7 @@ returns-in_err-put_entries-clause-text g c =
     let rest = checked_objects x k script log end (drop (c.loop-one.one-index + 1) js) in
     let next = checked-next x k script log c.loop-one.read end js c.loop-one.one-index j c.one-item.is (omega arith) (c.max-end.ensures ∙ ap (λ n. max n c.loop-one.read) c.within.ensures.count) in
     rw (c.cluster-cluster.ensures, c.log-log.ensures.entries) at
-    (broke-off (check_object x script (reverse (take end log)) j ++ rest) c.from_residual.ensures.0 (same-rest next c.loop-one.invariant.put) c.put_entries.ensures.text)
+    (broke-off (failed_check_object x script (reverse (take end log)) j ++ rest) c.from_residual.ensures.0 (same-rest next c.loop-one.invariant.put) c.put_entries.ensures.text)
 
 pub returns-in_err-put_check-clause-text : goal.returns-in_err-put_check-clause-text
 returns-in_err-put_check-clause-text g c =
@@ -77,7 +77,7 @@ returns-in_err-put_check-clause-text g c =
     let entries = rw c.in_ok-put_entries.was at c.put_entries.ensures.text in
     let track = rw c.in_ok-put_entries.was at c.put_entries.ensures.track in
     rw (c.cluster-cluster.ensures, c.log-log.ensures.entries) at
-    (broke-off rest c.from_residual-in_err-put_check.ensures.0 (put-all (check_object x script (reverse (take end log)) j ++ rest) (same-rest next c.loop-one.invariant.put) entries)
+    (broke-off rest c.from_residual-in_err-put_check.ensures.0 (put-all (failed_check_object x script (reverse (take end log)) j ++ rest) (same-rest next c.loop-one.invariant.put) entries)
     (c.put_check.ensures (reverse (take end log)) track))
 
 -- the objects after the last check

@@ -1,14 +1,14 @@
 use Rattle.std.proofs.Common.{◌≡◌, ◌∙◌, ◌+◌, ◌<◌, max, arith, refl, subst, sym, Err, Ok}
 use Rattle.std.proofs.KnownBytes.{Keeps-refl, Keeps-trans}
 use Rattle.std.proofs.lemmas.Result.{err_from_is_err_and}
-use Rattle.lin_tool.specs.campaign.Steps.{SaysLines, WritesRow, end_row, first_disturbed, first_row}
+use Rattle.lin_tool.specs.campaign.Steps.{SaysLines, WritesRow, end_part_row, first_disturbed, first_part_row}
 use Rattle.lin_tool.proofs.CampaignEnds.{rows-broke, rows-written, wrote-more, wrote-none}
 use Rattle.lin_tool.proofs.campaign.Campaign.write_rows.Goals as goal
 
 pub loop-number-init : goal.loop-number-init
 loop-number-init g c =
     let t = c.args.table.now in
-    let first : first_disturbed (first_row t) ≡ c.first_disturbed-number.result = omega (arith, c.first_disturbed-number.ensures, c.bounds-from.ensures.first) in
+    let first : first_disturbed (first_part_row t) ≡ c.first_disturbed-number.result = omega (arith, c.first_disturbed-number.ensures, c.bounds-from.ensures.first) in
     record {
       same = refl;
       rows = omega (arith, first, c.requires.none);
@@ -24,7 +24,7 @@ returns-in_err-handed-clause-writes g c = λ ls says.
     let inv = c.loop-number.invariant in
     let now = g.W.Write.contents c.loop-number.writer in
     let new = g.W.Write.contents c.one_row.new.writer in
-    let there : c.loop-number.number < end_row t = omega (arith, c.bounds-from.ensures.end) in
+    let there : c.loop-number.number < end_part_row t = omega (arith, c.bounds-from.ensures.end) in
     let row = c.in_err-handed.ensures.writes ls (subst (λ x. SaysLines on x ls) (sym inv.same) says) in
     let p = err_from_is_err_and c.from_residual.result c.from_residual.ensures.1 in
     rw (p.1, p.2)
@@ -55,6 +55,6 @@ pub returns-clause-writes : goal.returns-clause-writes
 returns-clause-writes g c = λ ls says.
     let t = c.args.table.now in
     let inv = c.loop-number.invariant in
-    let end : c.loop-number.number ≡ max (end_row t) (first_disturbed (first_row t)) = omega (arith, inv.few, inv.rows, c.bounds-from.ensures.end, c.bounds-from.ensures.first, c.first_disturbed-number.ensures) in
+    let end : c.loop-number.number ≡ max (end_part_row t) (first_disturbed (first_part_row t)) = omega (arith, inv.few, inv.rows, c.bounds-from.ensures.end, c.bounds-from.ensures.first, c.first_disturbed-number.ensures) in
     rows-written c.args.self.now t c.args.cluster c.loop-number.handed ls c.loop-number.number c.args.counts.now c.loop-number.counts (g.W.Write.contents c.args.writer.now)
     (g.W.Write.contents c.loop-number.writer) end (inv.wrote ls says)

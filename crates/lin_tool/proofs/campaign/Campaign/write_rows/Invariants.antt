@@ -1,15 +1,15 @@
 use Rattle.std.proofs.Common.{◌≡◌, ◌+◌, ◌≤◌, ℕ, List, false, max}
 use Rattle.std.specs.Io.KnownBytes.{Keeps}
 use Rattle.lin_bench.specs.declared.line.ScriptLine.{ScriptLine}
-use Rattle.lin_tool.specs.campaign.Steps.{SaysLines, end_row, first_disturbed, first_row}
+use Rattle.lin_tool.specs.campaign.Steps.{SaysLines, end_part_row, first_disturbed, first_part_row}
 use Rattle.lin_tool.proofs.CampaignEnds.{WroteUpTo}
 use Rattle.lin_tool.proofs.campaign.Campaign.write_rows.Given as goal
 
 abbrev pub invariant-loop-number : goal.invariant-loop-number
 invariant-loop-number g l = record {
   same : l.handed ≡ l.fn.cluster;
-  rows : l.counts.rows + first_disturbed (first_row l.table) ≡ l.number;
-  few : l.number ≤ max (end_row l.table) (first_disturbed (first_row l.table));
+  rows : l.counts.rows + first_disturbed (first_part_row l.table) ≡ l.number;
+  few : l.number ≤ max (end_part_row l.table) (first_disturbed (first_part_row l.table));
   quiet : l.table.is_watched ≡ false → Keeps (g.E.Write.contents l.initial.errors) (g.E.Write.contents l.errors);
   wrote :
       (ls : List (ℕ × ScriptLine)) → SaysLines l.self l.fn.cluster ls

@@ -5,8 +5,8 @@ use Rattle.lin_core.specs.History.{finished_slot}
 use Rattle.lin_log.proofs.LastFinish.{newest-first}
 use Rattle.lin_text.proofs.Growing.{grows-more, grows-nothing, same-growth}
 use Rattle.lin_tool.specs.Placing.{past_at}
-use Rattle.lin_tool.specs.campaign.Jsonl.{letters_of}
-use Rattle.lin_tool.specs.campaign.Slots.{Follows, slots_of}
+use Rattle.lin_tool.specs.campaign.Jsonl.{slot_letters}
+use Rattle.lin_tool.specs.campaign.Slots.{HasRead, slots_of}
 use Rattle.lin_tool.proofs.CampaignLogs.{count-next, letters-next, one-most}
 use Rattle.lin_tool.proofs.campaign.jsonl.put_letters.Goals as goal
 
@@ -25,13 +25,13 @@ loop-index-preserved g c =
     let most = one-most e past in
     record {
       put =
-          same-growth (ap (λ n. letters_of (take 1000 (slots_of past)) ++ letters_of (take (1000 - n) (option_to_list (finished_slot e past)))) old ∙ letters-next 1000 log i e there c.entry.ensures)
+          same-growth (ap (λ n. slot_letters (take 1000 (slots_of past)) ++ slot_letters (take (1000 - n) (option_to_list (finished_slot e past)))) old ∙ letters-next 1000 log i e there c.entry.ensures)
           (grows-more c.loop-index.invariant.put (c.put_next_letter-count.ensures.text past c.loop-index.invariant.follows));
-      follows = subst (λ p. Follows c.put_next_letter-count.new.reader p) (sym (newest-first log i e there c.entry.ensures)) (c.put_next_letter-count.ensures.follows past c.loop-index.invariant.follows);
+      follows = subst (λ p. HasRead c.put_next_letter-count.new.reader p) (sym (newest-first log i e there c.entry.ensures)) (c.put_next_letter-count.ensures.follows past c.loop-index.invariant.follows);
       count = count ∙ ap (λ n. n + length (option_to_list (finished_slot e past))) old ∙ count-next log i e there c.entry.ensures;
       few = omega (arith, count, most);
     }
 
 pub returns : goal.returns
 returns g c =
-    same-growth (ap (λ l. letters_of (take 1000 (slots_of (reverse l)))) (take_all c.loop-index.index c.args.log.now.entries (omega (arith, c.len-index-end.ensures.len)))) c.loop-index.invariant.put
+    same-growth (ap (λ l. slot_letters (take 1000 (slots_of (reverse l)))) (take_all c.loop-index.index c.args.log.now.entries (omega (arith, c.len-index-end.ensures.len)))) c.loop-index.invariant.put

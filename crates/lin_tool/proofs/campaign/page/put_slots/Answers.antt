@@ -4,7 +4,7 @@ use Rattle.lin_log.proofs.LastFinish.{newest-first}
 use Rattle.lin_text.proofs.Growing.{grows-more, grows-nothing, same-growth}
 use Rattle.lin_tool.specs.Placing.{past_at}
 use Rattle.lin_tool.specs.campaign.Page.{page_slot}
-use Rattle.lin_tool.specs.campaign.Slots.{Follows, slots_of}
+use Rattle.lin_tool.specs.campaign.Slots.{HasRead, slots_of}
 use Rattle.lin_tool.proofs.CampaignLogs.{slots-next}
 use Rattle.lin_tool.proofs.campaign.page.put_slots.Goals as goal
 
@@ -22,7 +22,7 @@ loop-index-preserved g c =
           same-growth (slots-next (page_slot c.args.cluster.now) log i c.entry.result.now there c.entry.ensures)
           (grows-more c.loop-index.invariant.put (c.put_next_slot.ensures.text past c.loop-index.invariant.follows));
       follows =
-          subst (λ p. Follows c.put_next_slot.new.reader p) (sym (newest-first log i c.entry.result.now there c.entry.ensures))
+          subst (λ p. HasRead c.put_next_slot.new.reader p) (sym (newest-first log i c.entry.result.now there c.entry.ensures))
           (c.put_next_slot.ensures.follows past c.loop-index.invariant.follows);
     }
 
