@@ -1,6 +1,6 @@
 -- Warnings, and among them what is wrong with encodings, and what is odd in a text.
 use Rattle.std.proofs.Common.{◌≡◌, ◌∙◌, refl, sym, ap, append-nil, append_assoc, List, [], ◌++◌, Option, Some, None, IfOk, Result, Ok, Err, true, map, subst}
-use Rattle.std.specs.Prelude.{IsPermutation, IsSorted, is_some, option_map}
+use Rattle.std.specs.Prelude.{IsPermutation, IsSorted}
 use Rattle.std.specs.Option.{option_map_or}
 use Rattle.std.proofs.lemmas.List.{map-append}
 use Rattle.std.proofs.lemmas.List.Sorted.{IsPermutation-refl, IsPermutation-trans, IsPermutation-map, IsPermutation-append_left, IsPermutation-append_right}
@@ -19,11 +19,6 @@ use Rattle.lin_tool.specs.declared.coding.Encodings.TheVariants.{Unread, Read, T
 use Rattle.lin_values.specs.Unused.{AreUnused}
 use Rattle.lin_values.specs.Warnings.{encoding_warnings}
 use Rattle.lin_values.specs.declared.codings.Codings.{Codings}
-
--- what is made of something is something
-pub still-some : {A B : Type 0} (f : A → B) (o : Option A) → is_some (option_map f o) ≡ is_some o
-still-some f None = refl
-still-some f (Some a) = refl
 
 -- findings join warnings, in whatever order they were found
 pub joined : (rs all : List Remark) (fs found : List Finding) → IsPermutation fs found → IsPermutation (rs ++ map (remark true) found) all

@@ -64,13 +64,17 @@ abbrev pub attributes_read : Bool → Description → List Symbol → List Findi
 attributes_read is_linted d ts =
     if is_linted then attribute_lints d (header_version ts) (node_attributes ts) else []
 
+-- all that, of the words and then of the attributes
+abbrev pub found_read : Bool → Bool → Description → List Symbol → List Finding
+found_read is_reported is_linted d ts = unknown_read is_reported ts ++ attributes_read is_linted d ts
+
 -- what the extras want of all that; with --field the unknown words in any case
 abbrev pub sections_read : Option (List Name) → Extras → Description → List Symbol → ExtraSections
 sections_read wide x d ts =
     record {
       codings = codings_read wide (are_read x.encodings x.is_linted) ts;
       configurables = configurables_read x.is_linted ts;
-      found = unknown_read (is_some wide || x.is_linted) ts ++ attributes_read x.is_linted d ts;
+      found = found_read (is_some wide || x.is_linted) x.is_linted d ts;
     }
 
 -- the same, where the names of the wide signals are lent

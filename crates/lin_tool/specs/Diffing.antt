@@ -62,29 +62,31 @@ abbrev pub ReadsCluster : Reading → Result (Description × Parts) Fault → Li
 ReadsCluster Plain result text left = (left ≡ text) × ReadsStandard result text
 ReadsCluster Field result text left = ReadsField result text left
 
--- what is compared of an LDF
-abbrev pub read_data : ReadLdf → ComparedData
-read_data ldf = record {
-  tokens = symbols_in ldf.text.items (start_of ldf.text.items).tokens;
-  description = ldf.description;
-  cluster = ldf.cluster;
-  codings = ldf.codings;
-  loads = ldf.loads.items;
-}
-
 -- what the sections of encodings among tokens contain; which signals are wide isn't compared
 abbrev pub codings_by : Reading → List Symbol → Codings
 codings_by Plain ts = codings ts
 codings_by Field ts = field_codings [] ts
 
--- The encodings are those of the text, and the loads those of the cluster's schedule tables.
-abbrev pub HasFacts : Reading → ComparedData → Type 0
-HasFacts reading d = (d.codings ≡ codings_by reading d.tokens) × (d.loads ≡ table_loads d.cluster)
+-- what is compared of an LDF
+abbrev pub read_data : ReadLdf → ComparedData
+read_data ldf =
+    let tokens = symbols_in ldf.text.items (start_of ldf.text.items).tokens
+    in record {
+      tokens = tokens;
+      description = ldf.description;
+      cluster = ldf.cluster;
+      codings = codings_by ldf.reading tokens;
+      loads = ldf.loads.items;
+    }
+
+-- An LDF is read so, and the loads are those of the cluster's schedule tables.
+abbrev pub HasFacts : Reading → ReadLdf → Type 0
+HasFacts reading ldf = (ldf.reading ≡ reading) × (ldf.loads.items ≡ table_loads ldf.cluster)
 
 -- what is compared of an LDF that is read so, or why there is nothing to compare
 abbrev pub ReadsLdf : Reading → Result ReadLdf Fault → List ℕ → Type 0
 ReadsLdf reading (Ok ldf) text =
-    ReadsCluster reading (Ok (ldf.description, ldf.cluster)) text ldf.text.items × HasFacts reading (read_data ldf)
+    ReadsCluster reading (Ok (ldf.description, ldf.cluster)) text ldf.text.items × HasFacts reading ldf
 ReadsLdf Plain (Err fault) text = TextFaults fault text
 ReadsLdf Field (Err fault) text = FieldFaults fault text
 

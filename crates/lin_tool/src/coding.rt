@@ -1,15 +1,15 @@
 //! What is told of an LDF text beside its cluster: what it says of the values of its signals (LIN
 //! 2.2A, section 9.2.6), with `--physical`; and what is odd in it, with `--lint`.
 
-ghost use Rattle.std.specs.Prelude.{◌≡◌, ◌++◌, true, map, IfOk, IfErr, IsPermutation, IsSorted, List};
-ghost use Rattle.std.specs.Prelude.{option_map};
+ghost use Rattle.std.specs.Prelude.{◌≡◌, ◌++◌, ◌||◌, true, map, IfOk, IfErr, IsPermutation, IsSorted, List};
+ghost use Rattle.std.specs.Prelude.{is_some, option_map};
 ghost use Rattle.lin_ldf.specs.Stream.{start_of};
 ghost use Rattle.lin_ldf.specs.Symbols.{symbols_in};
 ghost use Rattle.lin_ldf.specs.Tokens.{AreTokens};
 ghost use Rattle.lin_ldf.specs.declared.token.Token.{Token};
 ghost use Rattle.lin_field.specs.Checks.{remark, remark_cmp};
 ghost use Rattle.lin_tool.specs.Coding.{AddsCommands, AddsLints, are_read, coded_read, codings_in, codings_kept, codings_with};
-ghost use Rattle.lin_tool.specs.Coding.{attributes_read, configurables_read, configured_read, sections_in, reported_findings, unknown_read, unused_told, AreWarnings};
+ghost use Rattle.lin_tool.specs.Coding.{attributes_read, configurables_read, configured_read, found_read, sections_in, reported_findings, unknown_read, unused_told, AreWarnings};
 ghost use Rattle.lin_tool.specs.declared.fault.Fault.TheVariants.{OutOfMemory};
 
 use crate::fault::Fault;
@@ -177,6 +177,40 @@ fn attributes_of(
     lint_attributes(alloc, description, version.as_ref(), blocks.as_slice())
 }
 
+/// Finds the words that LIN doesn't have, where they are reported, and then what is odd in the attributes of
+/// nodes, where the text is linted.
+///
+/// An error means out of memory.
+fn found_of(
+    alloc: Global,
+    text: &[u8],
+    description: &Description,
+    is_reported: bool,
+    is_linted: bool,
+) -> Result<Vec<Finding>, AllocError>
+    ensures read { IfOk result (λ f. f.items ≡ found_read is_reported is_linted description.now
+        (symbols_in text.now (start_of text.now).tokens)) }
+    ensures tokens { (ts : List Token) → AreTokens text.now ts
+        → IfOk result (λ f. f.items ≡ found_read is_reported is_linted description.now
+        (symbols_in text.now ts)) }
+{
+    let mut found = unknown_of(alloc, text, is_reported)?;
+    let odd = attributes_of(alloc, text, description, is_linted)?;
+    found.extend_from_slice(odd.as_slice())?;
+    Ok(found)
+}
+
+/// Whether words that LIN doesn't have are reported: with `--field`, where there are names of wide signals, and
+/// in a text that is linted.
+fn reports_unknown(wide: Option<&[Name]>, is_linted: bool) -> bool
+    ensures { result ≡ (is_some (option_map (λ w. w.now) wide.entry) || is_linted) }
+{
+    match wide {
+        Some(_) => true,
+        None => is_linted,
+    }
+}
+
 /// Reads what the extras want of the sections of an LDF that says a description; with `--field` the words
 /// that LIN doesn't have in any case. `wide` are the names of the wide signals, with `--field`.
 ///
@@ -198,9 +232,8 @@ pub(crate) fn sections_of(
 {
     let codings = codings_of(alloc, text, wide, are_read(extras))?;
     let configurables = configurables_of(alloc, text, extras.is_linted)?;
-    let mut found = unknown_of(alloc, text, wide.is_some() || extras.is_linted)?;
-    let odd = attributes_of(alloc, text, description, extras.is_linted)?;
-    found.extend_from_slice(odd.as_slice())?;
+    let is_reported = reports_unknown(wide, extras.is_linted);
+    let found = found_of(alloc, text, description, is_reported, extras.is_linted)?;
     Ok(ExtraSections {
         codings,
         configurables,

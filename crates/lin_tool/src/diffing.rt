@@ -42,20 +42,30 @@ pub struct ReadLdf {
     text: Vec<u8>,
     description: Description,
     cluster: Cluster,
-    codings: Codings,
+    reading: Reading,
     loads: Vec<TableLoad>,
 }
 
 impl ReadLdf {
-    /// Returns what is compared.
-    fn compared(&self) -> ComparedLdf<'_>
+    /// Returns what the sections of encodings contain.
+    ///
+    /// An error means out of memory.
+    fn codings(&self, alloc: Global) -> Result<Codings, AllocError>
+        ensures { IfOk result (λ k. k ≡ (read_data self.now).codings) }
+    {
+        codings_of(alloc, self.text.as_slice(), self.reading)
+    }
+
+    /// Returns what is compared. `codings` are its encodings.
+    fn compared<'a>(&'a self, codings: &'a Codings) -> ComparedLdf<'a>
+        requires { codings.now ≡ (read_data self.now).codings }
         ensures { compared_data result ≡ read_data self.now }
     {
         ComparedLdf {
             source: self.text.as_slice(),
             description: &self.description,
             cluster: &self.cluster,
-            codings: &self.codings,
+            codings,
             loads: self.loads.as_slice(),
         }
     }
@@ -177,7 +187,7 @@ pub fn read_ldf(
 {
     match read_cluster(alloc, text.as_mut_slice(), reading) {
         Ok((description, cluster)) => Ok(ReadLdf {
-            codings: codings_of(alloc, text.as_slice(), reading)?,
+            reading,
             loads: table_loads(alloc, &cluster)?,
             text,
             description,
@@ -271,7 +281,12 @@ pub fn write_compared<W: Write>(
         (ldf_differences old.now new.now) result
         (W.contents writer.old) (W.contents writer.new) }
 {
-    let (olds, news) = compared_things(alloc, old.compared(), new.compared())?;
+    let (old_codings, new_codings) = (old.codings(alloc)?, new.codings(alloc)?);
+    let (olds, news) = compared_things(
+        alloc,
+        old.compared(&old_codings),
+        new.compared(&new_codings),
+    )?;
     let found = differences(alloc, olds.as_slice(), news.as_slice())?;
     write_found(files, found.as_slice(), classes, writer)
 }
@@ -310,5 +325,9 @@ pub fn diff<'a, R: AllocGlobal + Files + Input + Print, W: Write>(
     notes.levels = all_allowed(alloc)?;
     let old = read(rt, files.0, reading, notes, errors)?;
     let new = read(rt, files.1, reading, notes, errors)?;
+    // What texts of the same bytes say is the same, so they have no difference.
+    if old.text.as_slice() == new.text.as_slice() {
+        return Ok(());
+    }
     write_compared(alloc, files, &old, &new, classes, &mut io::writer(rt))
 }
