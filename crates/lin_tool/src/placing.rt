@@ -233,8 +233,8 @@ fn put_missed<W: Write>(
     put_moment(out, moment);
 }
 
-/// What is said of a judgement that isn't met, which was made at this moment of a log: by its place
-/// in the script's file, where that has a name.
+/// Writes the text of a failed expectation, which was checked at this moment of a log. If the script's
+/// file has a name, the text begins with the place in it.
 fn put_missed_line<W: Write>(
     out: &mut TextWriter<'_, W>,
     script: Option<&str>,

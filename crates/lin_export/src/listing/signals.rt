@@ -99,7 +99,7 @@ fn put_range<W: Write>(out: &mut TextWriter<'_, W>, signal: u16, range: &Range<'
     out.put_byte(b'\n');
 }
 
-/// The text of a value behind a space; without one its number.
+/// Writes a space and the text of a value, or its number if it has no text.
 fn put_text_or_number<W: Write>(out: &mut TextWriter<'_, W>, value: u64, text: &[u8])
     ensures { Grows W.contents out.old out.new (spaced_word (text_or_number value text.now)) }
 {
