@@ -99,7 +99,8 @@ impl<'a> Drop for NamedSignals<'a> {
 }
 
 impl<'a> NamedSignals<'a> {
-    /// Returns the number of the encoding that a name has, or `None` if it has no declared encoding.
+    /// Returns the number of the encoding of the signal with this name, or `None` if no line gives it a declared
+    /// encoding.
     pub fn encoding_of(&self, name: &[u8]) -> Option<usize>
         ensures { result ≡ encoding_in self.now.map name.now }
     {

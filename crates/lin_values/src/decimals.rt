@@ -18,7 +18,7 @@ pub struct Decimal {
     pub places: u8,
 }
 
-/// Returns a power of ten.
+/// Returns 10 to the power of `k`, which is at most 33.
 pub fn ten_to(k: u8) -> u128
     requires { k ≤ 33 }
     ensures { result ≡ 10 ^ k }
