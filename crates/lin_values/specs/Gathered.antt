@@ -13,9 +13,9 @@ use Rattle.lin_parts.specs.Rules.{is_array}
 use Rattle.lin_parts.specs.declared.parts.Parts.{Parts}
 use Rattle.lin_parts.specs.declared.parts.Signal.{Signal}
 use Rattle.lin_parts.specs.declared.description.Name.{Name}
-use Rattle.lin_values.specs.Coded.{is_named, is_wide_in}
+use Rattle.lin_values.specs.Coded.{is_named, is_wide_in, signal_coding, SignalCoding}
 use Rattle.lin_values.specs.Traits.{has_coding}
-use Rattle.lin_values.specs.Warnings.{kind_warnings, representation_warnings, greatest_number, has_numbers, name_warnings, told_by}
+use Rattle.lin_values.specs.Warnings.{kind_warnings, representation_warnings, greatest_number, has_numbers, name_warnings, signal_by_name, told_by}
 use Rattle.lin_values.specs.Warnings.{type_warning}
 use Rattle.lin_values.specs.declared.coded.CodedSignal.{CodedSignal}
 use Rattle.lin_values.specs.declared.encoding.Coding.TheVariants.{Bcd, Ascii}
@@ -50,6 +50,12 @@ encoding_in m name = option_and_then (λ e. e) (get_by (λ k. bytes_eq name k.no
 abbrev pub signal_in : {S : Type 0} → List Name → IndexMap (Bor (List ℕ)) (Option ℕ) S → Signal
     → CodedSignal
 signal_in wide m s = record (signal_without_coding wide s) { encoding = encoding_in m s.name }
+
+-- these are the signals of a cluster, each with the encoding that its name has
+abbrev pub AreSignalsIn : {R S : Type 0} → IndexMap (Bor (List ℕ)) ℕ R → IndexMap (Bor (List ℕ)) (Option ℕ) S
+    → Parts → List CodedSignal → Type 0
+AreSignalsIn wide m c signals =
+    (names : List Name) → NumbersFirst (λ n. n) names wide → signals ≡ map (signal_in names m) c.signals
 
 abbrev pub is_other_kind : Traits → CodedSignal → Bool
 is_other_kind t s =
@@ -96,8 +102,25 @@ AreNamed ts named m =
     → get_by (λ k. bytes_eq q k.now) m
     ≡ option_map (λ p. type_number ts p.1) (find (is_named q) named)
 
+-- names were added, each with the encoding that it has behind earlier ones
+abbrev pub AddsNamed : {S : Type 0} → List CodingType → List (Name × Name) → IndexMap (Bor (List ℕ)) (Option ℕ) S
+    → IndexMap (Bor (List ℕ)) (Option ℕ) S → Type 0
+AddsNamed ts names old new =
+    (before : List (Name × Name)) → AreNamed ts before old → AreNamed ts (before ++ names) new
+
+-- those of a line whose encoding has this number
+abbrev pub AddsNamedLine : {S : Type 0} → Option ℕ → CodedLine → IndexMap (Bor (List ℕ)) (Option ℕ) S
+    → IndexMap (Bor (List ℕ)) (Option ℕ) S → Type 0
+AddsNamedLine number l old new =
+    (ts : List CodingType) (before : List (Name × Name)) → number ≡ type_number ts l.encoding
+    → AreNamed ts before old → AreNamed ts (before ++ names_of l) new
+
 abbrev pub lines_of : List Name → List CodingType → List CodedLine → Codings
 lines_of wide ts ls = record { types = ts; lines = ls; bad = []; wide = wide }
+
+-- the signals of a cluster, with their encodings
+abbrev pub signal_codings : Parts → List Name → List CodingType → List CodedLine → List SignalCoding
+signal_codings c wide ts ls = map (signal_coding (lines_of wide ts ls)) c.signals
 
 abbrev pub kind_told : Option CodingType → CodedSignal → Name → List Finding
 kind_told None s n = []
@@ -110,11 +133,22 @@ name_told wide is_first t n None = at_name finding.UnknownSignal n ∷ []
 name_told wide is_first t n (Some s) =
     if is_first then kind_told t (signal_without_coding wide s) n else at_name finding.RepresentedTwice n ∷ []
 
+abbrev pub told_of_name : DeclaredData → Bool → Option ℕ → Name → List Finding
+told_of_name d is_first number n =
+    name_told d.wide is_first (type_at d.types number) n (signal_by_name d.parts n)
+
 abbrev pub line_told : Parts → List Name → List CodingType → List (Name × Name) → CodedLine
     → List Finding
 line_told c wide ts before l =
     representation_warnings (lines_of wide ts []) l
     ++ told_by (name_warnings c (lines_of wide ts [])) before (names_of l)
+
+-- what is wrong with a line was told, by the names that stand before it
+abbrev pub TellsLine : {S : Type 0} → DeclaredData → CodedLine → IndexMap (Bor (List ℕ)) (Option ℕ) S
+    → List Finding → List Finding → Type 0
+TellsLine d l named old new =
+    (before : List (Name × Name)) → AreNamed d.types before named
+    → new ≡ old ++ line_told d.parts d.wide d.types before l
 
 abbrev pub lines_told : Parts → List Name → List CodingType → List (Name × Name) → List CodedLine
     → List Finding

@@ -3,7 +3,7 @@ use Rattle.std.specs.Prelude.{◌≡◌, ℕ, ◌+◌, ◌-◌, ◌<◌, ◌≤�
 use Rattle.std.specs.Prelude.{None, find, min, max, nat_le, nat_lt, All, AllPairs, count_by}
 use Rattle.std.specs.Prelude.{if◌then◌else◌}
 use Rattle.std.specs.List.{list_any, range_with_len}
-use Rattle.std.specs.Option.{option_map}
+use Rattle.std.specs.Option.{option_map, option_or}
 use Rattle.lin_values.specs.declared.layers.RangePart.{RangePart}
 use Rattle.lin_values.specs.declared.layers.Span.{Span}
 
@@ -25,6 +25,11 @@ common_span a b =
 -- the item that counts for a number
 abbrev pub item_in : List RangePart → ℕ → Option ℕ
 item_in ps n = option_map (λ p. p.item) (find (λ p. in_span p.span n) ps)
+
+-- an item was added, which counts for the numbers of which this holds, unless another does
+abbrev pub AddsItem : (ℕ → Bool) → ℕ → List RangePart → List RangePart → Type 0
+AddsItem counts item before after =
+    (n : ℕ) → item_in after n ≡ option_or (item_in before n) (if counts n then Some item else None)
 
 -- what counts for the numbers from one to before another
 abbrev pub part_between : ℕ → ℕ → ℕ → List RangePart

@@ -2,6 +2,7 @@
 use Rattle.std.specs.Prelude.{◌≡◌, ℕ, ◌<◌, ◌≤◌, ◌==◌, ◌&&◌, ◌||◌, true, false, List, Option, Some, None}
 use Rattle.std.specs.Prelude.{if◌then◌else◌, nat_le, nat_lt, option_and_then, int_lt, unsigned_abs}
 use Rattle.std.specs.Prelude.{ℤ, ◌≤ℤ◌, ◌-ℤ◌}
+use Rattle.std.specs.Option.{option_map}
 use lib.IntN.{pos, ◌+ℤ◌, ◌*ℤ◌}
 use Rattle.lin_values.specs.Coded.{item_by, item_for, range_in, signal_at, CodedData, RangeData}
 use Rattle.lin_values.specs.Layers.{in_span, item_in}
@@ -78,6 +79,12 @@ pub record IsExtended (span : Span) (h f g : ℕ → Option ℕ) : Type 0 where
   pub outside : (n : ℕ) → in_span span n ≡ false → g n ≡ f n
   pub before : (n d : ℕ) → f n ≡ Some d → n < span.from
 
+-- the least stays the least, when numbers of a span are added
+abbrev pub AddsSpan : Span → (ℕ → Option ℕ) → Option Near → Option Near → Type 0
+AddsSpan span h before after =
+    (f g : ℕ → Option ℕ) → IsExtended span h f g
+    → IsLeast f (option_map near_of before) → IsLeast g (option_map near_of after)
+
 abbrev pub range_value : Range → ℕ → ℤ
 range_value r n = pos n *ℤ scaled_value r.scale +ℤ scaled_value r.offset
 
@@ -102,6 +109,14 @@ parts_decimal ps bits unit parts n = numbered_decimal ps bits unit (item_in part
 abbrev pub raw_decimal : List PlacedItem → ℕ → List ℕ → ℕ → Option ℤ
 raw_decimal ps bits unit n =
     if nat_le n (greatest_raw bits) then option_and_then (item_decimal unit n) (item_for ps n) else None
+
+-- the distances of the raw values of a part, and of an encoding, from a decimal
+abbrev pub part_distance : (ℤ → Option ℕ) → List PlacedItem → ℕ → List ℕ → RangePart → ℕ → Option ℕ
+part_distance distance ps bits unit part n =
+    option_and_then distance (numbered_decimal ps bits unit (Some part.item) n)
+
+abbrev pub raw_distance : (ℤ → Option ℕ) → List PlacedItem → ℕ → List ℕ → ℕ → Option ℕ
+raw_distance distance ps bits unit n = option_and_then distance (raw_decimal ps bits unit n)
 
 abbrev pub signal_decimal : CodedData → ℕ → List ℕ → ℕ → Option ℤ
 signal_decimal k s unit n =

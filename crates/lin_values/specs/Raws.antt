@@ -1,5 +1,5 @@
 -- The ways back: the raw values that have a text, that mean a decimal, and the nearest.
-use Rattle.std.specs.Prelude.{◌≡◌, ℕ, ◌+◌, ◌-◌, ◌*◌, ◌^◌, ◌≤◌, ◌==◌, ◌&&◌, ◌||◌, Bool, true, false, ℤ}
+use Rattle.std.specs.Prelude.{◌≡◌, ℕ, ◌+◌, ◌-◌, ◌*◌, ◌^◌, ◌<◌, ◌≤◌, ◌≢◌, ◌==◌, ◌&&◌, ◌||◌, Bool, true, false, ℤ}
 use Rattle.std.specs.Prelude.{replicate, ◌/◌, List, [], ◌∷◌, ◌++◌, drop, filter, flat_map, fold, length, map}
 use Rattle.std.specs.Prelude.{slice_index, sum_by, All, AllPairs, take, Option, Some, None, is_some, nat_le, nat_lt}
 use Rattle.std.specs.Prelude.{if◌then◌else◌, unsigned_abs, option_and_then, int_lt, not, ◌-ℤ◌}
@@ -24,6 +24,7 @@ use Rattle.lin_values.specs.declared.codings.Item.TheVariants.{Logical}
 use Rattle.lin_values.specs.declared.codings.PlacedItem.{PlacedItem}
 use Rattle.lin_values.specs.declared.layers.RangePart.{RangePart}
 use Rattle.lin_values.specs.declared.layers.Span.{Span}
+use Rattle.lin_values.specs.declared.sought.Sought.{Sought}
 
 -- ---- values that signals can have, and that texts stand for: those of scalars and of arrays that aren't
 -- wide
@@ -179,6 +180,23 @@ sought_of k s text decimals unit n =
     && option_map_or (λ t. sought_raw t.items (signal_at k s).bits text decimals unit n)
     (signal_at k s).encoding false
 
+-- the same, as code looks for it
+abbrev pub seeks_item : Sought → Item → ℕ → Bool
+seeks_item s item n = sought_item (option_map (λ t. t.now) s.text) s.decimals s.unit.now item n
+
+abbrev pub seeks_part : Sought → List PlacedItem → ℕ → RangePart → ℕ → Bool
+seeks_part s ps bits part n = sought_part ps bits (option_map (λ t. t.now) s.text) s.decimals s.unit.now part n
+
+abbrev pub seeks_raw : Sought → List PlacedItem → ℕ → ℕ → Bool
+seeks_raw s ps bits n = sought_raw ps bits (option_map (λ t. t.now) s.text) s.decimals s.unit.now n
+
+abbrev pub seeks_of : Sought → CodedData → ℕ → ℕ → Bool
+seeks_of s k signal n = sought_of k signal (option_map (λ t. t.now) s.text) s.decimals s.unit.now n
+
+-- spans have the numbers of 16 bits of which this holds, and no other
+abbrev pub HaveNumbers : (ℕ → Bool) → List Span → Type 0
+HaveNumbers f spans = (n : ℕ) → n < 65536 → list_any (λ s. in_span s n) spans ≡ f n
+
 -- the decimals and the unit that a text stands for, where it begins with a number
 abbrev pub decimals_of : List ℕ → Option (ℤ × ℤ)
 decimals_of text = option_map (λ p. (p.0, p.0)) (number_and_unit text)
@@ -210,6 +228,12 @@ pub record RawsData : Type 0 where
 
 abbrev pub has : RawsData → Value → Bool
 has r v = has_raw r.spans r.coded v
+
+abbrev pub HasNone : RawsData → Type 0
+HasNone r = (v : Value) → has r v ≡ false
+
+abbrev pub HasTwo : RawsData → Type 0
+HasTwo r = (v : Value) × (w : Value) × (v ≢ w) × (has r v ≡ true) × (has r w ≡ true)
 
 -- spans of scalars in order, and a value that isn't in them
 pub record AreRaws (spans : List Span) (coded : Option Value) : Type 0 where

@@ -1,16 +1,23 @@
 -- The value that a text of a script spells, in units of 10 ^ -24: `[-|+] digits [. digits]`.
-use Rattle.std.specs.Prelude.{ℕ, zero, suc, ◌*◌, ◌^◌, ◌-◌, ◌+◌, ◌==◌, ◌&&◌, ◌||◌, Bool, true, false, ℤ}
+use Rattle.std.specs.Prelude.{◌≡◌, ℕ, ◌≤◌, zero, suc, ◌*◌, ◌^◌, ◌-◌, ◌+◌, ◌==◌, ◌&&◌, ◌||◌, Bool, true, false, ℤ}
 use Rattle.std.specs.Prelude.{List, [], ◌∷◌, Option, Some, None, nat_lt, length, take, drop}
 use Rattle.std.specs.Prelude.{if◌then◌else◌, option_map}
 use Rattle.std.specs.Char.{is_ascii_digit}
 use Rattle.std.specs.List.{prefix_len}
-use Rattle.lin_values.specs.Value.{with_sign}
+use Rattle.lin_values.specs.Value.{scaled_value, with_sign, IsReadable, IsShortest}
+use Rattle.lin_values.specs.declared.decimals.Decimal.{Decimal}
 
 -- n units and digits, of which the next counts 10 ^ (left - 1) units; later ones are all 0
 abbrev pub places_after : ℕ → ℕ → List ℕ → Option ℕ
 places_after n left [] = Some n
 places_after n zero (c ∷ cs) = if c == 48 then places_after n zero cs else None
 places_after n (suc k) (c ∷ cs) = if is_ascii_digit c then places_after (n + (c - 48) * 10 ^ k) k cs else None
+
+-- so many units and places are left after one digit more, within the limits
+abbrev pub IsPlaced : ℕ → ℕ → ℕ → ℕ × ℕ → Type 0
+IsPlaced n left c r =
+    ((cs : List ℕ) → places_after n left (c ∷ cs) ≡ places_after r.0 r.1 cs)
+    × (r.0 + 10 ^ r.1 ≤ 10 ^ 38) × (r.1 ≤ 24)
 
 -- the digits of the whole part after those of n, which is below 10 ^ 14, and the places
 abbrev pub whole_after : ℕ → List ℕ → Option ℕ
@@ -23,6 +30,10 @@ whole_after n (c ∷ cs) =
 abbrev pub unsigned_number : List ℕ → Option ℕ
 unsigned_number [] = None
 unsigned_number (c ∷ cs) = if is_ascii_digit c then whole_after 0 (c ∷ cs) else None
+
+-- a decimal is the shortest that has this value
+abbrev pub IsShortestOf : Option ℤ → Decimal → Type 0
+IsShortestOf value d = (value ≡ Some (scaled_value d)) × IsReadable d × IsShortest d
 
 abbrev pub signed_number : List ℕ → Option ℤ
 signed_number [] = None

@@ -1,6 +1,6 @@
 -- What digits and characters spell.
-use Rattle.std.specs.Prelude.{◌≡◌, ◌≤◌, ℕ, ◌+◌, ◌-◌, ◌*◌, ◌&&◌, Bool, true, false, List, [], ◌∷◌, Option, Some, None}
-use Rattle.std.specs.Prelude.{◌++◌, ◌/◌, length, nat_le, replicate, if◌then◌else◌}
+use Rattle.std.specs.Prelude.{◌≡◌, ◌≢◌, ◌≤◌, ℕ, ◌+◌, ◌-◌, ◌*◌, ◌&&◌, Bool, true, false, List, [], ◌∷◌, Option, Some, None}
+use Rattle.std.specs.Prelude.{◌++◌, ◌/◌, length, nat_le, replicate, slice_index, if◌then◌else◌}
 use Rattle.std.specs.Char.{is_ascii_digit}
 use Rattle.std.specs.Option.{option_map}
 use Rattle.lin_frame.specs.declared.value.Value.{Value}
@@ -38,6 +38,26 @@ abbrev pub character_scalar : List ℕ → ℕ
 character_scalar [] = 0
 character_scalar (a ∷ []) = a
 character_scalar (a ∷ b ∷ cs) = a + 256 * b
+
+-- this is what characters in quotes, or digits, spell as an array or a scalar of so many bits
+abbrev pub IsArrayOfLetters : ℕ → List ℕ → Option Value → Type 0
+IsArrayOfLetters bits text v =
+    (ls : List ℕ) → text ≡ in_quotes ls → length ls ≤ bits / 8 → bits / 8 ≤ 8
+    → v ≡ Some (character_array bits ls)
+
+abbrev pub IsArrayOfDigits : ℕ → List ℕ → Option Value → Type 0
+IsArrayOfDigits bits text v =
+    (bs : List ℕ) → slice_index text 0 ≢ 34 → pairs text ≡ Some bs → length bs ≤ bits / 8 → bits / 8 ≤ 8
+    → v ≡ Some (character_array bits bs)
+
+abbrev pub IsScalarOfLetters : ℕ → List ℕ → Option Value → Type 0
+IsScalarOfLetters bits text v =
+    (ls : List ℕ) → text ≡ in_quotes ls → length ls ≤ 2 → v ≡ scalar_within bits (character_scalar ls)
+
+abbrev pub IsScalarOfDigits : ℕ → List ℕ → Option Value → Type 0
+IsScalarOfDigits bits text v =
+    (n : ℕ) → slice_index text 0 ≢ 34 → bcd_after 0 text ≡ Some n → length text ≤ 4
+    → v ≡ scalar_within bits n
 
 -- a signal of so many bits, or an array of them, has the value
 abbrev pub IsHeld : ℕ → Bool → Value → Type 0

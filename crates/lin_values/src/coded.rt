@@ -5,19 +5,18 @@ ghost use Rattle.std.specs.Prelude.{MatchOption, OnOk, Some, None, is_some, not,
 ghost use Rattle.std.specs.Prelude.{if◌then◌else◌, IsPermutation, IsSorted};
 ghost use Rattle.std.specs.Option.{option_or};
 ghost use Rattle.std.specs.Str.{bytes_eq};
-ghost use Rattle.indexmap.specs.IndexMap.{get_by};
 ghost use Rattle.lin_cluster.specs.Findings.{finding_cmp};
 ghost use Rattle.lin_cluster.specs.FindingsNames.{at_place};
 ghost use Rattle.lin_cluster.specs.declared.finding.FindingKind.TheVariants.{BadEncoding};
-ghost use Rattle.lin_cluster.specs.Names.{NumbersFirst};
+ghost use Rattle.lin_cluster.specs.Names.{NumbersFirst, under};
 ghost use Rattle.lin_parts.specs.Cluster.{signal_of};
 ghost use Rattle.lin_parts.specs.declared.description.Name.{Name};
-ghost use Rattle.lin_values.specs.Coded.{coded_signals, encoding_of, named_in, signal_at, signal_coding};
-ghost use Rattle.lin_values.specs.Gathered.{encoding_in, gathered_warnings, is_other_kind, kind_told, line_told};
-ghost use Rattle.lin_values.specs.Gathered.{lines_of, lines_told, name_told, names_of, signal_in};
-ghost use Rattle.lin_values.specs.Gathered.{told_of_kind, type_at, type_number, signal_without_coding};
-ghost use Rattle.lin_values.specs.Gathered.{AreNamed, AreSignalsByName};
-ghost use Rattle.lin_values.specs.Kept.{kept_signal};
+ghost use Rattle.lin_values.specs.Coded.{coded_signals, encoding_of, named_in, signal_at};
+ghost use Rattle.lin_values.specs.Gathered.{signal_codings, encoding_in, gathered_warnings, is_other_kind, kind_told};
+ghost use Rattle.lin_values.specs.Gathered.{lines_told, names_of, told_of_kind, told_of_name, type_at, type_number};
+ghost use Rattle.lin_values.specs.Gathered.{signal_without_coding, AddsNamed, AreNamed, AreSignalsByName, AreSignalsIn};
+ghost use Rattle.lin_values.specs.Gathered.{TellsLine};
+ghost use Rattle.lin_values.specs.Kept.{kept_signal, HasValuesAs};
 ghost use Rattle.lin_values.specs.Warnings.{item_warnings, greatest_number, greatest_raw, signal_by_name, told_by};
 ghost use Rattle.lin_values.specs.Warnings.{type_warning, encoding_warnings};
 
@@ -118,10 +117,9 @@ pub fn put_first<'a, V: Copy>(
     value: V,
 ) -> Result<bool, AllocError>
     ensures first { IfOk result
-        (λ is_first. is_first ≡ not (is_some (get_by (λ k. bytes_eq name.now k.now) map.old))) }
-    ensures put { OnOk result ((q : List ℕ) → get_by (λ k. bytes_eq q k.now) map.new
-        ≡ option_or (get_by (λ k. bytes_eq q k.now) map.old)
-        (if bytes_eq name.now q then Some value else None)) }
+        (λ is_first. is_first ≡ not (is_some (under map.old name.now))) }
+    ensures put { OnOk result ((q : List ℕ) → under map.new q
+        ≡ option_or (under map.old q) (if bytes_eq name.now q then Some value else None)) }
 {
     if map.contains_key(&name) {
         return Ok(false);
@@ -176,8 +174,7 @@ fn all_signals(
     wide: &Numbers<'_>,
     named: &NamedSignals<'_>,
 ) -> Result<Vec<CodedSignal>, AllocError>
-    ensures { IfOk result (λ v. (names : List Name) → NumbersFirst (λ n. n) names wide.now.map
-        → v.items ≡ map (signal_in names named.now.map) cluster.now.signals) }
+    ensures { IfOk result (λ v. AreSignalsIn wide.now.map named.now.map cluster.now v.items) }
 {
     let mut signals = Vec::with_capacity(alloc, cluster.signals())?;
     for signal in 0..cluster.signals() as u16 {
@@ -354,9 +351,8 @@ impl<'a> Declared<'a> {
         name: &Name,
         warned: &mut Vec<Finding>,
     ) -> Result<(), AllocError>
-        ensures { OnOk result (warned.new.items ≡ warned.old.items
-            ++ name_told self.now.wide is_first (type_at self.now.types encoding) name.now
-            (signal_by_name self.now.parts name.now)) }
+        ensures { OnOk result
+            (warned.new.items ≡ warned.old.items ++ told_of_name self.now is_first encoding name.now) }
     {
         match self.signal_named(name) {
             None => warned.push(at_name(FindingKind::UnknownSignal, name))?,
@@ -373,13 +369,10 @@ impl<'a> Declared<'a> {
         line: &'n CodedLine,
         warned: &mut Vec<Finding>,
     ) -> Result<(), AllocError>
-        ensures named { OnOk result ((before : List (Name × Name))
-            → AreNamed self.now.types before named.old.map
-            → AreNamed self.now.types (before ++ names_of line.now) named.new.map) }
-        ensures warned { OnOk result ((before : List (Name × Name))
-            → AreNamed self.now.types before named.old.map
-            → warned.new.items ≡ warned.old.items
-            ++ line_told self.now.parts self.now.wide self.now.types before line.now) }
+        ensures named { OnOk result
+            (AddsNamed self.now.types (names_of line.now) named.old.map named.new.map) }
+        ensures warned { OnOk result
+            (TellsLine self.now line.now named.old.map warned.old.items warned.new.items) }
     {
         let encoding = self.encoding_named(&line.encoding);
         push_when(
@@ -443,7 +436,7 @@ fn coded_signals(
     warned: &mut Vec<Finding>,
 ) -> Result<Vec<CodedSignal>, AllocError>
     ensures signals { IfOk result (λ v. map (kept_signal encodings.now) v.items
-        ≡ map (signal_coding (lines_of wide.now encodings.now lines.now)) cluster.now.signals) }
+        ≡ signal_codings cluster.now wide.now encodings.now lines.now) }
     ensures warned { OnOk result (warned.new.items
         ≡ warned.old.items ++ gathered_warnings cluster.now wide.now encodings.now lines.now) }
 {
@@ -525,9 +518,7 @@ impl Coded {
     /// A signal by its number.
     pub(crate) fn signal(&self, signal: u16) -> Option<CodedSignal>
         ensures { MatchOption result (encoding_of self.now signal ≡ None)
-            (λ s. (s.bits ≡ (signal_at self.now signal).bits)
-            × (s.is_array ≡ (signal_at self.now signal).is_array)
-            × (s.is_wide ≡ (signal_at self.now signal).is_wide)) }
+            (HasValuesAs (signal_at self.now signal)) }
     {
         self.signals.as_slice().get(usize::from(signal)).copied()
     }

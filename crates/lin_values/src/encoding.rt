@@ -1,8 +1,7 @@
 //! A type of encoding, with what is found in it quickly, and what is wrong with its items.
 
 ghost use Rattle.std.specs.Prelude.{◌≡◌, ◌++◌, ◌∷◌, ◌%◌, ◌==◌, ◌&&◌, ◌||◌, ◌<◌, ◌^◌, [], ℕ, not, IfOk};
-ghost use Rattle.std.specs.Prelude.{OnOk, Some, None, option_and_then, option_map};
-ghost use Rattle.std.specs.Prelude.{if◌then◌else◌};
+ghost use Rattle.std.specs.Prelude.{OnOk, option_and_then, option_map};
 ghost use Rattle.std.specs.List.{list_any};
 ghost use Rattle.std.specs.Option.{option_or};
 ghost use Rattle.lin_cluster.specs.FindingsNames.{at_place};
@@ -10,7 +9,7 @@ ghost use Rattle.lin_values.specs.Coded.{all_items, first_coding, greatest_end, 
 ghost use Rattle.lin_values.specs.Coded.{is_numeric, is_range, item_by, item_for, range_in};
 ghost use Rattle.lin_values.specs.Coded.{range_of, second_coding};
 ghost use Rattle.lin_values.specs.ItemNumbers.{range_at, range_told, span_told, item_with_value, value_told};
-ghost use Rattle.lin_values.specs.Layers.{in_span, item_in, AreInOrder};
+ghost use Rattle.lin_values.specs.Layers.{in_span, item_in, AreInOrder, AddsItem};
 ghost use Rattle.lin_values.specs.Traits.{has_coding, with_coding, with_number, with_traits};
 ghost use Rattle.lin_values.specs.Warnings.{item_warnings, range_warnings, value_warnings};
 ghost use Rattle.lin_values.specs.declared.encoding.Coding.TheVariants.{Bcd, Ascii};
@@ -166,9 +165,8 @@ fn add_value(
 ) -> Result<(), AllocError>
     ensures warned { OnOk result (warned.new.items
         ≡ warned.old.items ++ value_told layers.old one.now one.now.item) }
-    ensures layers { OnOk result ((raw : ℕ) → item_in layers.new raw
-        ≡ option_or (item_in layers.old raw)
-        (if has_value raw one.now.item then Some number else None)) }
+    ensures layers { OnOk result
+        (AddsItem (λ raw. has_value raw one.now.item) number layers.old layers.new) }
 {
     if let Item::Logical { value, .. } = &one.item {
         let span = Span {
@@ -212,10 +210,8 @@ fn add_span(
 ) -> Result<(), AllocError>
     ensures warned { OnOk result
         (warned.new.items ≡ warned.old.items ++ span_told ranges.old span one.now) }
-    ensures ranges { OnOk result ((raw : ℕ) → item_in ranges.new raw
-        ≡ option_or (item_in ranges.old raw) (if in_span span raw then Some number else None)) }
-    ensures layers { OnOk result ((raw : ℕ) → item_in layers.new raw
-        ≡ option_or (item_in layers.old raw) (if in_span span raw then Some number else None)) }
+    ensures ranges { OnOk result (AddsItem (in_span span) number ranges.old ranges.new) }
+    ensures layers { OnOk result (AddsItem (in_span span) number layers.old layers.new) }
 {
     if span.from > span.to {
         return push_at(warned, FindingKind::MinAboveMax, one);
@@ -237,12 +233,10 @@ fn add_range(
 ) -> Result<(), AllocError>
     ensures warned { OnOk result (warned.new.items
         ≡ warned.old.items ++ range_told ranges.old one.now one.now.item) }
-    ensures ranges { OnOk result ((raw : ℕ) → item_in ranges.new raw
-        ≡ option_or (item_in ranges.old raw)
-        (if in_range raw one.now.item then Some number else None)) }
-    ensures layers { OnOk result ((raw : ℕ) → item_in layers.new raw
-        ≡ option_or (item_in layers.old raw)
-        (if in_range raw one.now.item then Some number else None)) }
+    ensures ranges { OnOk result
+        (AddsItem (λ raw. in_range raw one.now.item) number ranges.old ranges.new) }
+    ensures layers { OnOk result
+        (AddsItem (λ raw. in_range raw one.now.item) number layers.old layers.new) }
 {
     if let Item::Physical {
         min,

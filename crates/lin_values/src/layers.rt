@@ -1,11 +1,10 @@
 //! Ranges of numbers that lie over each other: the first that has a number counts.
 
-ghost use Rattle.std.specs.Prelude.{◌≡◌, ◌≤◌, ◌^◌, [], ℕ, IfOk, OnOk, Some, None, is_some};
-ghost use Rattle.std.specs.Prelude.{if◌then◌else◌, ◌++◌, ◌∷◌, drop, length, take};
+ghost use Rattle.std.specs.Prelude.{◌≡◌, ◌≤◌, ◌^◌, [], ℕ, IfOk, OnOk, is_some};
+ghost use Rattle.std.specs.Prelude.{◌++◌, ◌∷◌, drop, length, take};
 ghost use Rattle.std.specs.List.{list_any};
-ghost use Rattle.std.specs.Option.{option_or};
 ghost use Rattle.lin_values.specs.Joined.{gaps, joined_span};
-ghost use Rattle.lin_values.specs.Layers.{in_span, common_span, item_in, numbers_of, part_between, AreInOrder};
+ghost use Rattle.lin_values.specs.Layers.{in_span, common_span, item_in, numbers_of, part_between, AreInOrder, AddsItem};
 
 use std::alloc::{AllocError, Global};
 use std::marker::Model;
@@ -180,8 +179,7 @@ impl Layers {
     /// An error means out of memory; nothing is left then.
     pub fn add(&mut self, span: Span, item: usize) -> Result<bool, AllocError>
         requires { span.from ≤ span.to }
-        ensures first { OnOk result ((n : ℕ) → item_in self.new n
-            ≡ option_or (item_in self.old n) (if in_span span n then Some item else None)) }
+        ensures first { OnOk result (AddsItem (in_span span) item self.old self.new) }
         ensures met { IfOk result
             (λ met. met ≡ list_any (λ n. is_some (item_in self.old n)) (numbers_of span)) }
     {

@@ -1,10 +1,10 @@
 //! The raw values next to a decimal, and the nearest.
 
-ghost use Rattle.std.specs.Prelude.{◌≡◌, ◌≤◌, ◌<◌, ◌^◌, ◌⊎◌, ◌||◌, ◌&&◌, ◌==◌, ℕ, nat_lt, None, Option, option_and_then, option_map, Some, true, unsigned_abs};
+ghost use Rattle.std.specs.Prelude.{◌≡◌, ◌≤◌, ◌^◌, ◌⊎◌, ◌||◌, ◌&&◌, ◌==◌, ℕ, nat_lt, None, option_and_then, option_map, true, unsigned_abs};
 ghost use Rattle.lin_values.specs.Layers.{in_span, IsSomeSpan};
-ghost use Rattle.lin_values.specs.Nearest.{distance_above, distance_below, near_of, nearer, range_value};
-ghost use Rattle.lin_values.specs.Nearest.{numbered_decimal, raw_decimal, signal_decimal, with_near, with_raw};
-ghost use Rattle.lin_values.specs.Nearest.{IsExtended, IsLeast, IsAtLeastAsNear};
+ghost use Rattle.lin_values.specs.Nearest.{distance_above, distance_below, near_of, nearer, range_value, part_distance, raw_distance, AddsSpan};
+ghost use Rattle.lin_values.specs.Nearest.{signal_decimal, with_near, with_raw};
+ghost use Rattle.lin_values.specs.Nearest.{IsLeast, IsAtLeastAsNear};
 ghost use Rattle.lin_values.specs.Raws.{above, below, has_unit, nearest};
 ghost use Rattle.lin_values.specs.Value.{scaled_value, IsReadable};
 
@@ -128,14 +128,10 @@ impl Neighbours {
     fn add_range(&mut self, sought: i128, range: &Range<'_>, span: Span)
         requires wide { unsigned_abs sought ≤ 10 ^ 38 }
         requires some { IsSomeSpan span }
-        ensures below { (f g : ℕ → Option ℕ)
-            → IsExtended span (λ n. distance_below sought (range_value range.now n)) f g
-            → IsLeast f (option_map near_of self.old.below)
-            → IsLeast g (option_map near_of self.new.below) }
-        ensures above { (f g : ℕ → Option ℕ)
-            → IsExtended span (λ n. distance_above sought (range_value range.now n)) f g
-            → IsLeast f (option_map near_of self.old.above)
-            → IsLeast g (option_map near_of self.new.above) }
+        ensures below { AddsSpan span (λ n. distance_below sought (range_value range.now n))
+            self.old.below self.new.below }
+        ensures above { AddsSpan span (λ n. distance_above sought (range_value range.now n))
+            self.old.above self.new.above }
     {
         let distance = difference(sought, range.offset.units());
         let (first, second) = around(span, range.scale.units(), distance);
@@ -154,16 +150,12 @@ impl Neighbours {
         part: &RangePart,
     )
         requires { unsigned_abs sought ≤ 10 ^ 38 }
-        ensures below { (f g : ℕ → Option ℕ)
-            → IsExtended part.now.span (λ n. option_and_then (distance_below sought)
-            (numbered_decimal encoding.now.items signal.bits unit.now (Some part.now.item) n)) f g
-            → IsLeast f (option_map near_of self.old.below)
-            → IsLeast g (option_map near_of self.new.below) }
-        ensures above { (f g : ℕ → Option ℕ)
-            → IsExtended part.now.span (λ n. option_and_then (distance_above sought)
-            (numbered_decimal encoding.now.items signal.bits unit.now (Some part.now.item) n)) f g
-            → IsLeast f (option_map near_of self.old.above)
-            → IsLeast g (option_map near_of self.new.above) }
+        ensures below { AddsSpan part.now.span
+            (part_distance (distance_below sought) encoding.now.items signal.bits unit.now part.now)
+            self.old.below self.new.below }
+        ensures above { AddsSpan part.now.span
+            (part_distance (distance_above sought) encoding.now.items signal.bits unit.now part.now)
+            self.old.above self.new.above }
     {
         let Some(item) = encoding.item(part.item) else {
             return;
@@ -219,12 +211,10 @@ impl Neighbours {
 fn neighbours_in(signal: CodedSignal, encoding: &Encoding, sought: i128, unit: &[u8]) -> Neighbours
     requires { unsigned_abs sought ≤ 10 ^ 38 }
     ensures below { IsLeast
-        (λ n. option_and_then (distance_below sought)
-        (raw_decimal encoding.now.items signal.bits unit.now n))
+        (raw_distance (distance_below sought) encoding.now.items signal.bits unit.now)
         (option_map near_of result.below) }
     ensures above { IsLeast
-        (λ n. option_and_then (distance_above sought)
-        (raw_decimal encoding.now.items signal.bits unit.now n))
+        (raw_distance (distance_above sought) encoding.now.items signal.bits unit.now)
         (option_map near_of result.above) }
 {
     let mut found = Neighbours::none();

@@ -1,12 +1,12 @@
 //! Raw values of a signal.
 
-ghost use Rattle.std.specs.Prelude.{◌≡◌, ◌≢◌, ◌⊎◌, IfSome, None};
+ghost use Rattle.std.specs.Prelude.{◌≡◌, ◌⊎◌, IfSome, None};
 ghost use Rattle.std.specs.Prelude.{false, true};
 ghost use Rattle.std.specs.Option.{option_map_or};
 ghost use Rattle.lin_frame.specs.declared.value.Value.{Value};
 ghost use Rattle.std.specs.List.{list_any};
 ghost use Rattle.lin_values.specs.Layers.{in_span};
-ghost use Rattle.lin_values.specs.Raws.{count_of, has, has_raw, in_spans, same_value, AreRaws};
+ghost use Rattle.lin_values.specs.Raws.{count_of, has, has_raw, in_spans, same_value, AreRaws, HasNone, HasTwo};
 
 use crate::layers::Span;
 use lin_frame::Value;
@@ -98,8 +98,7 @@ impl Raws {
     pub fn only(&self) -> Option<Value>
         ensures one { IfSome result (λ v. has self.now v ≡ true) }
         ensures only { (v : Value) → IfSome result (λ w. has self.now v ≡ true → v ≡ w) }
-        ensures other { result ≡ None → ((v : Value) → has self.now v ≡ false)
-            ⊎ ((v : Value) × (w : Value) × (v ≢ w) × (has self.now v ≡ true) × (has self.now w ≡ true)) }
+        ensures other { result ≡ None → HasNone self.now ⊎ HasTwo self.now }
     {
         let first = self.spans.as_slice().first();
         if self.count() != 1 {

@@ -4,7 +4,7 @@ ghost use Rattle.std.specs.Prelude.{◌≡◌, ◌+◌, ◌*◌, ◌/◌, ◌^�
 ghost use Rattle.std.specs.Prelude.{MatchOption, None, Some, List, ℕ, false, length, option_map};
 ghost use Rattle.std.specs.Prelude.{slice_index};
 ghost use Rattle.std.specs.Char.{is_ascii_digit};
-ghost use Rattle.lin_values.specs.Read.{places_after, signed_number, unsigned_number, whole_after, number_end};
+ghost use Rattle.lin_values.specs.Read.{places_after, signed_number, unsigned_number, whole_after, number_end, IsPlaced, IsShortestOf};
 ghost use Rattle.lin_values.specs.Read.{spaces_at_front, without_spaces, number_and_unit, is_number_byte};
 ghost use Rattle.lin_values.specs.Value.{with_sign, scaled_value, IsReadable, IsShortest};
 
@@ -21,7 +21,7 @@ fn place(n: u128, left: u8, c: u8) -> Option<(u128, u8)>
     requires few { left ≤ 24 }
     requires fits { n + 10 ^ left ≤ 10 ^ 38 }
     ensures { MatchOption result ((cs : List ℕ) → places_after n left (c ∷ cs) ≡ None)
-        (λ r. ((cs : List ℕ) → places_after n left (c ∷ cs) ≡ places_after r.0 r.1 cs) × (r.0 + 10 ^ r.1 ≤ 10 ^ 38) × (r.1 ≤ 24)) }
+        (IsPlaced n left c) }
 {
     if left == 0 {
         return if c == b'0' { Some((n, 0)) } else { None };
@@ -85,7 +85,7 @@ fn whole(text: &[u8]) -> Option<u128>
 
 fn with_sign(negative: bool, text: &[u8]) -> Option<Decimal>
     ensures { MatchOption result (unsigned_number text.now ≡ None)
-        (λ d. (option_map (with_sign negative) (unsigned_number text.now) ≡ Some (scaled_value d)) × IsReadable d × IsShortest d) }
+        (IsShortestOf (option_map (with_sign negative) (unsigned_number text.now))) }
 {
     if text.is_empty() || !text[0].is_ascii_digit() {
         return None;

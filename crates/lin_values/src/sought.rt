@@ -2,11 +2,10 @@
 
 ghost use Rattle.std.specs.Prelude.{◌≡◌, ◌+◌, ◌*◌, ◌<◌, ◌≤◌, ◌^◌, ◌&&◌, ℕ, not, AllPairs, All, IfOk, IfSome, MatchOption};
 ghost use Rattle.std.specs.Prelude.{option_map, unsigned_abs, true, Some, None, nat_lt, int_lt, ◌≤ℤ◌};
-ghost use Rattle.std.specs.List.{list_any};
 ghost use lib.IntN.{◌+ℤ◌, ◌*ℤ◌, ◌-ℤ◌, pos};
-ghost use Rattle.lin_values.specs.Layers.{in_span, IsBefore, IsSomeSpan};
+ghost use Rattle.lin_values.specs.Layers.{IsBefore, IsSomeSpan};
 ghost use Rattle.lin_values.specs.Raws.{has_unit, in_option_span, lies_within, is_mapped_within};
-ghost use Rattle.lin_values.specs.Raws.{sought_item, sought_part, sought_range, sought_raw, sought_value, AreWide};
+ghost use Rattle.lin_values.specs.Raws.{seeks_item, seeks_part, seeks_raw, sought_range, sought_value, AreWide, HaveNumbers};
 
 use crate::coded::{CodedSignal, most_of};
 use crate::codings::Item;
@@ -159,8 +158,7 @@ impl Sought<'_> {
         requires { AreWide self.now.decimals }
         ensures some { IfSome result IsSomeSpan }
         ensures found { (n : ℕ) → n < 65536
-            → sought_item (option_map (λ t. t.now) self.now.text) self.now.decimals
-            self.now.unit.now item.now n ≡ in_option_span result n }
+            → seeks_item self.now item.now n ≡ in_option_span result n }
     {
         match item {
             Item::Logical { value, text } => if *value <= 65_535
@@ -190,8 +188,7 @@ fn part_span(
     ensures within { IfSome result
         (λ s. (part.now.span.from ≤ s.from) × (s.to ≤ part.now.span.to)) }
     ensures found { (n : ℕ) → n < 65536
-        → sought_part encoding.now.items signal.bits (option_map (λ t. t.now) sought.now.text) sought.now.decimals
-        sought.now.unit.now part.now n ≡ in_option_span result n }
+        → seeks_part sought.now encoding.now.items signal.bits part.now n ≡ in_option_span result n }
 {
     let span = sought
         .span_of(encoding.item(part.item)?)?
@@ -210,10 +207,9 @@ pub(crate) fn spans_of(
     sought: &Sought<'_>,
 ) -> Result<Vec<Span>, AllocError>
     requires { AreWide sought.now.decimals }
-    ensures found { IfOk result (λ spans. (n : ℕ) → n < 65536
-        → list_any (λ s. in_span s n) spans.items
-        ≡ (not signal.is_array && sought_raw encoding.now.items signal.bits (option_map (λ t. t.now) sought.now.text) sought.now.decimals
-        sought.now.unit.now n)) }
+    ensures found { IfOk result (λ spans. HaveNumbers
+        (λ n. not signal.is_array && seeks_raw sought.now encoding.now.items signal.bits n)
+        spans.items) }
     ensures some { IfOk result (λ spans. All IsSomeSpan spans.items) }
     ensures apart { IfOk result (λ spans. AllPairs IsBefore spans.items) }
 {

@@ -1,8 +1,8 @@
 //! The values that digits and characters spell.
 
-ghost use Rattle.std.specs.Prelude.{◌≡◌, ◌≢◌, ◌<◌, ◌≤◌, ◌++◌, ◌-◌, ◌/◌, ℕ, List, Some, None, IfSome};
+ghost use Rattle.std.specs.Prelude.{◌≡◌, ◌≢◌, ◌<◌, ◌≤◌, ◌++◌, ◌-◌, ℕ, List, Some, None, IfSome};
 ghost use Rattle.std.specs.Prelude.{MatchOption, length, nat_le, option_map, slice_index, true, false, replicate, if◌then◌else◌};
-ghost use Rattle.lin_values.specs.Spelled.{character_array, in_quotes, bcd_after, pairs, character_scalar, scalar_within, IsHeld};
+ghost use Rattle.lin_values.specs.Spelled.{in_quotes, bcd_after, pairs, character_scalar, IsHeld, IsArrayOfDigits, IsArrayOfLetters, IsScalarOfDigits, IsScalarOfLetters};
 
 use crate::coded::{CodedSignal, most_of};
 use arrayvec::ArrayVec;
@@ -104,10 +104,8 @@ fn filled(bytes: ArrayVec<u8, 8>, size: usize) -> Option<ArrayVec<u8, 8>>
 
 /// The array that digits or characters spell, filled up with 00.
 fn coded_array(bits: u8, text: &[u8]) -> Option<Value>
-    ensures letters { (ls : List ℕ) → text.now ≡ in_quotes ls → length ls ≤ bits / 8
-        → bits / 8 ≤ 8 → result ≡ Some (character_array bits ls) }
-    ensures digits { (bs : List ℕ) → slice_index text.now 0 ≢ 34 → pairs text.now ≡ Some bs
-        → length bs ≤ bits / 8 → bits / 8 ≤ 8 → result ≡ Some (character_array bits bs) }
+    ensures letters { IsArrayOfLetters bits text.now result }
+    ensures digits { IsArrayOfDigits bits text.now result }
     ensures held { IfSome result (λ v. IsHeld bits true v) }
 {
     let bytes = filled(coded_bytes(text)?, usize::from(bits / 8))?;
@@ -116,10 +114,8 @@ fn coded_array(bits: u8, text: &[u8]) -> Option<Value>
 
 /// The scalar that digits or characters spell.
 fn coded_scalar(bits: u8, text: &[u8]) -> Option<Value>
-    ensures letters { (ls : List ℕ) → text.now ≡ in_quotes ls → length ls ≤ 2
-        → result ≡ scalar_within bits (character_scalar ls) }
-    ensures digits { (n : ℕ) → slice_index text.now 0 ≢ 34 → bcd_after 0 text.now ≡ Some n
-        → length text.now ≤ 4 → result ≡ scalar_within bits n }
+    ensures letters { IsScalarOfLetters bits text.now result }
+    ensures digits { IsScalarOfDigits bits text.now result }
     ensures held { IfSome result (λ v. IsHeld bits false v) }
 {
     let number = match coded_letters(text) {
@@ -134,16 +130,10 @@ fn coded_scalar(bits: u8, text: &[u8]) -> Option<Value>
 
 /// The value that digits or characters may spell.
 pub(crate) fn coded_value(signal: CodedSignal, text: &[u8]) -> Option<Value>
-    ensures array_letters { signal.is_array ≡ true → (ls : List ℕ) → text.now ≡ in_quotes ls
-        → length ls ≤ signal.bits / 8 → signal.bits / 8 ≤ 8 → result ≡ Some (character_array signal.bits ls) }
-    ensures array_digits { signal.is_array ≡ true → (bs : List ℕ) → slice_index text.now 0 ≢ 34
-        → pairs text.now ≡ Some bs → length bs ≤ signal.bits / 8 → signal.bits / 8 ≤ 8
-        → result ≡ Some (character_array signal.bits bs) }
-    ensures scalar_letters { signal.is_array ≡ false → (ls : List ℕ) → text.now ≡ in_quotes ls
-        → length ls ≤ 2 → result ≡ scalar_within signal.bits (character_scalar ls) }
-    ensures scalar_digits { signal.is_array ≡ false → (n : ℕ) → slice_index text.now 0 ≢ 34
-        → bcd_after 0 text.now ≡ Some n → length text.now ≤ 4
-        → result ≡ scalar_within signal.bits n }
+    ensures array_letters { signal.is_array ≡ true → IsArrayOfLetters signal.bits text.now result }
+    ensures array_digits { signal.is_array ≡ true → IsArrayOfDigits signal.bits text.now result }
+    ensures scalar_letters { signal.is_array ≡ false → IsScalarOfLetters signal.bits text.now result }
+    ensures scalar_digits { signal.is_array ≡ false → IsScalarOfDigits signal.bits text.now result }
     ensures held { IfSome result (λ v. IsHeld signal.bits signal.is_array v) }
 {
     if signal.is_array {

@@ -1,15 +1,13 @@
 //! Encodings that no signal has (60).
 
-ghost use Rattle.std.specs.Prelude.{◌≡◌, ◌++◌, ℕ, List, IfOk, OnOk};
+ghost use Rattle.std.specs.Prelude.{◌≡◌, ℕ, IfOk, OnOk};
 ghost use Rattle.std.specs.List.{list_any};
 ghost use Rattle.indexmap.specs.IndexSet.{contains};
 ghost use Rattle.std.specs.Prelude.{nat_eq};
 ghost use Rattle.lin_cluster.specs.Names.{NumbersFirst};
-ghost use Rattle.lin_parts.specs.declared.description.Name.{Name};
 ghost use Rattle.lin_values.specs.Coded.{named_in};
-ghost use Rattle.lin_values.specs.Gathered.{encoding_in, names_of, type_number, AreNamed};
+ghost use Rattle.lin_values.specs.Gathered.{encoding_in, type_number, AddsNamedLine, AreNamed};
 ghost use Rattle.lin_values.specs.Unused.{is_raw_number, unused_encodings, AreUnused};
-ghost use Rattle.lin_values.specs.declared.codings.CodingType.{CodingType};
 
 use crate::coded::{NamedSignals, put_first};
 use crate::codings::{CodedLine, CodingType, Codings};
@@ -47,10 +45,7 @@ fn add_line<'n>(
     encoding: Option<usize>,
     line: &'n CodedLine,
 ) -> Result<(), AllocError>
-    ensures { OnOk result ((types : List CodingType) (before : List (Name × Name))
-        → encoding ≡ type_number types line.now.encoding
-        → AreNamed types before named.old.map
-        → AreNamed types (before ++ names_of line.now) named.new.map) }
+    ensures { OnOk result (AddsNamedLine encoding line.now named.old.map named.new.map) }
 {
     for name in line.signals.as_slice() {
         put_first(&mut named.map, name.text.as_slice(), encoding)?;

@@ -1,11 +1,10 @@
 //! The ways back: the raw values of a text, and those within a range of decimals.
 
-ghost use Rattle.std.specs.Prelude.{◌≡◌, ◌<◌, ◌≤◌, ◌^◌, ℕ, IfOk, Some, option_map, unsigned_abs};
-ghost use Rattle.std.specs.List.{list_any};
+ghost use Rattle.std.specs.Prelude.{◌≡◌, ◌≤◌, ◌^◌, IfOk, Some, option_map, unsigned_abs};
 ghost use Rattle.lin_frame.specs.declared.value.Value.{Value};
 ghost use Rattle.std.specs.Prelude.{All, AllPairs};
-ghost use Rattle.lin_values.specs.Layers.{in_span, IsBefore, IsSomeSpan};
-ghost use Rattle.lin_values.specs.Raws.{coded_raws, decimals_of, has, is_this, raws_of, raws_within, sought_of, unit_behind, AreWide};
+ghost use Rattle.lin_values.specs.Layers.{IsBefore, IsSomeSpan};
+ghost use Rattle.lin_values.specs.Raws.{coded_raws, decimals_of, has, is_this, raws_of, raws_within, unit_behind, AreWide, seeks_of, HaveNumbers};
 
 use crate::coded::Coded;
 use crate::decimals::units;
@@ -75,10 +74,7 @@ impl Coded {
         sought: &Sought<'_>,
     ) -> Result<Many<Span>, AllocError>
         requires { AreWide sought.now.decimals }
-        ensures found { IfOk result (λ spans. (n : ℕ) → n < 65536
-            → list_any (λ s. in_span s n) spans
-            ≡ sought_of self.now signal (option_map (λ t. t.now) sought.now.text)
-            sought.now.decimals sought.now.unit.now n) }
+        ensures found { IfOk result (HaveNumbers (seeks_of sought.now self.now signal)) }
         ensures some { IfOk result (λ spans. All IsSomeSpan spans) }
         ensures apart { IfOk result (λ spans. AllPairs IsBefore spans) }
     {
