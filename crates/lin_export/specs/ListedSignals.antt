@@ -11,7 +11,7 @@ use Rattle.lin_log.specs.CallerTexts.{seen_text}
 use Rattle.lin_log.specs.Words.{line, value_word}
 use Rattle.lin_frame.specs.declared.value.Value.{Value}
 use Rattle.lin_values.specs.Coded.{encoding_of, signal_at, CodedData, RangeData}
-use Rattle.lin_values.specs.Meaning.{meaning, number_of}
+use Rattle.lin_values.specs.Meaning.{meaning, raw_number}
 use Rattle.lin_values.specs.Meant.{Meant}
 use Rattle.lin_values.specs.Shown.{decimal_shown, shown}
 use Rattle.lin_values.specs.Value.{decimal_of, fits, scaled_value}
@@ -71,7 +71,7 @@ item_lines has_numbers s (Some t) = flat_map (λ p. item_line has_numbers s p.it
 
 -- whether the values of a signal are numbers: those of scalars and of wide signals
 abbrev pub has_numbers : Parts → CodedData → ℕ → Bool
-has_numbers c k s = is_some (number_of (signal_at k s).is_wide (signal_of c s).initial)
+has_numbers c k s = is_some (raw_number (signal_at k s).is_wide (signal_of c s).initial)
 
 -- ---- the initial value, and its text where it has one
 
@@ -81,7 +81,7 @@ meaning_words (Some m) = shown m ∷ []
 
 -- the number of a value if it has one, or else its bytes
 abbrev pub raw_word : CodedData → ℕ → Value → List ℕ
-raw_word k s v = option_map_or decimal (number_of (signal_at k s).is_wide v) (value_word v)
+raw_word k s v = option_map_or decimal (raw_number (signal_at k s).is_wide v) (value_word v)
 
 abbrev pub initial_line : Parts → CodedData → ℕ → List ℕ
 initial_line c k s =

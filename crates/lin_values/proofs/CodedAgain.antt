@@ -13,7 +13,7 @@ use Rattle.std.proofs.lemmas.Slice.Eq.{bytes_eq-Decides}
 use Rattle.lin_frame.specs.declared.value.Value.{Value}
 use Rattle.lin_frame.specs.declared.value.Value.TheVariants.{Scalar, Bytes}
 use Rattle.lin_values.specs.Coded.{all_codings, item_for, or_else, signal_at, CodedData, SignalCoding}
-use Rattle.lin_values.specs.Meaning.{as_digits, bcd_digits, by_item, bytes_of_scalar, digits_meaning, first_some, fours, letter, letters_of, meaning, meaning_by, meaning_in, named_or_number, value_bytes, wide_number, without_front_zeros}
+use Rattle.lin_values.specs.Meaning.{as_digits, bcd_digits, by_item, bytes_of_scalar, digits_meaning, first_some, fours, shown_character, shown_characters, meaning, meaning_by, meaning_in, named_or_number, value_bytes, wide_number, without_front_zeros}
 use Rattle.lin_values.specs.Meant.{Meant, Named, Number, Physical, Digits, Letters}
 use Rattle.lin_values.specs.Raws.{coded_raws, value_has_text, is_coded, is_plain_from, is_value, is_printable, same_value}
 use Rattle.lin_values.specs.Spelled.{character_array, byte_of, in_quotes, bcd_after, pairs, character_scalar, scalar_within, IsHeld}
@@ -36,7 +36,7 @@ use Rattle.lin_values.proofs.SpelledValues.{all-small, as-text, both-true, digit
 visible-some : (b : ℕ) → is_printable b ≡ true → (b == 0) ≡ false
 visible-some b e = grind (arith, nat_tests)
 
-letter-same : (b : ℕ) → is_printable b ≡ true → letter b ≡ b
+letter-same : (b : ℕ) → is_printable b ≡ true → shown_character b ≡ b
 letter-same b e = ap (λ t. cond t b 63) e
 
 some-behind : (xs : List ℕ) (b : ℕ) → (b == 0) ≡ false → without_front_zeros (xs ++ b ∷ []) ≡ without_front_zeros xs ++ b ∷ []
@@ -57,14 +57,14 @@ no-letters : (z : ℕ) → without_front_zeros (reverse (replicate z 0)) ≡ []
 no-letters zero = refl
 no-letters (suc z) = ap without_front_zeros (reverse-append (0 ∷ []) (replicate z 0)) ∙ zero-behind (reverse (replicate z 0)) (no-letters z)
 
-letters-more : (b : ℕ) (bs : List ℕ) → is_printable b ≡ true → letters_of (b ∷ bs) ≡ b ∷ letters_of bs
+letters-more : (b : ℕ) (bs : List ℕ) → is_printable b ≡ true → shown_characters (b ∷ bs) ≡ b ∷ shown_characters bs
 letters-more b bs e =
     let w : List ℕ = without_front_zeros (reverse bs) in
     let a : without_front_zeros (reverse (b ∷ bs)) ≡ w ++ b ∷ [] = ap without_front_zeros (reverse-append (b ∷ []) bs) ∙ some-behind (reverse bs) b (visible-some b e) in
-    ap (λ xs. map letter (reverse xs)) a ∙ ap (map letter) (reverse-append w (b ∷ [])) ∙ ap (λ c. c ∷ map letter (reverse w)) (letter-same b e)
+    ap (λ xs. map shown_character (reverse xs)) a ∙ ap (map shown_character) (reverse-append w (b ∷ [])) ∙ ap (λ c. c ∷ map shown_character (reverse w)) (letter-same b e)
 
-pub letters-again : (vs : List ℕ) (z : ℕ) → list_all is_printable vs ≡ true → letters_of (vs ++ replicate z 0) ≡ vs
-letters-again [] z e = ap (λ xs. map letter (reverse xs)) (no-letters z)
+pub letters-again : (vs : List ℕ) (z : ℕ) → list_all is_printable vs ≡ true → shown_characters (vs ++ replicate z 0) ≡ vs
+letters-again [] z e = ap (λ xs. map shown_character (reverse xs)) (no-letters z)
 letters-again (v ∷ vs) z e =
     letters-more v (vs ++ replicate z 0) (first-small (is_printable v) (list_all is_printable vs) e)
     ∙ ap (λ xs. v ∷ xs) (letters-again vs z (rest-small (is_printable v) (list_all is_printable vs) e))
@@ -76,7 +76,7 @@ IsFrom g v (Named t) = Unit {0}
 IsFrom g v (Number n) = Unit {0}
 IsFrom g v (Physical z u) = Unit {0}
 IsFrom g v (Digits t) = bcd_digits g v ≡ Some t
-IsFrom g v (Letters t) = t ≡ letters_of (value_bytes g v)
+IsFrom g v (Letters t) = t ≡ shown_characters (value_bytes g v)
 
 abbrev pub IsFromAny : SignalCoding → Value → Option Meant → Type 0
 IsFromAny g v None = Unit {0}
@@ -178,12 +178,12 @@ zeros-length [] zero = refl
 zeros-length [] (suc z) = omega (arith, zeros-length [] z)
 zeros-length (v ∷ vs) z = omega (arith, zeros-length vs z)
 
-array-letters : (bits : ℕ) (text : List ℕ) (o : Option Value) (bs : List ℕ) → IsSpelled bits true text o → length bs ≡ bits / 8 → length bs ≤ 8 → is_plain_from false bs ≡ true → text ≡ in_quotes (letters_of bs) → o ≡ Some (Bytes bs)
+array-letters : (bits : ℕ) (text : List ℕ) (o : Option Value) (bs : List ℕ) → IsSpelled bits true text o → length bs ≡ bits / 8 → length bs ≤ 8 → is_plain_from false bs ≡ true → text ≡ in_quotes (shown_characters bs) → o ≡ Some (Bytes bs)
 array-letters bits text o bs h len le plain e =
     let split : IsSplit bs = plain-split bs plain in
     let vs : List ℕ = split.0 in
     let z : ℕ = split.1 in
-    let same : letters_of bs ≡ vs = ap letters_of split.2 ∙ letters-again vs z split.3 in
+    let same : shown_characters bs ≡ vs = ap shown_characters split.2 ∙ letters-again vs z split.3 in
     let whole : length bs ≡ length vs + z = ap length split.2 ∙ zeros-length vs z in
     let left : bits / 8 - length vs ≡ z = omega arith in
     h.array_letters refl vs (e ∙ ap in_quotes same) (omega arith) (omega arith)
@@ -214,13 +214,13 @@ bytes-scalar bits n le =
 two-bytes : (bits n : ℕ) → length (bytes_of_scalar n bits) ≤ 2
 two-bytes bits n = elim (nat_lt 8 bits) as (λ b. length (cond b (n % 256 ∷ n / 256 ∷ []) (n % 256 ∷ [])) ≤ 2) [ true ↦ omega arith | false ↦ omega arith ]
 
-scalar-letters : (bits : ℕ) (text : List ℕ) (o : Option Value) (n : ℕ) → IsSpelled bits false text o → n ≤ greatest_raw bits → is_plain_from false (bytes_of_scalar n bits) ≡ true → text ≡ in_quotes (letters_of (bytes_of_scalar n bits)) → o ≡ Some (Scalar n)
+scalar-letters : (bits : ℕ) (text : List ℕ) (o : Option Value) (n : ℕ) → IsSpelled bits false text o → n ≤ greatest_raw bits → is_plain_from false (bytes_of_scalar n bits) ≡ true → text ≡ in_quotes (shown_characters (bytes_of_scalar n bits)) → o ≡ Some (Scalar n)
 scalar-letters bits text o n h le plain e =
     let bs : List ℕ = bytes_of_scalar n bits in
     let split : IsSplit bs = plain-split bs plain in
     let vs : List ℕ = split.0 in
     let z : ℕ = split.1 in
-    let same : letters_of bs ≡ vs = ap letters_of split.2 ∙ letters-again vs z split.3 in
+    let same : shown_characters bs ≡ vs = ap shown_characters split.2 ∙ letters-again vs z split.3 in
     let whole : length bs ≡ length vs + z = ap length split.2 ∙ zeros-length vs z in
     let is : character_scalar vs ≡ n = sym (scalar-zeros vs z) ∙ ap character_scalar (sym split.2) ∙ bytes-scalar bits n le in
     h.scalar_letters refl vs (e ∙ ap in_quotes same) (omega (arith, whole, two-bytes bits n))
@@ -322,22 +322,22 @@ plain-again (v ∷ vs) z e =
     ap (λ t. cond t (is_plain_from true (vs ++ replicate z 0)) (cond false false (is_printable v && is_plain_from false (vs ++ replicate z 0)))) (visible-some v here)
     ∙ both-true (is_printable v) (is_plain_from false (vs ++ replicate z 0)) here rest
 
-letter-visible : (b : ℕ) → is_printable (letter b) ≡ true
+letter-visible : (b : ℕ) → is_printable (shown_character b) ≡ true
 letter-visible b = elim (is_printable b) as (λ t. is_printable b ≡ t → is_printable (cond t b 63) ≡ true) [
   | true ↦ λ e. e
   | false ↦ λ e. refl
 ] refl
 
-letters-visible : (xs : List ℕ) → list_all is_printable (map letter xs) ≡ true
+letters-visible : (xs : List ℕ) → list_all is_printable (map shown_character xs) ≡ true
 letters-visible [] = refl
-letters-visible (x ∷ xs) = both-true (is_printable (letter x)) (list_all is_printable (map letter xs)) (letter-visible x) (letters-visible xs)
+letters-visible (x ∷ xs) = both-true (is_printable (shown_character x)) (list_all is_printable (map shown_character xs)) (letter-visible x) (letters-visible xs)
 
 map-length : (f : ℕ → ℕ) (xs : List ℕ) → length (map f xs) ≡ length xs
 map-length f [] = refl
 map-length f (x ∷ xs) = omega (arith, map-length f xs)
 
-letters-few : (bs : List ℕ) → length (letters_of bs) ≤ length bs
-letters-few bs = omega (arith, map-length letter (reverse (without_front_zeros (reverse bs))), fewer_at-end bs)
+letters-few : (bs : List ℕ) → length (shown_characters bs) ≤ length bs
+letters-few bs = omega (arith, map-length shown_character (reverse (without_front_zeros (reverse bs))), fewer_at-end bs)
 
 visible-byte : (b : ℕ) → is_printable b ≡ true → b < 256
 visible-byte b e = grind (arith, nat_tests)
@@ -384,16 +384,16 @@ within-scalar bits m n e = elim (nat_le m (greatest_raw bits)) as (λ b. cond b 
 ] e
 
 letters-plain : (g : SignalCoding) (text : List ℕ) (o : Option Value) → IsSpelled g.bits g.is_array text o → (v : Value) → o ≡ Some v → IsHeld g.bits g.is_array v → length (value_bytes g v) ≤ 8
-    → text ≡ in_quotes (letters_of (value_bytes g v)) → is_plain_from false (value_bytes g v) ≡ true
+    → text ≡ in_quotes (shown_characters (value_bytes g v)) → is_plain_from false (value_bytes g v) ≡ true
 letters-plain g text o h (Scalar n) is held few e =
     let bs : List ℕ = bytes_of_scalar n g.bits in
-    let t : List ℕ = letters_of bs in
+    let t : List ℕ = shown_characters bs in
     let seen : list_all is_printable t ≡ true = letters-visible (reverse (without_front_zeros (reverse bs))) in
     let le : length t ≤ 2 = omega (arith, letters-few bs, two-bytes g.bits n) in
     let same : n ≡ character_scalar t = within-scalar g.bits (character_scalar t) n (sym (h.scalar_letters held.0 t e le) ∙ is) in
     filled-plain t bs seen (scalar-filled g.bits t n seen same (letters-few bs))
 letters-plain g text o h (Bytes bs) is held few e =
-    let t : List ℕ = letters_of bs in
+    let t : List ℕ = shown_characters bs in
     let z : ℕ = g.bits / 8 - length t in
     let seen : list_all is_printable t ≡ true = letters-visible (reverse (without_front_zeros (reverse bs))) in
     let p : length bs ≡ g.bits / 8 = held.1 in

@@ -4,10 +4,10 @@ use Rattle.std.proofs.lemmas.Bool.{cases_Bool}
 use Rattle.lin_frame.specs.declared.value.Value.{Value}
 use Rattle.lin_frame.specs.declared.value.Value.TheVariants.{Scalar, Bytes}
 use Rattle.lin_values.specs.Coded.{item_for, SignalCoding}
-use Rattle.lin_values.specs.Meaning.{by_item, coded_meaning, meaning_in, number_of, wide_number}
+use Rattle.lin_values.specs.Meaning.{by_item, coded_meaning, meaning_in, raw_number, wide_number}
 use Rattle.lin_values.specs.declared.codings.PlacedItem.{PlacedItem}
 
-pub numbered : (s : SignalCoding) (ps : List PlacedItem) (v : Value) (n : ℕ) → number_of s.is_wide v ≡ Some n → meaning_in s ps v ≡ by_item s ps v n (item_for ps n)
+pub numbered : (s : SignalCoding) (ps : List PlacedItem) (v : Value) (n : ℕ) → raw_number s.is_wide v ≡ Some n → meaning_in s ps v ≡ by_item s ps v n (item_for ps n)
 numbered s ps (Scalar raw) n e =
     let same : raw ≡ n = cc in
     ap (λ m. by_item s ps (Scalar raw) m (item_for ps m)) same

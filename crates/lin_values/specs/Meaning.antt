@@ -79,12 +79,12 @@ abbrev pub without_front_zeros : List ℕ → List ℕ
 without_front_zeros [] = []
 without_front_zeros (b ∷ bs) = if b == 0 then without_front_zeros bs else b ∷ bs
 
-abbrev pub letter : ℕ → ℕ
-letter b = if nat_le 0x20 b && nat_le b 0x7E then b else 63
+abbrev pub shown_character : ℕ → ℕ
+shown_character b = if nat_le 0x20 b && nat_le b 0x7E then b else 63
 
 -- without 00 at the end
-abbrev pub letters_of : List ℕ → List ℕ
-letters_of bs = map letter (reverse (without_front_zeros (reverse bs)))
+abbrev pub shown_characters : List ℕ → List ℕ
+shown_characters bs = map shown_character (reverse (without_front_zeros (reverse bs)))
 
 abbrev pub value_bytes : SignalCoding → Value → List ℕ
 value_bytes s (Scalar raw) = bytes_of_scalar raw s.bits
@@ -96,7 +96,7 @@ digits_meaning (Some ds) = Some (Digits ds)
 
 abbrev pub meaning_by : SignalCoding → Value → Coding → Option Meant
 meaning_by s v codings.Bcd = digits_meaning (bcd_digits s v)
-meaning_by s v codings.Ascii = Some (Letters (letters_of (value_bytes s v)))
+meaning_by s v codings.Ascii = Some (Letters (shown_characters (value_bytes s v)))
 
 -- the first that there is
 abbrev pub first_some : {A B : Type 0} → (A → Option B) → List A → Option B
@@ -109,9 +109,9 @@ coded_meaning s ps v = first_some (meaning_by s v) (all_codings ps)
 -- ---- all
 
 -- the number of a scalar, or of a wide signal
-abbrev pub number_of : Bool → Value → Option ℕ
-number_of is_wide (Scalar raw) = Some raw
-number_of is_wide (Bytes bs) = if is_wide then Some (wide_number bs) else None
+abbrev pub raw_number : Bool → Value → Option ℕ
+raw_number is_wide (Scalar raw) = Some raw
+raw_number is_wide (Bytes bs) = if is_wide then Some (wide_number bs) else None
 
 abbrev pub by_item : SignalCoding → List PlacedItem → Value → ℕ → Option Item → Option Meant
 by_item s ps v raw (Some i) = numeric_meaning i raw

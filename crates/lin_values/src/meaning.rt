@@ -5,9 +5,9 @@ ghost use Rattle.std.specs.Prelude.{flat_map, length, option_map, reverse};
 ghost use Rattle.lin_text.specs.Written.{Grows};
 ghost use Rattle.lin_values.specs.Coded.{signal_at};
 ghost use Rattle.lin_values.specs.Meaning.{meaning, meaning_in, meant, numeric_meaning, bcd_digits};
-ghost use Rattle.lin_values.specs.Meaning.{letter, letters_of, coded_meaning, digits_of_scalar};
+ghost use Rattle.lin_values.specs.Meaning.{shown_character, shown_characters, coded_meaning, digits_of_scalar};
 ghost use Rattle.lin_values.specs.Meaning.{as_digits, bytes_of_scalar, fours, meaning_by};
-ghost use Rattle.lin_values.specs.Meaning.{number_of, plain_signal, value_bytes, wide_number};
+ghost use Rattle.lin_values.specs.Meaning.{raw_number, plain_signal, value_bytes, wide_number};
 ghost use Rattle.lin_values.specs.Meaning.{without_front_zeros, CountsFor};
 ghost use Rattle.lin_values.specs.Raws.{is_coded};
 ghost use Rattle.lin_values.specs.Shown.{shown, plain_shown};
@@ -138,8 +138,8 @@ fn without_zeros(bytes: &[u8]) -> &[u8]
 }
 
 /// The character of a byte; what isn't visible, nor a space, is `?`.
-fn letter(byte: u8) -> u8
-    ensures { result ≡ letter byte }
+fn shown_character(byte: u8) -> u8
+    ensures { result ≡ shown_character byte }
 {
     if byte >= 0x20 && byte <= 0x7E {
         byte
@@ -149,35 +149,35 @@ fn letter(byte: u8) -> u8
 }
 
 /// Characters of bytes up to zeros at the end.
-fn letters_of(bytes: &[u8]) -> ArrayVec<u8, 8>
+fn shown_characters(bytes: &[u8]) -> ArrayVec<u8, 8>
     requires { length bytes.now ≤ 8 }
-    ensures { result.items ≡ letters_of bytes.now }
+    ensures { result.items ≡ shown_characters bytes.now }
 {
     let mut letters = ArrayVec::new();
     for byte in without_zeros(bytes) {
-        letters.push(letter(*byte));
+        letters.push(shown_character(*byte));
     }
     letters
 }
 
 /// The characters of a scalar, of as many bytes as its bits need, the lowest first.
 fn letters_of_scalar(raw: u16, bits: u8) -> ArrayVec<u8, 8>
-    ensures { result.items ≡ letters_of (bytes_of_scalar raw bits) }
+    ensures { result.items ≡ shown_characters (bytes_of_scalar raw bits) }
 {
     let bytes = raw.to_le_bytes();
     if bits > 8 {
-        letters_of(&bytes)
+        shown_characters(&bytes)
     } else {
-        letters_of(&[bytes[0]])
+        shown_characters(&[bytes[0]])
     }
 }
 
 fn letters(signal: CodedSignal, value: &Value) -> ArrayVec<u8, 8>
-    ensures { result.items ≡ letters_of (value_bytes (plain_signal signal) value.now) }
+    ensures { result.items ≡ shown_characters (value_bytes (plain_signal signal) value.now) }
 {
     match value {
         Value::Scalar(raw) => letters_of_scalar(*raw, signal.bits),
-        Value::Bytes(bytes) => letters_of(bytes.as_slice()),
+        Value::Bytes(bytes) => shown_characters(bytes.as_slice()),
     }
 }
 
@@ -223,8 +223,8 @@ fn wide_number(bytes: &[u8]) -> u64
 }
 
 /// The number of a value, if it has one: that of a scalar or of a wide signal.
-fn number_of(is_wide: bool, value: &Value) -> Option<u64>
-    ensures { result ≡ number_of is_wide value.now }
+fn raw_number(is_wide: bool, value: &Value) -> Option<u64>
+    ensures { result ≡ raw_number is_wide value.now }
 {
     match value {
         Value::Scalar(raw) => Some(u64::from(*raw)),
@@ -238,7 +238,7 @@ fn meaning_in<'a>(signal: CodedSignal, encoding: &'a Encoding, value: &Value) ->
     ensures { option_map meant result
         ≡ meaning_in (plain_signal signal) encoding.now.items value.now }
 {
-    if let Some(number) = number_of(signal.is_wide, value)
+    if let Some(number) = raw_number(signal.is_wide, value)
         && let Some(item) = encoding.item_for(number)
     {
         return numeric_meaning(item, number);
@@ -249,9 +249,9 @@ fn meaning_in<'a>(signal: CodedSignal, encoding: &'a Encoding, value: &Value) ->
 impl Coded {
     /// The number of a signal's value, if it has one: that of a scalar or of a wide signal.
     pub fn number(&self, signal: u16, value: &Value) -> Option<u64>
-        ensures { result ≡ number_of (signal_at self.now signal).is_wide value.now }
+        ensures { result ≡ raw_number (signal_at self.now signal).is_wide value.now }
     {
-        number_of(self.is_wide(signal), value)
+        raw_number(self.is_wide(signal), value)
     }
 
     /// What a raw value of a signal means, the first that holds: the text of a value, the decimal of
