@@ -14,7 +14,7 @@ use Rattle.lin_frame.specs.declared.value.Value.{Value}
 use Rattle.lin_frame.specs.declared.value.Value.TheVariants.{Scalar, Bytes}
 use Rattle.lin_values.specs.Coded.{signal_at, CodedData}
 use Rattle.lin_values.specs.Meaning.{meaning}
-use Rattle.lin_values.specs.Raws.{array_spelled, has, has_raw, value_has_text, is_decimal_within, is_value, raws_of, raws_within, same_value, scalars, values_of, RawsData}
+use Rattle.lin_values.specs.Raws.{array_spelled, has, has_raw, value_has_text, is_decimal_within, is_value, raws_of, raws_within, same_raw, scalars, values_of, RawsData}
 use Rattle.lin_values.specs.Warnings.{greatest_raw}
 use Rattle.lin_values.specs.declared.layers.Span.{Span}
 use Rattle.lin_values.proofs.CodedAgain.{turned}
@@ -172,37 +172,37 @@ same-range r k s low high from to unit e f same v =
 
 -- ---- whether a value is among them
 
-no-array : (bs : List ℕ) (p : Value → Bool) (ns : List ℕ) → list_any (same_value (Bytes bs)) (filter p (map Scalar ns)) ≡ false
+no-array : (bs : List ℕ) (p : Value → Bool) (ns : List ℕ) → list_any (same_raw (Bytes bs)) (filter p (map Scalar ns)) ≡ false
 no-array bs p [] = refl
-no-array bs p (n ∷ ns) = elim (p (Scalar n)) as (λ b. list_any (same_value (Bytes bs)) (cond b (Scalar n ∷ filter p (map Scalar ns)) (filter p (map Scalar ns))) ≡ false) [
+no-array bs p (n ∷ ns) = elim (p (Scalar n)) as (λ b. list_any (same_raw (Bytes bs)) (cond b (Scalar n ∷ filter p (map Scalar ns)) (filter p (map Scalar ns))) ≡ false) [
   | true ↦ no-array bs p ns
   | false ↦ no-array bs p ns
 ]
 
-no-scalar : (n : ℕ) (coded : Option Value) → list_any (same_value (Scalar n)) (filter is_array (option_to_list coded)) ≡ false
+no-scalar : (n : ℕ) (coded : Option Value) → list_any (same_raw (Scalar n)) (filter is_array (option_to_list coded)) ≡ false
 no-scalar n None = refl
 no-scalar n (Some (Scalar m)) = refl
 no-scalar n (Some (Bytes bs)) = refl
 
-array-among : (bs : List ℕ) (spans : List Span) (coded : Option Value) → has_raw spans coded (Bytes bs) ≡ list_any (same_value (Bytes bs)) (filter is_array (option_to_list coded))
+array-among : (bs : List ℕ) (spans : List Span) (coded : Option Value) → has_raw spans coded (Bytes bs) ≡ list_any (same_raw (Bytes bs)) (filter is_array (option_to_list coded))
 array-among bs spans None = refl
 array-among bs spans (Some (Scalar m)) = refl
 array-among bs spans (Some (Bytes cs)) = ap (λ b. b || false) (turned cs bs)
 
-one-of : (n a m : ℕ) → a ≤ n → n < a + m → list_any (same_value (Scalar n)) (map Scalar (range_with_len a m)) ≡ true
+one-of : (n a m : ℕ) → a ≤ n → n < a + m → list_any (same_raw (Scalar n)) (map Scalar (range_with_len a m)) ≡ true
 one-of n a zero low high = absurd (omega arith)
 one-of n a (suc m) low high = elim (cases_lt a n) [
-  | inl lt ↦ elim (n == a) as (λ b. (b || list_any (same_value (Scalar n)) (map Scalar (range_with_len (a + 1) m))) ≡ true) [
+  | inl lt ↦ elim (n == a) as (λ b. (b || list_any (same_raw (Scalar n)) (map Scalar (range_with_len (a + 1) m))) ≡ true) [
     | true ↦ refl
     | false ↦ one-of n (a + 1) m (omega arith) (omega arith)
   ]
-  | inr le ↦ (let e : n ≡ a = omega arith in ap (λ b. b || list_any (same_value (Scalar n)) (map Scalar (range_with_len (a + 1) m))) (eq-eqb n a e))
+  | inr le ↦ (let e : n ≡ a = omega arith in ap (λ b. b || list_any (same_raw (Scalar n)) (map Scalar (range_with_len (a + 1) m))) (eq-eqb n a e))
 ]
 
-scalar-test : (r : RawsData) (n : ℕ) (k : Value) → same_value (Scalar n) k ≡ true → has r k ≡ has r (Scalar n)
+scalar-test : (r : RawsData) (n : ℕ) (k : Value) → same_raw (Scalar n) k ≡ true → has r k ≡ has r (Scalar n)
 scalar-test r n k e = ap (has r) (sym (same-value (Scalar n) k e))
 
-scalar-among : (r : RawsData) (n : ℕ) (b : Bool) → AreSmall r → has r (Scalar n) ≡ b → b && list_any (same_value (Scalar n)) all_scalars ≡ b
+scalar-among : (r : RawsData) (n : ℕ) (b : Bool) → AreSmall r → has r (Scalar n) ≡ b → b && list_any (same_raw (Scalar n)) all_scalars ≡ b
 scalar-among r n true small e =
     let lt : n < 65536 = small n e in
     let c : scalar_count ≡ 65536 = scalars-counted in
@@ -215,7 +215,7 @@ or-none false b e = e
 
 pub among : (r : RawsData) (v : Value) → AreSmall r → has r v ≡ is_among_values (values_in r) v
 among r (Scalar n) small =
-    let test : Value → Bool = same_value (Scalar n) in
+    let test : Value → Bool = same_raw (Scalar n) in
     let found : Bool = list_any test (filter (has r) all_scalars) in
     sym (
     list_any-append test (filter (has r) all_scalars) (filter is_array (option_to_list r.coded))
@@ -223,7 +223,7 @@ among r (Scalar n) small =
     ∙ any-filter_same test (has r) (has r (Scalar n)) (scalar-test r n) all_scalars
     ∙ scalar-among r n (has r (Scalar n)) small refl)
 among r (Bytes bs) small =
-    let test : Value → Bool = same_value (Bytes bs) in
+    let test : Value → Bool = same_raw (Bytes bs) in
     array-among bs r.spans r.coded
     ∙ sym (
     list_any-append test (filter (has r) all_scalars) (filter is_array (option_to_list r.coded))

@@ -13,7 +13,7 @@ use Rattle.lin_parts.proofs.Pairs.{pairs-first, pairs-rest}
 use Rattle.lin_frame.specs.declared.value.Value.{Value}
 use Rattle.lin_frame.specs.declared.value.Value.TheVariants.{Scalar, Bytes}
 use Rattle.lin_values.specs.Layers.{in_span, IsBefore, IsSomeSpan}
-use Rattle.lin_values.specs.Raws.{count_of, has, has_raw, in_spans, same_value, AreRaws, RawsData}
+use Rattle.lin_values.specs.Raws.{count_of, has, has_raw, in_spans, same_raw, AreRaws, RawsData}
 use Rattle.lin_values.specs.declared.layers.Span.{Span}
 use Rattle.lin_values.proofs.OnlyRaw.{same-value, value-same}
 use Rattle.lin_bench.specs.Meant.{all_scalars, is_among_values, is_array, only_one, scalar_count, values_in, AreSmall}
@@ -187,8 +187,8 @@ or-first : (a : Bool) → (a || false) ≡ true → a ≡ true
 or-first true e = refl
 or-first false e = e
 
-alone : (x v : Value) → (same_value v x || false) ≡ true → v ≡ x
-alone x v e = same-value v x (or-first (same_value v x) e)
+alone : (x v : Value) → (same_raw v x || false) ≡ true → v ≡ x
+alone x v e = same-value v x (or-first (same_raw v x) e)
 
 abbrev pub IsOnly : RawsData → Option Value → Type 0
 IsOnly r None = ((v : Value) → has r v ≡ false) ⊎ ((v : Value) × (w : Value) × (v ≢ w) × (has r v ≡ true) × (has r w ≡ true))

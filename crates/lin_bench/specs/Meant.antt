@@ -6,7 +6,7 @@ use Rattle.std.specs.Option.{option_to_list}
 use Rattle.lin_frame.specs.declared.value.Value.{Value}
 use Rattle.lin_frame.specs.declared.value.Value.TheVariants.{Scalar, Bytes}
 use Rattle.lin_values.specs.Coded.{CodedData}
-use Rattle.lin_values.specs.Raws.{has, raws_within, same_value, scalars, RawsData}
+use Rattle.lin_values.specs.Raws.{has, raws_within, same_raw, scalars, RawsData}
 
 -- those that mean a decimal from one to another with a unit; with any where that is empty
 abbrev pub values_within : CodedData → ℕ → ℤ → ℤ → List ℕ → List Value
@@ -14,7 +14,7 @@ values_within k s low high unit = filter (raws_within k s low high unit) (map Sc
 
 -- whether a value is among these
 abbrev pub is_among_values : List Value → Value → Bool
-is_among_values values v = list_any (same_value v) values
+is_among_values values v = list_any (same_raw v) values
 
 -- the one that there is
 abbrev pub only_one : List Value → Option Value

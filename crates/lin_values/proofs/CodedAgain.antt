@@ -15,7 +15,7 @@ use Rattle.lin_frame.specs.declared.value.Value.TheVariants.{Scalar, Bytes}
 use Rattle.lin_values.specs.Coded.{all_codings, item_for, or_else, signal_at, CodedData, SignalCoding}
 use Rattle.lin_values.specs.Meaning.{as_digits, bcd_digits, by_item, bytes_of_scalar, digits_meaning, first_some, fours, shown_character, shown_characters, meaning, meaning_by, meaning_in, named_or_number, value_bytes, wide_number, without_front_zeros}
 use Rattle.lin_values.specs.Meant.{Meant, Named, Number, Physical, Digits, Letters}
-use Rattle.lin_values.specs.Raws.{coded_raws, value_has_text, is_coded, is_plain_from, is_value, is_printable, same_value}
+use Rattle.lin_values.specs.Raws.{coded_raws, value_has_text, is_coded, is_plain_from, is_value, is_printable, same_raw}
 use Rattle.lin_values.specs.Spelled.{character_array, byte_of, in_quotes, bcd_after, pairs, character_scalar, scalar_within, IsHeld}
 use Rattle.lin_values.specs.Shown.{shown}
 use Rattle.lin_values.specs.Warnings.{greatest_raw}
@@ -520,13 +520,13 @@ other-found k s text o h w is none v = elim (coded_raws k s text v) as (λ b. co
   | false ↦ λ e. refl
 ] refl
 
-pub one-found : (k : CodedData) (s : ℕ) (text : List ℕ) (o : Option Value) → IsSpelled (signal_at k s).bits (signal_at k s).is_array text o → (w : Value) → o ≡ Some w → coded_raws k s text w ≡ true → (v : Value) → same_value w v ≡ coded_raws k s text v
-one-found k s text o h w is here v = elim (same_value w v) as (λ a. same_value w v ≡ a → a ≡ coded_raws k s text v) [
+pub one-found : (k : CodedData) (s : ℕ) (text : List ℕ) (o : Option Value) → IsSpelled (signal_at k s).bits (signal_at k s).is_array text o → (w : Value) → o ≡ Some w → coded_raws k s text w ≡ true → (v : Value) → same_raw w v ≡ coded_raws k s text v
+one-found k s text o h w is here v = elim (same_raw w v) as (λ a. same_raw w v ≡ a → a ≡ coded_raws k s text v) [
   | true ↦ λ e. sym (sym (ap (coded_raws k s text) (same-value w v e)) ∙ here)
   | false ↦ λ e. elim (coded_raws k s text v) as (λ b. coded_raws k s text v ≡ b → false ≡ b) [
     | true ↦ λ f. (let both : Some w ≡ Some v = sym is ∙ spelled k s text o h v f in
         let same : w ≡ v = cc in
-        sym e ∙ ap (same_value w) (sym same) ∙ value-same w)
+        sym e ∙ ap (same_raw w) (sym same) ∙ value-same w)
     | false ↦ λ f. refl
   ] refl
 ] refl

@@ -12,7 +12,7 @@ use Rattle.lin_parts.proofs.Pairs.{pairs-first, pairs-rest}
 use Rattle.lin_frame.specs.declared.value.Value.{Value}
 use Rattle.lin_frame.specs.declared.value.Value.TheVariants.{Scalar, Bytes}
 use Rattle.lin_values.specs.Layers.{in_span, IsBefore, IsSomeSpan}
-use Rattle.lin_values.specs.Raws.{count_of, has_raw, in_spans, same_value, AreRaws}
+use Rattle.lin_values.specs.Raws.{count_of, has_raw, in_spans, same_raw, AreRaws}
 use Rattle.lin_values.specs.declared.layers.Span.{Span}
 
 abbrev size : Span → ℕ
@@ -39,13 +39,13 @@ few-numbers xs some apart =
 
 -- ---- the values
 
-pub same-value : (v w : Value) → same_value v w ≡ true → v ≡ w
+pub same-value : (v w : Value) → same_raw v w ≡ true → v ≡ w
 same-value (Scalar a) (Scalar b) e = ap Scalar (eqb-true a b e)
 same-value (Scalar a) (Bytes b) e = cc
 same-value (Bytes a) (Scalar b) e = cc
 same-value (Bytes a) (Bytes b) e = ap Bytes ((bytes_eq-Decides a b).0 e)
 
-pub value-same : (v : Value) → same_value v v ≡ true
+pub value-same : (v : Value) → same_raw v v ≡ true
 value-same (Scalar a) = eq-eqb a a refl
 value-same (Bytes a) = (bytes_eq-Decides a a).1 refl
 
@@ -62,11 +62,11 @@ or-first false b e = cc
 
 first-in : (s : Span) (ss : List Span) (coded : Option Value) (n : ℕ) → s.from ≤ n → n ≤ s.to → has_raw (s ∷ ss) coded (Scalar n) ≡ true
 first-in s ss coded n low high =
-    or-true (option_map_or (λ w. same_value w (Scalar n)) coded false) (in_spans (s ∷ ss) (Scalar n)) (or-first (in_span s n) (in_spans ss (Scalar n)) (has-front s n low high))
+    or-true (option_map_or (λ w. same_raw w (Scalar n)) coded false) (in_spans (s ∷ ss) (Scalar n)) (or-first (in_span s n) (in_spans ss (Scalar n)) (has-front s n low high))
 
 second-in : (s t : Span) (ss : List Span) (coded : Option Value) (n : ℕ) → t.from ≤ n → n ≤ t.to → has_raw (s ∷ t ∷ ss) coded (Scalar n) ≡ true
 second-in s t ss coded n low high =
-    or-true (option_map_or (λ w. same_value w (Scalar n)) coded false) (in_spans (s ∷ t ∷ ss) (Scalar n)) (or-true (in_span s n) (in_spans (t ∷ ss) (Scalar n)) (or-first (in_span t n) (in_spans ss (Scalar n)) (has-front t n low high)))
+    or-true (option_map_or (λ w. same_raw w (Scalar n)) coded false) (in_spans (s ∷ t ∷ ss) (Scalar n)) (or-true (in_span s n) (in_spans (t ∷ ss) (Scalar n)) (or-first (in_span t n) (in_spans ss (Scalar n)) (has-front t n low high)))
 
 abbrev pub AreNone : List Span → Option Value → Type 0
 AreNone spans coded = (v : Value) → has_raw spans coded v ≡ false
@@ -95,7 +95,7 @@ none-or-two (s ∷ ss) (Some v) raws other =
           let moved : in_spans (s ∷ ss) (Scalar s.from) ≡ in_spans (s ∷ ss) v = ap (in_spans (s ∷ ss)) e in
           cc),
       first-in s ss (Some v) s.from (omega arith) here.0,
-      or-first (same_value v v) (in_spans (s ∷ ss) v) (value-same v),
+      or-first (same_raw v v) (in_spans (s ∷ ss) v) (value-same v),
     )
 none-or-two (s ∷ []) None raws other =
     let here : IsSomeSpan s = All-head IsSomeSpan s [] raws.some in
@@ -149,11 +149,11 @@ or-false-back true e = refl
 or-false-back false e = e
 
 in-none : (v w : Value) → has_raw [] (Some v) w ≡ true → w ≡ v
-in-none v (Scalar n) h = sym (same-value v (Scalar n) (or-false-back (same_value v (Scalar n)) h))
-in-none v (Bytes b) h = sym (same-value v (Bytes b) (or-false-back (same_value v (Bytes b)) h))
+in-none v (Scalar n) h = sym (same-value v (Scalar n) (or-false-back (same_raw v (Scalar n)) h))
+in-none v (Bytes b) h = sym (same-value v (Bytes b) (or-false-back (same_raw v (Bytes b)) h))
 
 pub only-coded : (v : Value) → IsOnly [] (Some v) v
-only-coded v = (or-first (same_value v v) (in_spans [] v) (value-same v), in-none v)
+only-coded v = (or-first (same_raw v v) (in_spans [] v) (value-same v), in-none v)
 
 pub none-first : (xs : List Span) → slice_get xs 0 ≡ None → xs ≡ []
 none-first [] e = refl

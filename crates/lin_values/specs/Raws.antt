@@ -206,21 +206,21 @@ unit_behind text = option_map_or (λ p. p.1) (number_and_unit text) text
 
 -- ---- what code has of them
 
-abbrev pub same_value : Value → Value → Bool
-same_value (Scalar a) (Scalar b) = a == b
-same_value (Bytes a) (Bytes b) = bytes_eq a b
-same_value a b = false
+abbrev pub same_raw : Value → Value → Bool
+same_raw (Scalar a) (Scalar b) = a == b
+same_raw (Bytes a) (Bytes b) = bytes_eq a b
+same_raw a b = false
 
 -- whether a value is this one, where there is one
 abbrev pub is_this : Option Value → Value → Bool
-is_this o v = option_map_or (λ w. same_value w v) o false
+is_this o v = option_map_or (λ w. same_raw w v) o false
 
 abbrev pub in_spans : List Span → Value → Bool
 in_spans spans (Scalar raw) = list_any (λ s. in_span s raw) spans
 in_spans spans (Bytes bs) = false
 
 abbrev pub has_raw : List Span → Option Value → Value → Bool
-has_raw spans coded v = option_map_or (λ w. same_value w v) coded false || in_spans spans v
+has_raw spans coded v = option_map_or (λ w. same_raw w v) coded false || in_spans spans v
 
 pub record RawsData : Type 0 where
   pub spans : List Span

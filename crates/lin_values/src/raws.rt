@@ -6,7 +6,7 @@ ghost use Rattle.std.specs.Option.{option_map_or};
 ghost use Rattle.lin_frame.specs.declared.value.Value.{Value};
 ghost use Rattle.std.specs.List.{list_any};
 ghost use Rattle.lin_values.specs.Layers.{in_span};
-ghost use Rattle.lin_values.specs.Raws.{count_of, has, has_raw, in_spans, same_value, AreRaws, HasNone, HasTwo};
+ghost use Rattle.lin_values.specs.Raws.{count_of, has, has_raw, in_spans, same_raw, AreRaws, HasNone, HasTwo};
 
 use crate::layers::Span;
 use lin_frame::Value;
@@ -32,8 +32,8 @@ impl Model for Raws {
     ghost invariant = { λ r. AreRaws r.spans r.coded };
 }
 
-fn same_value(a: &Value, b: &Value) -> bool
-    ensures { result ≡ same_value a.now b.now }
+fn same_raw(a: &Value, b: &Value) -> bool
+    ensures { result ≡ same_raw a.now b.now }
 {
     match (a, b) {
         (Value::Scalar(a), Value::Scalar(b)) => *a == *b,
@@ -43,10 +43,10 @@ fn same_value(a: &Value, b: &Value) -> bool
 }
 
 fn is_coded(coded: Option<Value>, value: &Value) -> bool
-    ensures { result ≡ option_map_or (λ w. same_value w value.now) coded false }
+    ensures { result ≡ option_map_or (λ w. same_raw w value.now) coded false }
 {
     match coded {
-        Some(coded) => same_value(&coded, value),
+        Some(coded) => same_raw(&coded, value),
         None => false,
     }
 }
