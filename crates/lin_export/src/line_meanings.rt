@@ -4,7 +4,8 @@ ghost use Rattle.std.specs.Fmt.{decimal};
 ghost use Rattle.lin_log.specs.CallerTexts.{seen_text};
 ghost use Rattle.lin_text.specs.Written.{Grows};
 ghost use Rattle.lin_values.specs.Meaning.{meant};
-ghost use Rattle.lin_values.specs.Shown.{quoted_text, shown, unit_shown};
+ghost use Rattle.lin_values.specs.Shown.{shown, unit_shown};
+ghost use Rattle.lin_values.specs.Spelled.{in_quotes};
 
 use lin_log::put_seen;
 use lin_text::TextWriter;
@@ -29,7 +30,7 @@ fn put_unit<W: Write>(out: &mut TextWriter<'_, W>, unit: &[u8])
 
 /// Characters in quotes.
 fn put_letters<W: Write>(out: &mut TextWriter<'_, W>, letters: &[u8])
-    ensures { Grows W.contents out.old out.new (seen_text (quoted_text letters.now)) }
+    ensures { Grows W.contents out.old out.new (seen_text (in_quotes letters.now)) }
 {
     out.put_byte(b'"');
     put_seen(out, letters);

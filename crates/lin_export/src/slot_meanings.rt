@@ -11,7 +11,8 @@ ghost use Rattle.lin_export.specs.Jsonl.{meant_members, told_meanings};
 ghost use Rattle.lin_export.specs.Quantities.{column_key, column_value, has_meaning, meaning_text, quantity};
 ghost use Rattle.lin_export.specs.Open.{tracked_slot};
 ghost use Rattle.lin_values.specs.Meaning.{meant};
-ghost use Rattle.lin_values.specs.Shown.{quoted_text, shown, unit_shown};
+ghost use Rattle.lin_values.specs.Shown.{shown, unit_shown};
+ghost use Rattle.lin_values.specs.Spelled.{in_quotes};
 ghost use Rattle.lin_export.specs.WhereTold.{given_coding, where_told};
 
 use crate::frame_places::{place_count, value_at};
@@ -43,7 +44,7 @@ fn put_unit<W: Write>(out: &mut TextWriter<'_, W>, unit: &[u8])
 
 /// Characters in quotes of their own.
 fn put_letters<W: Write>(out: &mut TextWriter<'_, W>, letters: &[u8])
-    ensures { Grows W.contents out.old out.new (escaped_bytes (quoted_text letters.now)) }
+    ensures { Grows W.contents out.old out.new (escaped_bytes (in_quotes letters.now)) }
 {
     out.put(b"\\\"");
     put_escaped(out, letters);

@@ -44,7 +44,8 @@ use Rattle.lin_sections.specs.Facts.{fact, is_compatible, place_of_name, place_o
 use Rattle.lin_sections.specs.NewNames.{is_among, name_in, RenamesData}
 use Rattle.lin_sections.specs.Numbering.{numbered_facts, numbered_entries}
 use Rattle.lin_sections.specs.Passed.{behind_line, has_line}
-use Rattle.lin_values.specs.Shown.{decimal_shown, quoted_text}
+use Rattle.lin_values.specs.Shown.{decimal_shown}
+use Rattle.lin_values.specs.Spelled.{in_quotes}
 use Rattle.lin_sections.specs.SortedTexts.{sorted_texts}
 use Rattle.lin_sections.specs.Statements.{inside, is_group, statements}
 use Rattle.lin_sections.specs.Texts.{shown_text}
@@ -428,11 +429,11 @@ item_key Ascii = codes "ascii"
 -- a text in quotes, if there is one
 abbrev pub quoted_words : List ℕ → List (List ℕ)
 quoted_words [] = []
-quoted_words (b ∷ bs) = quoted_text (b ∷ bs) ∷ []
+quoted_words (b ∷ bs) = in_quotes (b ∷ bs) ∷ []
 
 abbrev pub logical_value : List ℕ → List ℕ
 logical_value [] = codes "-"
-logical_value (b ∷ bs) = quoted_text (b ∷ bs)
+logical_value (b ∷ bs) = in_quotes (b ∷ bs)
 
 abbrev pub physical_value : Decimal → Decimal → List ℕ → List ℕ
 physical_value scale offset unit = with_spaces (decimal_shown scale ∷ decimal_shown offset ∷ quoted_words unit)

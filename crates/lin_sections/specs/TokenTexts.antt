@@ -13,7 +13,7 @@ use Rattle.lin_ldf.specs.declared.token.TokenKind.TheVariants as kinds
 use Rattle.lin_sections.specs.FactTexts.{with_spaces}
 use Rattle.lin_sections.specs.NewNames.{any_name, name_in, renames_data, RenamesData}
 use Rattle.lin_sections.specs.Passed.{brace_depth}
-use Rattle.lin_values.specs.Shown.{quoted_text}
+use Rattle.lin_values.specs.Spelled.{in_quotes}
 use Rattle.lin_sections.specs.Statements.{is_group, statements}
 use Rattle.lin_sections.specs.Texts.{shown_text}
 use Rattle.lin_sections.specs.declared.diff.tokens.Spelling.{Spelling}
@@ -47,7 +47,7 @@ number_token ts = option_map_or (λ r. decimal r.0.value) (int.read ts) (front t
 
 abbrev pub token_text : Spelled → Symbol → List ℕ
 token_text s t =
-    if is_kind kinds.Text t.kind then quoted_text (shown_text (without_quotes t.text))
+    if is_kind kinds.Text t.kind then in_quotes (shown_text (without_quotes t.text))
     else if is_kind kinds.Word t.kind then s.word t.text
     else if s.has_decimals && is_kind kinds.Number t.kind then number_token (t ∷ [])
     else t.text

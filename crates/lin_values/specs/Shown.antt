@@ -1,6 +1,7 @@
 -- The text of what a raw value means.
 use Rattle.std.specs.Prelude.{ℕ, zero, suc, ◌/◌, ◌^◌, ◌%◌, ◌+◌, Bool, true, false, List, [], ◌∷◌, ◌++◌}
 use Rattle.std.specs.Fmt.{decimal}
+use Rattle.lin_values.specs.Spelled.{in_quotes}
 use Rattle.lin_values.specs.Value.{decimal_of}
 use Rattle.lin_values.specs.Meant.{Meant, Named, Number, Physical, Digits, Letters}
 use Rattle.lin_values.specs.declared.decimals.Decimal.{Decimal}
@@ -28,9 +29,6 @@ abbrev pub unit_shown : List ℕ → List ℕ
 unit_shown [] = []
 unit_shown (c ∷ cs) = 32 ∷ c ∷ cs
 
-abbrev pub quoted_text : List ℕ → List ℕ
-quoted_text text = 34 ∷ (text ++ 34 ∷ [])
-
 -- without unit and quotes
 abbrev pub plain_shown : Meant → List ℕ
 plain_shown (Named text) = text
@@ -44,4 +42,4 @@ shown (Named text) = text
 shown (Number n) = decimal n
 shown (Physical z unit) = decimal_shown (decimal_of z) ++ unit_shown unit
 shown (Digits text) = text
-shown (Letters text) = quoted_text text
+shown (Letters text) = in_quotes text

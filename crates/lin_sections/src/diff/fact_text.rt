@@ -3,7 +3,7 @@
 ghost use Rattle.std.specs.Prelude.{◌≡◌, ◌++◌, ◌<◌, IfOk, OnOk};
 ghost use Rattle.std.specs.Fmt.{decimal};
 ghost use Rattle.lin_sections.specs.FactTexts.{two_hex_digits, capital_hex_digit, with_word};
-ghost use Rattle.lin_values.specs.Shown.{quoted_text};
+ghost use Rattle.lin_values.specs.Spelled.{in_quotes};
 
 use itoa::Buffer;
 use lin_text::Text;
@@ -113,7 +113,7 @@ pub(crate) fn put_word(text: &mut Vec<u8>, word: &[u8]) -> Result<(), AllocError
 /// Appends a word in quotes.
 #[tactic(auto, using(crate::proofs::FactSteps::word_goes_on))]
 pub(crate) fn put_quoted(text: &mut Vec<u8>, word: &[u8]) -> Result<(), AllocError>
-    ensures { OnOk result (text.new.items ≡ with_word text.old.items (quoted_text word.now)) }
+    ensures { OnOk result (text.new.items ≡ with_word text.old.items (in_quotes word.now)) }
 {
     put_word(text, b"\"")?;
     text.extend_from_slice(word)?;

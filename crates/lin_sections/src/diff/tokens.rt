@@ -13,7 +13,7 @@ ghost use Rattle.lin_sections.specs.Texts.{shown_text};
 ghost use Rattle.lin_sections.specs.TokenTexts.{command_text, group_words, lines_of_header, number_token};
 ghost use Rattle.lin_sections.specs.TokenTexts.{spelling_of, token_text, tokens_words, words_until};
 ghost use Rattle.lin_sections.specs.TokenTexts.{value_text};
-ghost use Rattle.lin_values.specs.Shown.{quoted_text};
+ghost use Rattle.lin_values.specs.Spelled.{in_quotes};
 
 use crate::attribute_blocks::{Attribute, attribute_here};
 use crate::attribute_values::if_read;
@@ -86,7 +86,7 @@ pub(crate) fn between_quotes(text: &[u8]) -> &[u8]
 /// Appends the shown form of a string, in quotes.
 fn put_string(text: &mut Vec<u8>, alloc: Global, token: &[u8]) -> Result<(), AllocError>
     ensures { OnOk result
-        (text.new.items ≡ with_word text.old.items (quoted_text (shown_text (without_quotes token.now)))) }
+        (text.new.items ≡ with_word text.old.items (in_quotes (shown_text (without_quotes token.now)))) }
 {
     let shown = shown_text(alloc, between_quotes(token))?;
     put_quoted(text, shown.as_slice())
