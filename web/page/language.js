@@ -4,12 +4,12 @@ const LDF_WORDS = new Set(`LIN_description_file LIN_protocol_version LIN_languag
 	Node_attributes LIN_protocol configured_NAD initial_NAD product_id response_error P2_min ST_min N_As_timeout N_Cr_timeout
 	configurable_frames Schedule_tables delay Signal_encoding_types Signal_representation logical_value physical_value
 	bcd_value ascii_value kbps ms`.split(/\s+/));
-const STEP_WORDS = `slots slot write expect send switch sleep wake when every timeouts response_errors services forget open
-	finish answer leave hurt close timeout`.split(/\s+/);
+const STEP_WORDS = `slots slot write expect send switch sleep wake when every timeouts response_errors services state forget
+	open finish answer leave hurt close timeout`.split(/\s+/);
 const FORM_WORDS = 'signal message frame seen sent lost no waiting slot table asleep awake done refused'.split(' ');
 const SEEN_WORDS = 'good none silent damaged collided'.split(' '), CAUSE_WORDS = 'damaged timedout slept'.split(' ');
 const BENCH_WORDS = new Set([...STEP_WORDS, ...FORM_WORDS, ...SEEN_WORDS, ...CAUSE_WORDS,
-	...'until while idle ms within of last silent then after on off up down bus'.split(' ')]);
+	...'until while idle ms within of last silent then after in enter on off up down bus'.split(' ')]);
 
 // The colored parts of a line of an LDF, as [from, to, class]; `isOpen` if a comment is open at its start.
 function ldfParts(line, isOpen) {
@@ -107,12 +107,13 @@ function stepWords(words, names) {
 	case 'write': return count === 1 ? signals : count === 2 && names('nodes').includes(second) ? names('signals') : [];
 	case 'slots': return words.includes('leave') ? [...names('nodes'), 'until', 'while'] : ['idle', 'ms', 'leave', 'until', 'while'];
 	case 'slot': return words.includes('leave') ? names('nodes') : ['leave', 'hurt'];
-	case 'when': return count === 1 ? [...names('nodes').slice(1), 'off'] : ['answer', 'silent', 'then', 'after', 'ms'];
+	case 'when': return count === 1 ? [...names('nodes').slice(1), 'off'] : ['in', 'answer', 'silent', 'then', 'after', 'ms', 'enter', 'off'];
 	case 'every':
-		if (last === 'ms') return ['send', 'write'];
+		if (last === 'ms' || last === 'off') return ['send', 'write'];
 		if (last === 'write') return signals;
 		return last === 'send' || before === 'send' ? names('nodes') : ['ms', 'off'];
 	case 'timeouts': return ['ms', 'off'];
+	case 'state': return count === 1 ? names('nodes').slice(1) : ['default'];
 	case 'response_errors': case 'services': return ['on', 'off'];
 	case 'send': case 'answer': case 'leave': case 'close': case 'timeout': return count < 3 ? names('nodes') : [];
 	default: return [...STEP_WORDS, ...signals];

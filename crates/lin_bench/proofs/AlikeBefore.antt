@@ -1,5 +1,5 @@
 -- Before the first slot of each fault, lines come to what they come to undisturbed.
-use Rattle.std.proofs.Common.{◌≡◌, ◌∙◌, ℕ, suc, zero, ◌+◌, ◌<◌, nat_lt, nat_le, Bool, true, false, not, ◌&&◌, ◌||◌, cond, sym, subst, List, [], ◌∷◌, ◌++◌, map, refl, ap, arith, is_some, is_none, length, ◌-◌, All, inl, inr, Option, Some, None}
+use Rattle.std.proofs.Common.{◌≡◌, ◌∙◌, ℕ, suc, zero, ◌+◌, ◌<◌, ◌==◌, nat_lt, nat_le, Bool, true, false, not, ◌&&◌, ◌||◌, cond, sym, subst, List, [], ◌∷◌, ◌++◌, map, refl, ap, arith, is_some, is_none, length, ◌-◌, All, inl, inr, Option, Some, None}
 use Rattle.std.specs.List.{list_any}
 use Rattle.std.specs.Option.{option_map_or}
 use Rattle.std.proofs.lemmas.Bool.Decides.{nat_tests}
@@ -7,27 +7,28 @@ use Rattle.std.proofs.lemmas.Grind.{common_steps}
 use Rattle.std.proofs.lemmas.List.Elements.{All-head, All-tail, All-weaker}
 use Rattle.lin_parts.specs.Cluster.{nodes}
 use Rattle.lin_parts.specs.declared.parts.Parts.{Parts}
-use Rattle.lin_core.specs.History.{Slot, finished_slot, is_finish, open_slot, slot_after, time}
+use Rattle.lin_core.specs.History.{Slot, events, finished_slot, is_finish, open_slot, slot_after, time}
 use Rattle.lin_core.specs.Replies.{refusal}
 use Rattle.lin_core.specs.Runs.{entry_of}
 use Rattle.lin_core.specs.declared.event.Event.{Event}
+use Rattle.lin_core.specs.declared.event.Event.TheVariants as event
 use Rattle.lin_core.specs.declared.log.LogEntry.{LogEntry}
 use Rattle.lin_core.specs.declared.port.PortId.{PortId}
 use Rattle.lin_core.specs.declared.reply.Reply.{Reply}
 use Rattle.lin_core.specs.declared.reply.Reply.TheVariants.{Done, Refused}
 use Rattle.lin_core.specs.declared.step.Step.{Step}
 use Rattle.lin_core.specs.declared.step.Step.TheVariants.{Send, Write, Open, Answer, Leave, Hurt, Finish, Timeout, Switch, AskSleep, Wake, Close}
-use Rattle.lin_bench.specs.Added.{added_steps, rules_after}
+use Rattle.lin_bench.specs.Added.{added_steps, arrived, rules_after, went_to_all}
 use Rattle.lin_bench.specs.FaultLaws.{IsAlikeBefore, IsBefore, with_faults}
 use Rattle.lin_bench.specs.Faults.{disturbed_steps, is_for, is_struck, slots_finished, struck, target}
-use Rattle.lin_bench.specs.Made.{BenchState, comes, course_of, expected_after, fails, bench_with_verdict, made, made_within, never_ends, said, bench_after_steps}
-use Rattle.lin_bench.specs.Rules.{ruled}
+use Rattle.lin_bench.specs.Made.{BenchState, comes, course_of, expected_after, fails, bench_with_verdict, made, made_within, never_ends, rule_verdict, said, bench_after_steps}
+use Rattle.lin_bench.specs.Rules.{after_event, after_events, reacted, rule_for, ruled, serving, state_of}
 use Rattle.lin_bench.specs.Slots.{Course, course_after, after_made, due_now, extent_steps, goes_on, is_opened, most, goes_on_until, past_after, slot_steps, ended_slot_count, slots_steps, with_entry, with_struck}
 use Rattle.lin_bench.specs.declared.expected.Expected.{Expected}
 use Rattle.lin_bench.specs.declared.faults.FaultKind.{FaultKind}
 use Rattle.lin_bench.specs.declared.faults.ArmedFault.{ArmedFault}
 use Rattle.lin_bench.specs.declared.got.Verdict.{Verdict}
-use Rattle.lin_bench.specs.declared.got.Verdict.TheVariants.{Nothing, SlotLimit}
+use Rattle.lin_bench.specs.declared.got.Verdict.TheVariants.{SlotLimit}
 use Rattle.lin_bench.specs.declared.line.Disturbance.{Disturbance}
 use Rattle.lin_bench.specs.declared.line.Disturbance.TheVariants as slot
 use Rattle.lin_bench.specs.declared.line.Extent.{Extent}
@@ -37,6 +38,7 @@ use Rattle.lin_bench.specs.declared.line.ScriptLine.TheVariants as line
 use Rattle.lin_bench.specs.declared.rules.Rule.{Rule}
 use Rattle.lin_bench.specs.declared.rules.Rule.TheVariants as rule
 use Rattle.lin_bench.specs.declared.rules.Rules.{Rules}
+use Rattle.lin_bench.specs.declared.rules.When.{When}
 use Rattle.lin_bench.proofs.FaultSteps.{none-struck}
 use Rattle.lin_bench.proofs.Makes.{after-append, after_one}
 use Rattle.lin_bench.proofs.RuleLaws.{undisturbed, unstruck}
@@ -144,19 +146,58 @@ before-after c o cap at (s ∷ ss) fs h =
     before-made c o cap (with_struck c cap at s) (disturbed_steps c cap at.rules.faults at.past s) fs (before-after c o cap (after_one c o cap at s) ss fs h)
 
 -- ---- rules and faults don't know of each other
+reacted-under : (served : Option Parts) (to : Bool) (t : ℕ) (rules : Rules) (fs : List ArmedFault) (node : ℕ) (message : List ℕ) (w : Option When)
+    → reacted served to t (record rules { faults = fs }) node message w ≡ record (reacted served to t rules node message w) { faults = fs }
+reacted-under served to t rules fs node message None = refl
+reacted-under served to t rules fs node message (Some w) = refl
+
+either-under : (b : Bool) (x y : Rules) (rules : Rules) (fs : List ArmedFault) → x ≡ record y { faults = fs } → cond b x (record rules { faults = fs }) ≡ record (cond b y rules) { faults = fs }
+either-under true x y rules fs e = e
+either-under false x y rules fs e = refl
+
+event-under : (served : Option Parts) (to : Bool) (t : ℕ) (rules : Rules) (fs : List ArmedFault) (e : Event)
+    → after_event served to t (record rules { faults = fs }) e ≡ record (after_event served to t rules e) { faults = fs }
+event-under served to t rules fs (event.Accepted host number) = refl
+event-under served to t rules fs (event.Slot table entry header) = refl
+event-under served to t rules fs event.Service = refl
+event-under served to t rules fs (event.Due node) = refl
+event-under served to t rules fs (event.Put node answer) = refl
+event-under served to t rules fs (event.Seen how) = refl
+event-under served to t rules fs (event.Message from node bytes) =
+    let w : Option When = rule_for rules.whens node (state_of rules.states node) bytes in
+    either-under (from == 0) _ (reacted served to t rules node bytes w) rules fs (reacted-under served to t rules fs node bytes w)
+event-under served to t rules fs (event.Sent host number) = refl
+event-under served to t rules fs (event.Lost host number cause) = refl
+event-under served to t rules fs event.Asleep = refl
+
+events-under : (served : Option Parts) (to : Bool) (t : ℕ) (rules : Rules) (fs : List ArmedFault) (es : List Event)
+    → after_events served to t (record rules { faults = fs }) es ≡ record (after_events served to t rules es) { faults = fs }
+events-under served to t rules fs [] = refl
+events-under served to t rules fs (e ∷ es) =
+    ap (λ r. after_events served to t r es) (event-under served to t rules fs e) ∙ events-under served to t (after_event served to t rules e) fs es
+
+arrived-under : (c : Parts) (e : LogEntry) (past : List LogEntry) (rules : Rules) (fs : List ArmedFault)
+    → arrived c e past (record rules { faults = fs }) ≡ record (arrived c e past rules) { faults = fs }
+arrived-under c e past rules fs =
+    events-under (serving c rules.services) (option_map_or went_to_all (finished_slot e past) false) (time c (e ∷ past)) rules fs (events e)
+
+added-same : (c : Parts) (e : LogEntry) (past : List LogEntry) (rules : Rules) (fs : List ArmedFault) → added_steps c e past (record rules { faults = fs }) ≡ added_steps c e past rules
+added-same c e past rules fs = rw (arrived-under c e past rules fs) refl
+
 rules-under : (c : Parts) (e : LogEntry) (past : List LogEntry) (rules : Rules) (fs : List ArmedFault) (b : Bool) → is_some (finished_slot e past) ≡ b
     → rules_after c e past (record rules { faults = fs }) ≡ record (rules_after c e past rules) { faults = fs }
-rules-under c e past rules fs true h = rw h refl
+rules-under c e past rules fs true h = rw (h, arrived-under c e past rules fs) refl
 rules-under c e past rules fs false h = rw h refl
 
 entry-under : (c : Parts) (o cap : ℕ) (at : Course) (e : LogEntry) (fs : List ArmedFault) → with_entry c o cap (under fs at) e ≡ under fs (with_entry c o cap at e)
 entry-under c o cap at e fs =
     let past : List LogEntry = past_after c o cap (e ∷ at.past) (added_steps c e at.past at.rules) in
-    ap (λ (r : Rules). record { past = past; rules = r }) (rules-under c e at.past at.rules fs (is_some (finished_slot e at.past)) refl)
+    ap (λ (ss : List (PortId × Step)). record { past = past_after c o cap (e ∷ at.past) ss; rules = rules_after c e at.past (record at.rules { faults = fs }) }) (added-same c e at.past at.rules fs)
+    ∙ ap (λ (r : Rules). record { past = past; rules = r }) (rules-under c e at.past at.rules fs (is_some (finished_slot e at.past)) refl)
 
 free-rules : (c : Parts) (e : LogEntry) (past : List LogEntry) (rules : Rules) (b : Bool) → is_some (finished_slot e past) ≡ b → rules.faults ≡ []
     → (rules_after c e past rules).faults ≡ []
-free-rules c e past rules true h none = rw h none
+free-rules c e past rules true h none = rw h (ap (λ (r : Rules). r.faults) (arrived-under c e past rules rules.faults) ∙ none)
 free-rules c e past rules false h none = rw h none
 
 ruled-under : (t : ℕ) (rules : Rules) (fs : List ArmedFault) (r : Rule) → ruled t (record rules { faults = fs }) r ≡ record (ruled t (record rules { faults = [] }) r) { faults = fs }
@@ -169,6 +210,12 @@ ruled-under t rules fs (rule.Every every) = refl
 ruled-under t rules fs rule.EveryOff = refl
 ruled-under t rules fs (rule.Errors on) = refl
 ruled-under t rules fs (rule.Services on) = refl
+ruled-under t rules fs (rule.End e) = refl
+ruled-under t rules fs (rule.State node name) = refl
+
+verdict-under : (rules : Rules) (fs : List ArmedFault) (r : Rule) → rule_verdict (record rules { faults = fs }) r ≡ rule_verdict (record rules { faults = [] }) r
+verdict-under rules fs (rule.End e) = refl
+verdict-under rules fs r = refl
 
 -- ---- steps
 quiet-one : (c : Parts) (o cap : ℕ) (at : Course) (s : PortId × Step) → disturbed_steps c cap at.rules.faults at.past s ≡ s ∷ [] → struck c cap at.rules.faults at.past s ≡ at.rules.faults
@@ -368,7 +415,8 @@ pub alike-before : IsAlikeBefore
 unfolding made said
 alike-before c o cap b line.Forget fs h = refl
 alike-before c o cap b (line.Rule r) fs h =
-    ap (λ (rules : Rules). (record b { rules = rules }, Nothing)) (ruled-under (time c b.past) b.rules fs r)
+    ap (λ (rules : Rules). (record b { rules = rules }, rule_verdict (record b.rules { faults = fs }) r)) (ruled-under (time c b.past) b.rules fs r)
+    ∙ ap (λ (v : Verdict). (record b { rules = record (ruled (time c b.past) (record b.rules { faults = [] }) r) { faults = fs } }, v)) (verdict-under b.rules fs r)
 alike-before c o cap b (line.Step by step) fs h = step-line c o cap b fs ((by, step) ∷ []) None h
 alike-before c o cap b (line.Expect what) fs h = step-line c o cap b fs [] (Some what) h
 alike-before c o cap b (line.Slot how) fs h =

@@ -6,7 +6,7 @@ use Rattle.lin_core.specs.History.{time}
 use Rattle.lin_core.specs.declared.port.PortId.{PortId}
 use Rattle.lin_core.specs.declared.step.Step.{Step}
 use Rattle.lin_bench.specs.Bench.{BenchData, MakeFails, GivesVerdict, MakesBench, MakesLine, made_on, made_slots, ruled_of, state_of}
-use Rattle.lin_bench.specs.Made.{BenchState, bench_with_verdict, made, said, bench_after_steps}
+use Rattle.lin_bench.specs.Made.{BenchState, bench_with_verdict, made, said, bench_after_steps, rule_verdict}
 use Rattle.lin_bench.specs.Making.{IsGrown, AreExecuted, MakesSteps, RuledData, SlotsFail, StepsFail, extent_on}
 use Rattle.lin_bench.specs.Rules.{ruled}
 use Rattle.lin_bench.specs.Slots.{Course, ended_slot_count}
@@ -19,6 +19,9 @@ use Rattle.lin_bench.specs.declared.line.Disturbance.{Disturbance}
 use Rattle.lin_bench.specs.declared.line.Extent.{Extent}
 use Rattle.lin_bench.specs.declared.line.ScriptLine.TheVariants as line
 use Rattle.lin_bench.specs.declared.rules.Rule.{Rule}
+use Rattle.lin_bench.specs.declared.rules.Rule.TheVariants as rule
+use Rattle.lin_bench.specs.declared.rules.RuleEnd.{RuleEnd}
+use Rattle.lin_bench.specs.declared.rules.Rules.{Rules}
 use Rattle.lin_bench.proofs.Makes.{grown-made, grown-more, grown-nothing}
 
 -- a log only grows
@@ -88,7 +91,12 @@ step-fails LogFull b by step full = let none : nat_lt b.left 0 ≡ false = le-lt
 step-fails OutOfMemory b by step none = tt
 
 -- a rule was put in force
-pub rule-made : (b new : BenchData) (rule : Rule) → new.core ≡ b.core → new.rules ≡ ruled (time b.core.cluster (past_of b.core)) b.rules rule
-    → new.taken ≡ b.taken → new.left ≡ b.left → MakesLine b (line.Rule rule) (Ok Nothing) new
+pub rule-made : (b new : BenchData) (r : Rule) → new.core ≡ b.core → new.rules ≡ ruled (time b.core.cluster (past_of b.core)) b.rules r
+    → new.taken ≡ b.taken → new.left ≡ b.left → MakesLine b (line.Rule r) (Ok (rule_verdict b.rules r)) new
 unfolding made
-rule-made b new rule core rules taken left = rw (core, rules, taken, left) (refl, (refl, refl, refl))
+rule-made b new r core rules taken left = rw (core, rules, taken, left) (refl, (refl, refl, refl))
+
+-- a rule that ends none comes to no verdict
+pub other-verdict : (rules : Rules) (r : Rule) → ((e : RuleEnd) → r ≡ rule.End e → ⊥) → rule_verdict rules r ≡ Nothing
+other-verdict rules (rule.End e) h = absurd (h e refl)
+other-verdict rules r h = refl

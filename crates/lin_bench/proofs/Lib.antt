@@ -31,11 +31,14 @@ pub mod Unders
 pub mod Benches
 pub mod Back
 pub mod Rows
+pub mod LastTwo
 pub mod Places
 pub mod HeardLinks
 pub mod AddedSteps
 pub mod GivenUp
 pub mod NotedAnswers
+pub mod MostSpecific
+pub mod RuleOrder
 pub mod RuledFinish
 pub mod CountedSlots
 pub mod ToldErrors

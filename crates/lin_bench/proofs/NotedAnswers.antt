@@ -1,5 +1,5 @@
--- Answers that are noted after a finish.
-use Rattle.std.proofs.Common.{◌≡◌, ◌∙◌, ℕ, ◌==◌, Bool, true, false, not, List, [], ◌∷◌, ◌++◌, map, flat_map, refl, sym, ap, append_assoc, cond, slice_index, Result, Ok, Err, OnOk}
+-- What the messages of a finish change, and answers that are noted.
+use Rattle.std.proofs.Common.{◌≡◌, ◌∙◌, ℕ, ◌==◌, Bool, true, false, not, List, [], ◌∷◌, ◌++◌, map, flat_map, refl, sym, ap, append_assoc, cond, slice_index, Option, Some, None, Result, Ok, Err, OnOk}
 use Rattle.std.specs.Prelude.{filter}
 use Rattle.std.specs.List.{list_any}
 use Rattle.std.specs.Option.{option_map_or}
@@ -7,43 +7,80 @@ use Rattle.std.proofs.lemmas.List.{map-append}
 use Rattle.std.proofs.lemmas.List.Elements.{filter-append}
 use Rattle.lin_transport.specs.Transport.{functional}
 use Rattle.lin_core.specs.Core.{CoreData, past_of}
-use Rattle.lin_core.specs.History.{Slot, events, time}
+use Rattle.lin_core.specs.History.{Slot, events, finished_slot, time}
+use Rattle.lin_core.specs.declared.event.Event.{Event}
+use Rattle.lin_core.specs.declared.event.Event.TheVariants as event
 use Rattle.lin_core.specs.declared.log.LogEntry.{LogEntry}
+use Rattle.lin_parts.specs.declared.parts.Parts.{Parts}
 use Rattle.lin_core.specs.declared.port.PortId.{PortId}
 use Rattle.lin_core.specs.declared.step.Step.{Step}
-use Rattle.lin_bench.specs.Added.{noted_by, noted_now, send_of, went_to_all}
+use Rattle.lin_bench.specs.Added.{arrived, send_of, went_to_all}
 use Rattle.lin_bench.specs.Adding.{HasFinished, finish_of, good_in}
-use Rattle.lin_bench.specs.Rules.{all_noted, is_due_at, kept_at, notes_for, sent_at, serving}
+use Rattle.lin_bench.specs.Rules.{after_event, after_events, is_due_at, kept_at, reacted, rule_for, sent_at, serving, state_of}
 use Rattle.lin_bench.specs.declared.rules.Noted.{Noted}
 use Rattle.lin_bench.specs.declared.rules.Rules.{Rules}
+use Rattle.lin_bench.specs.declared.rules.When.{When}
 use Rattle.lin_bench.proofs.Makes.{append-nothing}
 use Rattle.lin_bench.proofs.HeardLinks.{finished-slot, good-told}
 
-to-all : (core : CoreData) (by : PortId) (past : List LogEntry) (s : Slot) (rules : Rules) (b : Bool) → HasFinished core by past s
-    → option_map_or (λ bytes. slice_index bytes 0 == functional) (good_in (events (finish_of core past by))) false ≡ b
-    → noted_now core.cluster rules (finish_of core past by) past
-    ≡ cond b [] (flat_map (notes_for (serving core.cluster rules.services) rules.whens (time core.cluster (finish_of core past by ∷ past))) (events (finish_of core past by)))
-to-all core by past s rules b fin went =
+-- whether a finish, of which this is the reply's good response, went to all
+went-is : (core : CoreData) (by : PortId) (past : List LogEntry) (s : Slot) (b : Bool) → HasFinished core by past s
+    → b ≡ option_map_or (λ bytes. slice_index bytes 0 == functional) (good_in (events (finish_of core past by))) false
+    → option_map_or went_to_all (finished_slot (finish_of core past by) past) false ≡ b
+went-is core by past s b fin went =
     let good = good-told core.cluster core.opening core.capacity past by s fin.slot fin.may in
     let slot = finished-slot core.cluster core.opening core.capacity past by s fin.slot fin.may in
-    let went-is = rw good at went in
-    ap (λ o. cond (option_map_or went_to_all o false) [] (flat_map (notes_for (serving core.cluster rules.services) rules.whens (time core.cluster (finish_of core past by ∷ past))) (events (finish_of core past by)))) slot
-    ∙ ap (λ t. cond t [] (flat_map (notes_for (serving core.cluster rules.services) rules.whens (time core.cluster (finish_of core past by ∷ past))) (events (finish_of core past by)))) went-is
+    ap (λ o. option_map_or went_to_all o false) slot ∙ sym (rw good at went)
 
--- what goes to all is answered by nothing
-pub noted-none : (core : CoreData) (by : PortId) (past : List LogEntry) (s : Slot) (rules : Rules) → HasFinished core by past s
-    → option_map_or (λ bytes. slice_index bytes 0 == functional) (good_in (events (finish_of core past by))) false ≡ true
-    → rules ≡ record rules { noted = noted_by core.cluster (finish_of core past by) past rules }
-noted-none core by past s rules fin went =
-    ap (λ l. record rules { noted = all_noted rules.noted l }) (sym (to-all core by past s rules true fin went))
+-- the rules after the messages of a finish arrived, as code has them
+pub arrived-is : (core : CoreData) (by : PortId) (past : List LogEntry) (s : Slot) (rules : Rules) (b : Bool) (new : Rules) → HasFinished core by past s
+    → b ≡ option_map_or (λ bytes. slice_index bytes 0 == functional) (good_in (events (finish_of core past by))) false
+    → new ≡ after_events (serving core.cluster rules.services) b (time core.cluster (past_of core)) rules (events (finish_of core past by))
+    → new ≡ arrived core.cluster (finish_of core past by) past rules
+arrived-is core by past s rules b new fin went is =
+    (rw fin.newest at is)
+    ∙ ap (λ t. after_events (serving core.cluster rules.services) t (time core.cluster (finish_of core past by ∷ past)) rules (events (finish_of core past by)))
+    (sym (went-is core by past s b fin went))
 
-pub noted-some : (core : CoreData) (by : PortId) (past : List LogEntry) (s : Slot) (rules : Rules) (noted : List Noted) → HasFinished core by past s
-    → option_map_or (λ bytes. slice_index bytes 0 == functional) (good_in (events (finish_of core past by))) false ≡ false
-    → noted ≡ all_noted rules.noted (flat_map (notes_for (serving core.cluster rules.services) rules.whens (time core.cluster (past_of core))) (events (finish_of core past by)))
-    → record rules { noted = noted } ≡ record rules { noted = noted_by core.cluster (finish_of core past by) past rules }
-noted-some core by past s rules noted fin went is =
-    let is-so = rw fin.newest at is in
-    ap (λ l. record rules { noted = l }) (is-so ∙ ap (all_noted rules.noted) (sym (to-all core by past s rules false fin went)))
+-- ---- messages change states and the answers that are noted, and no other rule
+reacted-kept : (served : Option Parts) (to : Bool) (t : ℕ) (rules : Rules) (node : ℕ) (message : List ℕ) (w : Option When)
+    → reacted served to t rules node message w
+    ≡ record rules { states = (reacted served to t rules node message w).states; noted = (reacted served to t rules node message w).noted }
+reacted-kept served to t rules node message None = refl
+reacted-kept served to t rules node message (Some w) = refl
+
+either-kept : (b : Bool) (x rules : Rules) → x ≡ record rules { states = x.states; noted = x.noted }
+    → cond b x rules ≡ record rules { states = (cond b x rules).states; noted = (cond b x rules).noted }
+either-kept true x rules e = e
+either-kept false x rules e = refl
+
+event-kept : (served : Option Parts) (to : Bool) (t : ℕ) (rules : Rules) (e : Event)
+    → after_event served to t rules e ≡ record rules { states = (after_event served to t rules e).states; noted = (after_event served to t rules e).noted }
+event-kept served to t rules (event.Accepted host number) = refl
+event-kept served to t rules (event.Slot table entry header) = refl
+event-kept served to t rules event.Service = refl
+event-kept served to t rules (event.Due node) = refl
+event-kept served to t rules (event.Put node answer) = refl
+event-kept served to t rules (event.Seen how) = refl
+event-kept served to t rules (event.Message from node bytes) =
+    let w : Option When = rule_for rules.whens node (state_of rules.states node) bytes in
+    either-kept (from == 0) (reacted served to t rules node bytes w) rules (reacted-kept served to t rules node bytes w)
+event-kept served to t rules (event.Sent host number) = refl
+event-kept served to t rules (event.Lost host number cause) = refl
+event-kept served to t rules event.Asleep = refl
+
+events-kept : (served : Option Parts) (to : Bool) (t : ℕ) (rules : Rules) (es : List Event)
+    → after_events served to t rules es ≡ record rules { states = (after_events served to t rules es).states; noted = (after_events served to t rules es).noted }
+events-kept served to t rules [] = refl
+events-kept served to t rules (e ∷ es) =
+    let one : Rules = after_event served to t rules e in
+    let all : Rules = after_events served to t one es in
+    events-kept served to t one es ∙ ap (λ (r : Rules). record r { states = all.states; noted = all.noted }) (event-kept served to t rules e)
+
+pub arrived-kept : (c : Parts) (e : LogEntry) (past : List LogEntry) (rules : Rules)
+    → arrived c e past rules ≡ record rules { states = (arrived c e past rules).states; noted = (arrived c e past rules).noted }
+arrived-kept c e past rules =
+    events-kept (serving c rules.services) (option_map_or went_to_all (finished_slot e past) false) (time c (e ∷ past)) rules (events e)
 
 pub where-ok : {T E P Q : Type 0} (r : Result T E) → (P → Q) → OnOk r P → OnOk r Q
 where-ok (Ok x) f p = f p

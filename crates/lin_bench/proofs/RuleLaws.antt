@@ -1,5 +1,5 @@
 -- What rules add, and what they leave alone.
-use Rattle.std.proofs.Common.{◌≡◌, ℕ, nat_lt, Bool, true, false, List, [], ◌∷◌, Option, Some, None, ap, flat_map, map, refl, arith, is_some, cond}
+use Rattle.std.proofs.Common.{◌≡◌, ◌∙◌, ◌==◌, ℕ, nat_lt, Bool, true, false, List, [], ◌∷◌, Option, Some, None, ap, map, refl, arith, is_some, cond}
 use Rattle.std.specs.List.{list_any}
 use Rattle.std.proofs.lemmas.Grind.{common_steps}
 use Rattle.std.specs.Option.{option_map_or}
@@ -9,7 +9,7 @@ use Rattle.lin_core.specs.Runs.{entry_of}
 use Rattle.lin_core.specs.declared.event.Event.{Event}
 use Rattle.lin_core.specs.declared.event.Event.TheVariants as event
 use Rattle.lin_core.specs.declared.log.LogEntry.{LogEntry}
-use Rattle.lin_bench.specs.Added.{added_steps, added_after, noted_now, rules_after, went_to_all}
+use Rattle.lin_bench.specs.Added.{added_steps, added_after, arrived, rules_after, went_to_all}
 use Rattle.lin_core.specs.declared.port.PortId.{PortId}
 use Rattle.lin_core.specs.declared.step.Step.{Step}
 use Rattle.lin_bench.specs.Faults.{changed_steps, disturbed_steps, is_struck, slots_finished, struck, struck_by, target}
@@ -19,59 +19,69 @@ use Rattle.lin_bench.specs.declared.faults.ArmedFault.{ArmedFault}
 use Rattle.lin_bench.specs.declared.rules.Rules.{Rules}
 use Rattle.lin_bench.specs.Made.{course_of, made, said}
 use Rattle.lin_bench.specs.RuleLaws.{AddedByAnyFinish, AddedByHistoryAndRules, NoRuleAddsNothing, NoRuleChangesNothing}
-use Rattle.lin_bench.specs.Rules.{no_rules, notes_for}
-use Rattle.lin_bench.specs.declared.rules.Noted.{Noted}
-
-either-nothing : {A : Type 0} (b : Bool) (xs : List A) → xs ≡ [] → cond b [] xs ≡ []
-either-nothing true xs e = refl
-either-nothing false xs e = e
+use Rattle.lin_bench.specs.Rules.{after_event, after_events, no_rules, reacted, rule_for, state_of}
 
 nothing-or : {A : Type 0} (b : Bool) (xs : List A) → xs ≡ [] → cond b xs [] ≡ []
 nothing-or true xs e = e
 nothing-or false xs e = refl
 
-notes-nothing : (t : ℕ) (e : Event) → notes_for None [] t e ≡ []
-notes-nothing t (event.Accepted host number) = refl
-notes-nothing t (event.Slot table entry header) = refl
-notes-nothing t event.Service = refl
-notes-nothing t (event.Due node) = refl
-notes-nothing t (event.Put node answer) = refl
-notes-nothing t (event.Seen how) = refl
-notes-nothing t (event.Message from to bytes) = nothing-or {A = Noted} _ [] refl
-notes-nothing t (event.Sent host number) = refl
-notes-nothing t (event.Lost host number cause) = refl
-notes-nothing t event.Asleep = refl
+abbrev pub no_rules_under : List ArmedFault → Rules
+no_rules_under faults = record no_rules { faults = faults }
 
-all-nothing : (t : ℕ) (es : List Event) → flat_map (notes_for None [] t) es ≡ []
-all-nothing t [] = refl
-all-nothing t (e ∷ es) = rw (notes-nothing t e) (all-nothing t es)
+react-nothing : (rules : Rules) (is_to_all : Bool) (t node : ℕ) (message : List ℕ) → reacted None is_to_all t rules node message None ≡ rules
+react-nothing rules true t node message = refl
+react-nothing rules false t node message = refl
 
-noted-nothing : (c : Parts) (e : LogEntry) (past : List LogEntry) → noted_now c no_rules e past ≡ []
-noted-nothing c e past = either-nothing (option_map_or went_to_all (finished_slot e past) false) _ (all-nothing (time c (e ∷ past)) (events e))
+same-either : {A : Type 0} (b : Bool) (x y : A) → x ≡ y → cond b x y ≡ y
+same-either true x y e = e
+same-either false x y e = refl
+
+-- where no rule is in force, events change nothing
+abbrev pub HasNoWhens : Rules → Type 0
+HasNoWhens rules = rules.whens ≡ []
+
+event-nothing : (rules : Rules) (is_to_all : Bool) (t : ℕ) (e : Event) → HasNoWhens rules → after_event None is_to_all t rules e ≡ rules
+event-nothing rules to t (event.Accepted host number) h = refl
+event-nothing rules to t (event.Slot table entry header) h = refl
+event-nothing rules to t event.Service h = refl
+event-nothing rules to t (event.Due node) h = refl
+event-nothing rules to t (event.Put node answer) h = refl
+event-nothing rules to t (event.Seen how) h = refl
+event-nothing rules to t (event.Message from node bytes) h =
+    let none = ap (λ ws. reacted None to t rules node bytes (rule_for ws node (state_of rules.states node) bytes)) h ∙ react-nothing rules to t node bytes in
+    same-either (from == 0) (reacted None to t rules node bytes (rule_for rules.whens node (state_of rules.states node) bytes)) rules none
+event-nothing rules to t (event.Sent host number) h = refl
+event-nothing rules to t (event.Lost host number cause) h = refl
+event-nothing rules to t event.Asleep h = refl
+
+events-nothing : (rules : Rules) (is_to_all : Bool) (t : ℕ) (es : List Event) → HasNoWhens rules → after_events None is_to_all t rules es ≡ rules
+events-nothing rules to t [] h = refl
+events-nothing rules to t (e ∷ es) h = ap (λ r. after_events None to t r es) (event-nothing rules to t e h) ∙ events-nothing rules to t es h
+
+arrived-nothing : (c : Parts) (e : LogEntry) (past : List LogEntry) (faults : List ArmedFault) → arrived c e past (no_rules_under faults) ≡ no_rules_under faults
+arrived-nothing c e past faults =
+    events-nothing (no_rules_under faults) (option_map_or went_to_all (finished_slot e past) false) (time c (e ∷ past)) (events e) refl
 
 after-nothing : (c : Parts) (e : LogEntry) (past : List LogEntry) → added_after c e past no_rules ≡ []
-after-nothing c e past = rw (noted-nothing c e past) refl
+after-nothing c e past = rw (arrived-nothing c e past []) refl
 
 added-nothing : (c : Parts) (e : LogEntry) (past : List LogEntry) → added_steps c e past no_rules ≡ []
 added-nothing c e past = nothing-or (is_some (finished_slot e past)) (added_after c e past no_rules) (after-nothing c e past)
 
 same-rules : (c : Parts) (e : LogEntry) (past : List LogEntry) (b : Bool) → is_some (finished_slot e past) ≡ b → rules_after c e past no_rules ≡ no_rules
-same-rules c e past true h = rw (h, noted-nothing c e past) refl
+same-rules c e past true h = rw (h, arrived-nothing c e past []) refl
 same-rules c e past false h = rw h refl
 
 pub no-rule : NoRuleAddsNothing
 no-rule c e past = (added-nothing c e past, same-rules c e past (is_some (finished_slot e past)) refl)
 
 -- ---- where no rule is in force, under some faults
-abbrev pub no_rules_under : List ArmedFault → Rules
-no_rules_under faults = record no_rules { faults = faults }
-
 pub added-under : (c : Parts) (e : LogEntry) (past : List LogEntry) (faults : List ArmedFault) → added_steps c e past (no_rules_under faults) ≡ []
-added-under c e past faults = nothing-or (is_some (finished_slot e past)) (added_after c e past (no_rules_under faults)) (rw (noted-nothing c e past) refl)
+added-under c e past faults = nothing-or (is_some (finished_slot e past)) (added_after c e past (no_rules_under faults)) (rw (arrived-nothing c e past faults) refl)
 
 rules-under-by : (c : Parts) (e : LogEntry) (past : List LogEntry) (faults : List ArmedFault) (b : Bool) → is_some (finished_slot e past) ≡ b
     → rules_after c e past (no_rules_under faults) ≡ no_rules_under faults
-rules-under-by c e past faults true h = rw (h, noted-nothing c e past) refl
+rules-under-by c e past faults true h = rw (h, arrived-nothing c e past faults) refl
 rules-under-by c e past faults false h = rw h refl
 
 pub rules-under : (c : Parts) (e : LogEntry) (past : List LogEntry) (faults : List ArmedFault) → rules_after c e past (no_rules_under faults) ≡ no_rules_under faults

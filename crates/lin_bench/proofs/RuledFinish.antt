@@ -8,22 +8,24 @@ use Rattle.lin_core.specs.declared.log.LogEntry.{LogEntry}
 use Rattle.lin_core.specs.declared.port.PortId.{PortId}
 use Rattle.lin_core.specs.declared.step.Step.{Step}
 use Rattle.lin_core.specs.declared.step.Step.TheVariants.{Send, Write, Open, Answer, Leave, Hurt, Finish, Timeout, Switch, AskSleep, Wake, Close}
-use Rattle.lin_bench.specs.Added.{added_after, has_time, noted_by, rules_after, send_of, step_to_repeat, timeouts}
+use Rattle.lin_bench.specs.Added.{added_after, arrived, has_time, rules_after, send_of, step_to_repeat, timeouts, with_kept}
 use Rattle.lin_bench.specs.Errors.{errors_told}
 use Rattle.lin_bench.specs.Adding.{AddsAfterFinish, AreAdded, HasFinished, MakesAdded, finish_of}
 use Rattle.lin_bench.specs.Making.{IsMadeSo, MakesUnchanged, RuledData}
 use Rattle.lin_bench.specs.Rules.{kept_at, no_rules, sent_at}
 use Rattle.lin_bench.specs.declared.fault.MakeFault.{MakeFault}
 use Rattle.lin_bench.specs.declared.rules.Noted.{Noted}
+use Rattle.lin_bench.specs.declared.rules.Rules.{Rules}
 use Rattle.lin_bench.proofs.HeardLinks.{finish-allowed, finished-slot}
 use Rattle.lin_bench.proofs.AddedSteps.{finish-added, has-finished}
 use Rattle.lin_bench.proofs.Makes.{newest-past}
+use Rattle.lin_bench.proofs.NotedAnswers.{arrived-kept}
 use Rattle.lin_bench.proofs.RuleLaws.{no-rule}
 
 -- the core as it is when the answers to the finish are noted, and what is added there
 pub record IsReady (a i : RuledData) (by : PortId) (past : List LogEntry) (began now : ℕ) : Type 0 where
   pub core : i.core ≡ a.core
-  pub rules : i.rules ≡ record a.rules { noted = noted_by a.core.cluster (finish_of a.core past by) past a.rules }
+  pub rules : i.rules ≡ arrived a.core.cluster (finish_of a.core past by) past a.rules
   pub began_is : began ≡ time a.core.cluster past
   pub now_is : now ≡ time i.core.cluster (past_of i.core)
 
@@ -32,17 +34,21 @@ all-steps : (a i : RuledData) (by : PortId) (past : List LogEntry) (s : Slot) (b
     ++ (errors_told i.core.cluster (finish_of i.core past by) past i.rules.errors
     ++ (map send_of (sent_at now i.rules.noted) ++ map step_to_repeat (filter (has_time began now) i.rules.everies)))
     ≡ added_after a.core.cluster (finish_of a.core past by) past a.rules
-all-steps a i by past s began now fin at = rw (at.now_is, at.rules, at.core, at.began_is, fin.newest) refl
+all-steps a i by past s began now fin at =
+    let kept = arrived-kept a.core.cluster (finish_of a.core past by) past a.rules in
+    let limit = ap (λ (r : Rules). r.limit_ms) kept in
+    let errors = ap (λ (r : Rules). r.errors) kept in
+    let everies = ap (λ (r : Rules). r.everies) kept in
+    rw (at.now_is, at.rules, at.core, at.began_is, limit, errors, everies, fin.newest) refl
 
 all-rules : (a i : RuledData) (by : PortId) (past : List LogEntry) (s : Slot) (began now : ℕ) → HasFinished a.core by past s → IsReady a i by past began now
     → record i.rules { noted = kept_at now i.rules.noted } ≡ rules_after a.core.cluster (finish_of a.core past by) past a.rules
 all-rules a i by past s began now fin at =
     let is = finished-slot a.core.cluster a.core.opening a.core.capacity past by s fin.slot fin.may in
-    let kept : record i.rules { noted = kept_at now i.rules.noted }
-    ≡ record a.rules { noted = kept_at (time a.core.cluster (finish_of a.core past by ∷ past)) (noted_by a.core.cluster (finish_of a.core past by) past a.rules) } =
+    let kept : with_kept now i.rules ≡ with_kept (time a.core.cluster (finish_of a.core past by ∷ past)) (arrived a.core.cluster (finish_of a.core past by) past a.rules) =
     rw (at.now_is, at.rules, at.core, fin.newest) refl in
     kept
-    ∙ ap (λ b. cond b (record a.rules { noted = kept_at (time a.core.cluster (finish_of a.core past by ∷ past)) (noted_by a.core.cluster (finish_of a.core past by) past a.rules) }) a.rules)
+    ∙ ap (λ b. cond b (with_kept (time a.core.cluster (finish_of a.core past by ∷ past)) (arrived a.core.cluster (finish_of a.core past by) past a.rules)) a.rules)
     (sym (ap is_some is))
 
 in-turn : {X : Type 0} (a d : RuledData) (e : LogEntry) (past : List LogEntry) (steps : List (PortId × Step)) (r : Result X MakeFault)

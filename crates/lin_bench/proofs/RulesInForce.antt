@@ -1,13 +1,19 @@
--- The parts of an answer, one more at a time.
-use Rattle.std.proofs.Common.{◌≡◌, ◌∙◌, ◌+◌, ◌<◌, ℕ, List, [], ◌∷◌, ◌++◌, Option, Some, None, refl, sym, ap, append_assoc, append-nil, get_or, length, take}
+-- The parts of an answer, one more at a time, and ports and steps of repetitions.
+use Rattle.std.proofs.Common.{◌≡◌, ◌∙◌, ◌+◌, ◌<◌, ℕ, List, [], ◌∷◌, ◌++◌, Option, Some, None, refl, sym, ap, append_assoc, append-nil, codes, flat_map, get_or, length, map, take}
 use Rattle.std.proofs.lemmas.List.{take_more}
 use Rattle.lin_parts.specs.declared.parts.Parts.{Parts}
 use Rattle.lin_core.specs.declared.port.PortId.{PortId}
 use Rattle.lin_core.specs.declared.port.PortId.TheVariants.{Bus, Host, Node}
-use Rattle.lin_log.specs.Language.{named_language}
-use Rattle.lin_log.specs.Words.{spaced_word, word_text}
+use Rattle.lin_core.specs.declared.step.Step.{Step}
+use Rattle.lin_core.specs.declared.step.Step.TheVariants.{Send, Write, Open, Answer, Leave, Hurt}
+use Rattle.lin_core.specs.declared.step.Step.TheVariants.{Finish, Timeout, Switch, AskSleep, Wake}
+use Rattle.lin_core.specs.declared.step.Step.TheVariants.{Close}
+use Rattle.lin_log.specs.Language.{Language, named_language}
+use Rattle.lin_log.specs.Words.{spaced_word, step_words, word_text}
 use Rattle.lin_log.specs.Words.Word.{Port}
+use Rattle.lin_bench.specs.LineWords.{spaced_words}
 use Rattle.lin_bench.specs.RulesInForce.{part_gap, part_word, parts_text, port_text}
+use Rattle.lin_bench.specs.Texts.{cluster_text, repeated_words}
 use Rattle.lin_bench.specs.declared.rules.Part.{Part}
 
 -- the last of parts after another one
@@ -38,3 +44,27 @@ pub port-spaced : (c : Parts) (by : PortId) → (by ≡ Bus → ⊥) → spaced_
 port-spaced c Bus h = absurd (h refl)
 port-spaced c (Host n) h = refl
 port-spaced c (Node n) h = refl
+
+-- the end of a repetition: each word of its step has a space before it
+step-spaced : (l : Language) (s : Step) → flat_map spaced_word (map (word_text l) (step_words s)) ≡ spaced_words l (step_words s)
+step-spaced l (Send from to message) = refl
+step-spaced l (Write by signal value) = refl
+step-spaced l Open = refl
+step-spaced l (Answer node) = refl
+step-spaced l (Leave node) = refl
+step-spaced l (Hurt bytes) = refl
+step-spaced l Finish = refl
+step-spaced l (Timeout node dir) = refl
+step-spaced l (Switch table) = refl
+step-spaced l AskSleep = refl
+step-spaced l Wake = refl
+step-spaced l (Close host) = refl
+
+pub every-end-text : (c : Parts) (by : PortId) (s : Step)
+    → codes " every off" ++ (port_text c by ++ flat_map spaced_word (map (word_text (named_language c)) (step_words s)))
+    ≡ spaced_word (cluster_text c (repeated_words by s))
+every-end-text c Bus s = ap (λ t. codes " every off" ++ t) (step-spaced (named_language c) s)
+every-end-text c (Host n) s =
+    ap (λ t. codes " every off" ++ (spaced_word (word_text (named_language c) (Port (Host n))) ++ t)) (step-spaced (named_language c) s)
+every-end-text c (Node n) s =
+    ap (λ t. codes " every off" ++ (spaced_word (word_text (named_language c) (Port (Node n))) ++ t)) (step-spaced (named_language c) s)

@@ -18,7 +18,7 @@ use Rattle.lin_core.specs.declared.port.PortId.TheVariants.{Bus, Host}
 use Rattle.lin_core.specs.declared.step.Step.{Step}
 use Rattle.lin_core.specs.declared.step.Step.TheVariants.{Send, Timeout}
 use Rattle.lin_bench.specs.Errors.{errors_told}
-use Rattle.lin_bench.specs.Rules.{all_noted, kept_at, notes_for, sent_at, serving}
+use Rattle.lin_bench.specs.Rules.{after_events, kept_at, sent_at, serving}
 use Rattle.lin_bench.specs.declared.rules.Noted.{Noted}
 use Rattle.lin_bench.specs.declared.rules.Repeated.{Repeated}
 use Rattle.lin_bench.specs.declared.rules.Rules.{Rules}
@@ -55,18 +55,15 @@ abbrev pub timeouts : Parts → List LogEntry → Option ℕ → List (PortId ×
 timeouts c past None = []
 timeouts c past (Some ms) = map timeout_step (filter (is_given_up c past ms) (links_in_turn c))
 
--- ---- answers (what goes to all isn't answered)
+-- ---- messages that arrive (ISO 17987-2, functional requests go to all responders)
 abbrev pub went_to_all : Slot → Bool
 went_to_all s = option_map_or (λ bytes. slice_index bytes 0 == functional) (good s) false
 
-abbrev pub noted_now : Parts → Rules → LogEntry → List LogEntry → List Noted
-noted_now c rules e past =
-    if option_map_or went_to_all (finished_slot e past) false then []
-    else flat_map (notes_for (serving c rules.services) rules.whens (time c (e ∷ past))) (events e)
-
--- all answers that are noted, with those to the messages of a finish
-abbrev pub noted_by : Parts → LogEntry → List LogEntry → Rules → List Noted
-noted_by c e past rules = all_noted rules.noted (noted_now c rules e past)
+-- the rules after the messages of a finish arrived
+abbrev pub arrived : Parts → LogEntry → List LogEntry → Rules → Rules
+arrived c e past rules =
+    after_events (serving c rules.services) (option_map_or went_to_all (finished_slot e past) false)
+    (time c (e ∷ past)) rules (events e)
 
 abbrev pub send_of : Noted → PortId × Step
 send_of n = (Host n.node, Send n.node 0 n.bytes)
@@ -93,7 +90,7 @@ abbrev pub added_after : Parts → LogEntry → List LogEntry → Rules → List
 added_after c e past rules =
     timeouts c (e ∷ past) rules.limit_ms
     ++ (errors_told c e past rules.errors
-    ++ (map send_of (sent_at (time c (e ∷ past)) (noted_by c e past rules))
+    ++ (map send_of (sent_at (time c (e ∷ past)) (arrived c e past rules).noted)
     ++ repeated_steps c e past rules))
 
 -- and after any other entry none
@@ -101,10 +98,12 @@ abbrev pub added_steps : Parts → LogEntry → List LogEntry → Rules → List
 added_steps c e past rules =
     if is_some (finished_slot e past) then added_after c e past rules else []
 
--- the answers that are still to come after an entry; those that are sent are noted no longer,
--- whatever their sending is answered
+-- the states after an entry, and the answers that are still to come; those that are sent are noted no
+-- longer, whatever their sending is answered
+abbrev pub with_kept : ℕ → Rules → Rules
+with_kept time rules = record rules { noted = kept_at time rules.noted }
+
 abbrev pub rules_after : Parts → LogEntry → List LogEntry → Rules → Rules
 rules_after c e past rules =
-    if is_some (finished_slot e past)
-    then record rules { noted = kept_at (time c (e ∷ past)) (noted_by c e past rules) }
+    if is_some (finished_slot e past) then with_kept (time c (e ∷ past)) (arrived c e past rules)
     else rules

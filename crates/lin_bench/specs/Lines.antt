@@ -11,7 +11,7 @@ use Rattle.lin_log.specs.Said.{is_port, port_step, step_form}
 use Rattle.lin_log.specs.declared.reason.Reason.TheVariants.{Takes}
 use Rattle.lin_bench.specs.Fields.{◌>>=◌, bytes_fields, count_field, line_fields, node_field, of_step}
 use Rattle.lin_bench.specs.Expectations.{expectation, until_form, while_form}
-use Rattle.lin_bench.specs.RuleLines.{errors_form, every_form, services_form, timeouts_form, when_form}
+use Rattle.lin_bench.specs.RuleLines.{errors_form, every_form, services_form, state_form, timeouts_form, when_form}
 use Rattle.lin_bench.specs.declared.reason.Reason.{Reason}
 use Rattle.lin_bench.specs.declared.reason.Reason.TheVariants.{Step, SlotsForm, SlotForm}
 use Rattle.lin_bench.specs.declared.reason.Reason.TheVariants.{LeaveForm, SlotsLeaveForm}
@@ -133,6 +133,7 @@ line_form c word fs =
     then services_form c fs >>= (λ rule. Ok (line.Rule rule))
     else if bytes_eq word (codes "response_errors")
     then errors_form c fs >>= (λ rule. Ok (line.Rule rule))
+    else if bytes_eq word (codes "state") then state_form c fs >>= (λ rule. Ok (line.Rule rule))
     else of_step (step_form (named_language c) word fs) >>= (λ step. Ok (line.Step Bus step))
 
 abbrev pub line_of_fields : Parts → List (List ℕ) → Result (Option ScriptLine) Reason

@@ -1,18 +1,19 @@
 -- What a line of a bench script comes to on a bench: the steps that it says, and its verdict.
 use Rattle.std.specs.Prelude.{ℕ, ◌-◌, ◌&&◌, Bool, false, length, nat_lt, not, if◌then◌else◌, List, [], ◌∷◌, Option}
-use Rattle.std.specs.Prelude.{Some, None, is_none, is_some}
+use Rattle.std.specs.Prelude.{Some, None, is_none, is_some, true}
 use Rattle.std.specs.Option.{option_map_or}
 use Rattle.lin_parts.specs.declared.parts.Parts.{Parts}
 use Rattle.lin_core.specs.History.{time}
 use Rattle.lin_core.specs.declared.log.LogEntry.{LogEntry}
 use Rattle.lin_core.specs.declared.port.PortId.{PortId}
 use Rattle.lin_core.specs.declared.step.Step.{Step}
-use Rattle.lin_bench.specs.Rules.{ruled}
+use Rattle.lin_bench.specs.Rules.{has_rule, ruled}
 use Rattle.lin_bench.specs.Slots.{Course, course_after, extent_steps, most, ended_slot_count}
 use Rattle.lin_bench.specs.Verdicts.{all_taken, kind_taken, next_event, taking, verdict}
 use Rattle.lin_bench.specs.declared.expected.Expected.{Expected}
-use Rattle.lin_bench.specs.declared.expected.Expected.TheVariants.{Idle as IsIdle}
+use Rattle.lin_bench.specs.declared.expected.Expected.TheVariants.{HasRule, Idle as IsIdle}
 use Rattle.lin_bench.specs.declared.got.Got.{Got}
+use Rattle.lin_bench.specs.declared.got.Got.TheVariants.{NoRule}
 use Rattle.lin_bench.specs.declared.got.Verdict.{Verdict}
 use Rattle.lin_bench.specs.declared.got.Verdict.TheVariants.{Nothing, Met, Unmet, SlotLimit}
 use Rattle.lin_bench.specs.declared.line.Disturbance.TheVariants.{Leave}
@@ -21,6 +22,8 @@ use Rattle.lin_bench.specs.declared.line.Extent.TheVariants.{Count, Idle}
 use Rattle.lin_bench.specs.declared.line.ScriptLine.{ScriptLine}
 use Rattle.lin_bench.specs.declared.line.ScriptLine.TheVariants as line
 use Rattle.lin_bench.specs.declared.rules.Rule.{Rule}
+use Rattle.lin_bench.specs.declared.rules.Rule.TheVariants as rule
+use Rattle.lin_bench.specs.declared.rules.RuleEnd.{RuleEnd}
 use Rattle.lin_bench.specs.declared.rules.Rules.{Rules}
 use Rattle.lin_bench.specs.declared.taken.EventKind.{EventKind}
 
@@ -66,7 +69,7 @@ said c opening capacity limit b (line.While s what) =
     (fails c opening b.taken (length b.past) what) (limit s.extent) (course_of b)
 said c opening capacity limit b (line.Expect what) = []
 said c opening capacity limit b line.Forget = []
-said c opening capacity limit b (line.Rule rule) = []
+said c opening capacity limit b (line.Rule r) = []
 
 -- how many slots a line of slots made by these steps; no other line makes any
 abbrev pub slots_made : ScriptLine → List (PortId × Step) → ℕ
@@ -77,7 +80,7 @@ slots_made (line.Until s what) steps = ended_slot_count steps
 slots_made (line.While s what) steps = ended_slot_count steps
 slots_made (line.Expect what) steps = 0
 slots_made line.Forget steps = 0
-slots_made (line.Rule rule) steps = 0
+slots_made (line.Rule r) steps = 0
 
 -- what slots expect after them
 abbrev pub expected_after : Extent → Option Expected
@@ -124,12 +127,21 @@ forgotten b = record b { taken = all_taken b.past }
 
 -- a bench with one more rule, which is in force for the lines after it
 abbrev pub with_rule : Parts → BenchState → Rule → BenchState
-with_rule c b rule = record b { rules = ruled (time c b.past) b.rules rule }
+with_rule c b r = record b { rules = ruled (time c b.past) b.rules r }
+
+-- the end of rules is a check only where there is no such rule
+abbrev pub ended_verdict : Bool → RuleEnd → Verdict
+ended_verdict true e = Nothing
+ended_verdict false e = Unmet (HasRule e) NoRule
+
+abbrev pub rule_verdict : Rules → Rule → Verdict
+rule_verdict rules (rule.End e) = ended_verdict (has_rule rules e) e
+rule_verdict rules r = Nothing
 
 -- a bench after a line, and the line's verdict
 unfoldable pub made : Parts → ℕ → ℕ → BenchState → ScriptLine → BenchState × Verdict
 made c opening capacity b line.Forget = (forgotten b, Nothing)
-made c opening capacity b (line.Rule rule) = (with_rule c b rule, Nothing)
+made c opening capacity b (line.Rule r) = (with_rule c b r, rule_verdict b.rules r)
 made c opening capacity b line =
     let steps = said c opening capacity most b line
     in made_within c opening capacity b (slots_made line steps) steps

@@ -2,7 +2,7 @@
 use Rattle.std.specs.Prelude.{◌≡◌, ℕ, ◌==◌, ◌+◌, ◌-◌, ◌*◌, ◌&&◌, ◌||◌, nat_le, nat_lt, if◌then◌else◌, true, false, Bool}
 use Rattle.std.specs.Prelude.{List, [], ◌∷◌, ◌++◌, drop, find, length, reverse, slice_index, take}
 use Rattle.std.specs.Prelude.{Option, Some, None, is_some, option_map, Result, Ok, Err, codes}
-use Rattle.std.specs.List.{slice_split}
+use Rattle.std.specs.List.{list_all, slice_split}
 use Rattle.std.specs.Option.{option_map_or}
 use Rattle.std.specs.Str.{bytes_eq}
 use Rattle.hex.specs.Hex.{hex_digit_value}
@@ -22,7 +22,7 @@ use Rattle.lin_bench.specs.declared.reason.Reason.{Reason}
 use Rattle.lin_bench.specs.declared.reason.Reason.TheVariants.{Step as BadStep, WhenForm, NoResponder}
 use Rattle.lin_bench.specs.declared.reason.Reason.TheVariants.{NoPattern, TimeoutsForm, EveryForm}
 use Rattle.lin_bench.specs.declared.reason.Reason.TheVariants.{EveryStep, ErrorsForm, NoErrorSignal}
-use Rattle.lin_bench.specs.declared.reason.Reason.TheVariants.{NoServices, ServicesForm}
+use Rattle.lin_bench.specs.declared.reason.Reason.TheVariants.{NoName, NoServices, ServicesForm, StateForm}
 use Rattle.lin_bench.specs.declared.reason.Reason.TheVariants.{LongAnswer, WideErrorSignal}
 use Rattle.lin_bench.specs.declared.rules.RuleAnswer.{RuleAnswer}
 use Rattle.lin_bench.specs.declared.rules.Part.{Part}
@@ -30,6 +30,7 @@ use Rattle.lin_bench.specs.declared.rules.Part.TheVariants.{Byte, Copied}
 use Rattle.lin_log.specs.declared.pattern.Pattern.{Pattern}
 use Rattle.lin_bench.specs.declared.rules.Rule.{Rule}
 use Rattle.lin_bench.specs.declared.rules.Rule.TheVariants as rule
+use Rattle.lin_bench.specs.declared.rules.RuleEnd.TheVariants as end
 
 abbrev pub equals_word : List ℕ → List ℕ → Bool
 equals_word word f = bytes_eq f word
@@ -151,13 +152,37 @@ abbrev pub responder_field : Parts → List ℕ → Result ℕ Reason
 responder_field c f =
     node_field c f >>= (λ node. if is_some (nad c node) then Ok node else Err (NoResponder f))
 
-abbrev pub when_of : Parts → List ℕ → List (List ℕ) → Result (List RuleAnswer) Reason
+-- a name: a letter or `_`, then letters, digits and `_`
+abbrev pub is_letter : ℕ → Bool
+is_letter b = nat_le 65 b && nat_le b 90 || nat_le 97 b && nat_le b 122 || b == 95
+
+abbrev pub is_digit : ℕ → Bool
+is_digit b = nat_le 48 b && nat_le b 57
+
+abbrev pub is_name_sign : ℕ → Bool
+is_name_sign b = is_letter b || is_digit b
+
+abbrev pub is_name : List ℕ → Bool
+is_name f = is_letter (slice_index f 0) && list_all is_name_sign f
+
+abbrev pub name_field : List ℕ → Result (List ℕ) Reason
+name_field f = if is_name f then Ok f else Err (NoName f)
+
+abbrev pub maybe_name : Option (List ℕ) → Result (Option (List ℕ)) Reason
+maybe_name None = Ok None
+maybe_name (Some f) = name_field f >>= (λ name. Ok (Some name))
+
+-- of a node in a state, where one is named: a pattern, answers, and the state that is entered
+abbrev pub when_of : Parts → List ℕ → Option (List ℕ) → List (List ℕ) → Result (List RuleAnswer) Reason
+    → Option (List ℕ)
     → Result Rule Reason
-when_of c n pattern answers = do
+when_of c n s pattern answers next = do
   node ← responder_field c n
+  state ← maybe_name s
   fitting ← pattern_fields pattern
   all ← answers
-  Ok (rule.When (record { node = node; pattern = fitting; answers = all }))
+  enter ← maybe_name next
+  Ok (rule.When (record { node = node; state = state; pattern = fitting; answers = all; enter = enter }))
 
 -- the fields before and after the first `answer`
 abbrev pub cut_at_answer : List (List ℕ) → Option (List (List ℕ) × List (List ℕ))
@@ -166,20 +191,65 @@ cut_at_answer (f ∷ fs) =
     if bytes_eq f (codes "answer") then Some ([], fs)
     else option_map (λ (p : List (List ℕ) × List (List ℕ)). (f ∷ p.0, p.1)) (cut_at_answer fs)
 
--- a node, a pattern of one field at least, and answers or `silent`
-abbrev pub when_by : Parts → List ℕ → List ℕ → List (List ℕ)
+-- the end of a rule, and of all rules of a node
+abbrev pub when_end : Parts → List ℕ → Option (List ℕ) → List (List ℕ) → Result Rule Reason
+when_end c n s pattern = do
+  node ← responder_field c n
+  state ← maybe_name s
+  fitting ← pattern_fields pattern
+  Ok (rule.End (end.When node state fitting))
+
+abbrev pub whens_end : Parts → List ℕ → Result Rule Reason
+whens_end c n = responder_field c n >>= (λ node. Ok (rule.End (end.WhensOf node)))
+
+-- `in` and a state at the beginning, and `enter` and a state at the end
+abbrev pub after_state : List (List ℕ) → Option (List ℕ) × List (List ℕ)
+after_state (word ∷ s ∷ fs) =
+    if bytes_eq word (codes "in") then (Some s, fs) else (None, word ∷ s ∷ fs)
+after_state fs = (None, fs)
+
+abbrev pub enter_from : List (List ℕ) → List (List ℕ) → List (List ℕ) × Option (List ℕ)
+enter_from fs (s ∷ word ∷ before) =
+    if bytes_eq word (codes "enter") then (reverse before, Some s) else (fs, None)
+enter_from fs backwards = (fs, None)
+
+abbrev pub before_enter : List (List ℕ) → List (List ℕ) × Option (List ℕ)
+before_enter fs = enter_from fs (reverse fs)
+
+-- `off` at the end, and no state is entered
+abbrev pub ends_rule : List ℕ → Option (List ℕ) → Bool
+ends_rule last None = bytes_eq last (codes "off")
+ends_rule last (Some s) = false
+
+-- a pattern of one field at least, and `silent`, or `off` alone
+abbrev pub unanswered : Parts → List ℕ → Option (List ℕ) → List (List ℕ) → Option (List ℕ)
+    → Result Rule Reason
+unanswered c n s fs next =
+    if nat_le (length fs) 1 then Err WhenForm
+    else if bytes_eq (last_field fs) (codes "silent")
+    then when_of c n s (fields_before fs) (answers_of None) next
+    else if ends_rule (last_field fs) next then when_end c n s (fields_before fs)
+    else Err WhenForm
+
+-- or answers
+abbrev pub when_by : Parts → List ℕ → Option (List ℕ) → List ℕ → List (List ℕ) → Option (List ℕ)
     → Option (List (List ℕ) × List (List ℕ))
     → Result Rule Reason
-when_by c n f fs (Some p) = when_of c n (f ∷ p.0) (answers_of (Some p.1))
-when_by c n f fs None =
-    if bytes_eq (last_field fs) (codes "silent")
-    then when_of c n (f ∷ fields_before fs) (answers_of None)
-    else Err WhenForm
+when_by c n s f fs next (Some p) = when_of c n s (f ∷ p.0) (answers_of (Some p.1)) next
+when_by c n s f fs next None = unanswered c n s (f ∷ fs) next
+
+abbrev pub when_entering : Parts → List ℕ → Option (List ℕ) → List (List ℕ) × Option (List ℕ)
+    → Result Rule Reason
+when_entering c n s ([], next) = Err WhenForm
+when_entering c n s (f ∷ fs, next) = when_by c n s f fs next (cut_at_answer fs)
+
+abbrev pub when_in : Parts → List ℕ → Option (List ℕ) × List (List ℕ) → Result Rule Reason
+when_in c n (s, fs) = when_entering c n s (before_enter fs)
 
 abbrev pub when_fields : Parts → List (List ℕ) → Result Rule Reason
 when_fields c [] = Err WhenForm
-when_fields c (n ∷ []) = Err WhenForm
-when_fields c (n ∷ f ∷ fs) = when_by c n f fs (cut_at_answer fs)
+when_fields c (n ∷ fs) =
+    if is_only (codes "off") fs then whens_end c n else when_in c n (after_state fs)
 
 unfoldable pub when_form : Parts → List (List ℕ) → Result Rule Reason
 when_form c fs = if is_only (codes "off") fs then Ok rule.WhenOff else when_fields c fs
@@ -219,8 +289,15 @@ every_fields c (n ∷ unit ∷ word ∷ fs) =
     if bytes_eq unit (codes "ms") then every_of c n word fs else Err EveryForm
 every_fields c fs = Err EveryForm
 
+-- the end of all of them, or of each with this step by this port
+abbrev pub every_off : Parts → List (List ℕ) → Result Rule Reason
+every_off c [] = Ok rule.EveryOff
+every_off c (word ∷ fs) = repeated_step c word fs >>= (λ s. Ok (rule.End (end.Every s.0 s.1)))
+
 unfoldable pub every_form : Parts → List (List ℕ) → Result Rule Reason
-every_form c fs = if is_only (codes "off") fs then Ok rule.EveryOff else every_fields c fs
+every_form c [] = Err EveryForm
+every_form c (f ∷ fs) =
+    if bytes_eq f (codes "off") then every_off c fs else every_fields c (f ∷ fs)
 
 -- ---- `response_errors`
 -- a signal of more than one bit is a status of its own, such as that of SAE J2602: which of its
@@ -252,3 +329,14 @@ services_form c fs =
     if is_only (codes "on") fs then services_on c
     else if is_only (codes "off") fs then Ok (rule.Services false)
     else Err ServicesForm
+
+-- ---- `state`: a responder enters a state
+abbrev pub state_of_node : Parts → List ℕ → List ℕ → Result Rule Reason
+state_of_node c n f = do
+  node ← responder_field c n
+  name ← name_field f
+  Ok (rule.State node name)
+
+unfoldable pub state_form : Parts → List (List ℕ) → Result Rule Reason
+state_form c (n ∷ f ∷ []) = state_of_node c n f
+state_form c fs = Err StateForm

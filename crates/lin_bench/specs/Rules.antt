@@ -1,22 +1,34 @@
 -- Rules of bench scripts: which messages a responder answers by itself, and with what. A rule is in
 -- force for the lines after its own.
-use Rattle.std.specs.Prelude.{ℕ, ◌==◌, ◌+◌, ◌*◌, ◌&&◌, Bool, true, false, not, nat_le, if◌then◌else◌}
-use Rattle.std.specs.Prelude.{List, [], ◌∷◌, ◌++◌, drop, filter, find, length, slice_get, slice_index}
-use Rattle.std.specs.Prelude.{take, zip, Option, Some, None, option_and_then, option_map}
-use Rattle.std.specs.List.{list_all}
-use Rattle.std.specs.Cmp.Lexicographic.{pointwise}
+use Rattle.std.specs.Prelude.{ℕ, ◌==◌, ◌+◌, ◌*◌, ◌&&◌, ◌||◌, Bool, true, false, not, nat_le, if◌then◌else◌}
+use Rattle.std.specs.Prelude.{List, [], ◌∷◌, ◌++◌, drop, filter, find, length, map, slice_get, slice_index}
+use Rattle.std.specs.Prelude.{codes, take, zip, Option, Some, None, option_and_then, option_map}
+use Rattle.std.specs.List.{list_all, list_any}
+use Rattle.std.specs.Cmp.Lexicographic.{pointwise, slice_cmp}
 use Rattle.std.specs.Option.{option_map_or}
+use Rattle.std.specs.Ordering.{is_lt, nat_cmp}
+use Rattle.std.specs.Str.{bytes_eq}
+use Rattle.lin_frame.specs.declared.value.Value.{Value}
+use Rattle.lin_frame.specs.declared.value.Value.TheVariants.{Scalar, Bytes}
 use Rattle.lin_parts.specs.Cluster.{nad, response_of}
 use Rattle.lin_parts.specs.declared.parts.Parts.{Parts}
 use Rattle.lin_core.specs.declared.event.Event.{Event}
 use Rattle.lin_core.specs.declared.event.Event.TheVariants.{Message}
+use Rattle.lin_core.specs.declared.port.PortId.{PortId}
+use Rattle.lin_core.specs.declared.port.PortId.TheVariants.{Bus, Host, Node}
+use Rattle.lin_core.specs.declared.step.Step.{Step}
+use Rattle.lin_core.specs.declared.step.Step.TheVariants.{Send, Write}
 use Rattle.lin_bench.specs.declared.rules.RuleAnswer.{RuleAnswer}
 use Rattle.lin_bench.specs.declared.rules.Noted.{Noted}
+use Rattle.lin_bench.specs.declared.rules.NodeState.{NodeState}
 use Rattle.lin_bench.specs.declared.rules.Part.{Part}
 use Rattle.lin_bench.specs.declared.rules.Part.TheVariants.{Byte, Copied}
 use Rattle.lin_log.specs.declared.pattern.Pattern.{Pattern}
+use Rattle.lin_bench.specs.declared.rules.Repeated.{Repeated}
 use Rattle.lin_bench.specs.declared.rules.Rule.{Rule}
 use Rattle.lin_bench.specs.declared.rules.Rule.TheVariants as rule
+use Rattle.lin_bench.specs.declared.rules.RuleEnd.{RuleEnd}
+use Rattle.lin_bench.specs.declared.rules.RuleEnd.TheVariants as end
 use Rattle.lin_bench.specs.declared.rules.Rules.{Rules}
 use Rattle.lin_bench.specs.declared.rules.When.{When}
 
@@ -28,6 +40,7 @@ no_rules = record {
   everies = [];
   errors = false;
   services = false;
+  states = [];
   noted = [];
   faults = [];
 }
@@ -47,9 +60,74 @@ fits p message =
     has_length p (length message)
     && list_all (λ (x : Option ℕ × ℕ). fits_byte x.0 x.1) (zip p.bytes message)
 
--- the rule of a node for a message: the first one that fits
-abbrev pub rule_for : List When → ℕ → List ℕ → Option When
-rule_for whens node message = find (λ w. w.node == node && fits w.pattern message) whens
+-- ---- states: names, at first `default`. Those that aren't are kept, each node's once
+abbrev pub default_state : List ℕ
+default_state = codes "default"
+
+abbrev pub is_state_of : ℕ → NodeState → Bool
+is_state_of node s = s.node == node
+
+abbrev pub state_of : List NodeState → ℕ → List ℕ
+state_of states node = option_map_or (λ s. s.name) (find (is_state_of node) states) default_state
+
+-- the states after a node entered one
+abbrev pub with_state : List NodeState → ℕ → List ℕ → List NodeState
+with_state states node name =
+    filter (λ s. not (is_state_of node s)) states
+    ++ (if bytes_eq name default_state then [] else record { node = node; name = name } ∷ [])
+
+-- a rule is for one state, or for every state
+abbrev pub is_for_state : Option (List ℕ) → List ℕ → Bool
+is_for_state None state = true
+is_for_state (Some name) state = bytes_eq name state
+
+-- ---- the rule that applies
+-- how specific a rule is: one for a state goes before one for every state. Then its pattern is compared,
+-- place by place from the left: a byte is more specific than any byte, any byte more than the end of a
+-- pattern with `*`, and the end of one without `*` more than that of one with it
+abbrev pub state_rank : Option (List ℕ) → ℕ
+state_rank None = 0
+state_rank (Some name) = 1
+
+abbrev pub byte_rank : Option ℕ → ℕ
+byte_rank None = 2
+byte_rank (Some b) = 3
+
+abbrev pub end_rank : Bool → ℕ
+end_rank true = 0
+end_rank false = 1
+
+abbrev pub ranks : Pattern → List ℕ
+ranks p = map byte_rank p.bytes ++ end_rank p.more ∷ []
+
+abbrev pub rank : When → List ℕ
+rank w = state_rank w.state ∷ ranks w.pattern
+
+-- the place of a pattern with this number, from 0; the end stands behind the bytes
+abbrev pub rank_at : Pattern → ℕ → ℕ
+rank_at p i = option_map_or byte_rank (slice_get p.bytes i) (end_rank p.more)
+
+-- the first place where two differ decides which one is less specific
+abbrev pub is_below_pattern : Pattern → Pattern → Bool
+is_below_pattern p q = is_lt (slice_cmp nat_cmp (ranks p) (ranks q))
+
+abbrev pub is_below : When → When → Bool
+is_below v w = is_lt (slice_cmp nat_cmp (rank v) (rank w))
+
+abbrev pub more_specific : When → When → When
+more_specific v w = if is_below v w then w else v
+
+abbrev pub most_specific : List When → Option When
+most_specific [] = None
+most_specific (w ∷ ws) = Some (option_map_or (more_specific w) (most_specific ws) w)
+
+-- the rule of a node in a state for a message: of those that match, the most specific one
+abbrev pub is_rule_for : ℕ → List ℕ → List ℕ → When → Bool
+is_rule_for node state message w =
+    w.node == node && is_for_state w.state state && fits w.pattern message
+
+abbrev pub rule_for : List When → ℕ → List ℕ → List ℕ → Option When
+rule_for whens node state message = most_specific (filter (is_rule_for node state message) whens)
 
 -- ---- answers
 abbrev pub part_byte : List ℕ → Part → Option ℕ
@@ -112,17 +190,6 @@ abbrev pub service_notes : Option Parts → ℕ → ℕ → List ℕ → List No
 service_notes None time node message = []
 service_notes (Some c) time node message = note_of time node (service_answer c node message)
 
--- what is noted of an event at a time: the answers to a message from host 0, by the rule for it, failing
--- that by the node itself
-abbrev pub notes_for : Option Parts → List When → ℕ → Event → List Noted
-notes_for served whens time (Message from to message) =
-    if from == 0
-    then option_map_or
-    (λ w. noted_answers time to message w.answers) (rule_for whens to message)
-    (service_notes served time to message)
-    else []
-notes_for served whens time event = []
-
 -- noted answers stand by their time, and those of one time as they were noted
 abbrev pub noted_with : List Noted → Noted → List Noted
 noted_with [] n = n ∷ []
@@ -131,6 +198,38 @@ noted_with (m ∷ ms) n = if nat_le m.time n.time then m ∷ noted_with ms n els
 abbrev pub all_noted : List Noted → List Noted → List Noted
 all_noted noted [] = noted
 all_noted noted (n ∷ ns) = all_noted (noted_with noted n) ns
+
+-- ---- what an event of a finish at a time changes: a message from host 0 is answered by the rule for it,
+-- and its responder enters the state that the rule names; if no rule is for it, the responder answers by
+-- itself. A message to all responders isn't answered
+abbrev pub entered : List NodeState → ℕ → Option (List ℕ) → List NodeState
+entered states node None = states
+entered states node (Some name) = with_state states node name
+
+abbrev pub answered : Bool → List Noted → List Noted → List Noted
+answered is_to_all noted more = if is_to_all then noted else all_noted noted more
+
+abbrev pub reacted : Option Parts → Bool → ℕ → Rules → ℕ → List ℕ → Option When → Rules
+reacted served is_to_all time rules node message None =
+    record rules { noted = answered is_to_all rules.noted (service_notes served time node message) }
+reacted served is_to_all time rules node message (Some w) = record rules {
+  states = entered rules.states node w.enter;
+  noted = answered is_to_all rules.noted (noted_answers time node message w.answers);
+}
+
+abbrev pub after_event : Option Parts → Bool → ℕ → Rules → Event → Rules
+after_event served is_to_all time rules (Message from to message) =
+    if from == 0
+    then reacted served is_to_all time rules to message
+    (rule_for rules.whens to (state_of rules.states to) message)
+    else rules
+after_event served is_to_all time rules event = rules
+
+-- and what all events change, each on what those before it left
+abbrev pub after_events : Option Parts → Bool → ℕ → Rules → List Event → Rules
+after_events served is_to_all time rules [] = rules
+after_events served is_to_all time rules (e ∷ es) =
+    after_events served is_to_all time (after_event served is_to_all time rules e) es
 
 -- those that go at a time, and those that are still to come
 abbrev pub is_due_at : ℕ → Noted → Bool
@@ -153,13 +252,69 @@ abbrev pub same_pattern : Pattern → Pattern → Bool
 same_pattern p q =
     (if p.more then q.more else not q.more) && pointwise same_byte p.bytes q.bytes
 
--- a rule with the node and the pattern of an earlier one takes its place
+abbrev pub same_state : Option (List ℕ) → Option (List ℕ) → Bool
+same_state None None = true
+same_state None (Some b) = false
+same_state (Some a) None = false
+same_state (Some a) (Some b) = bytes_eq a b
+
+-- two rules are for the same node, state and pattern
+abbrev pub same_rule : When → When → Bool
+same_rule w v =
+    v.node == w.node && same_state v.state w.state && same_pattern v.pattern w.pattern
+
+-- a rule with the node, the state and the pattern of an earlier one takes its place
 abbrev pub whens_with : List When → When → List When
 whens_with [] w = w ∷ []
-whens_with (v ∷ vs) w =
-    if v.node == w.node && same_pattern v.pattern w.pattern then w ∷ vs else v ∷ whens_with vs w
+whens_with (v ∷ vs) w = if same_rule w v then w ∷ vs else v ∷ whens_with vs w
 
--- the rules after a line that is made at a time. What is noted stays
+-- ---- the end of single rules: the rule of a node for a state and a pattern, all rules of a node, or each
+-- step that is repeated by this port
+abbrev pub same_port : PortId → PortId → Bool
+same_port Bus Bus = true
+same_port (Host m) (Host n) = m == n
+same_port (Node m) (Node n) = m == n
+same_port by other = false
+
+abbrev pub same_value : Value → Value → Bool
+same_value (Scalar a) (Scalar b) = a == b
+same_value (Scalar a) (Bytes b) = false
+same_value (Bytes a) (Scalar b) = false
+same_value (Bytes a) (Bytes b) = bytes_eq a b
+
+abbrev pub is_send : ℕ → ℕ → List ℕ → Step → Bool
+is_send from to message (Send f t m) = from == f && to == t && bytes_eq message m
+is_send from to message other = false
+
+abbrev pub is_write : ℕ → ℕ → Value → Step → Bool
+is_write node signal value (Write n s v) = node == n && signal == s && same_value value v
+is_write node signal value other = false
+
+abbrev pub same_step : Step → Step → Bool
+same_step (Send from to message) other = is_send from to message other
+same_step (Write node signal value) other = is_write node signal value other
+same_step step other = false
+
+abbrev pub is_ended_when : RuleEnd → When → Bool
+is_ended_when (end.When node state pattern) w =
+    w.node == node && same_state w.state state && same_pattern w.pattern pattern
+is_ended_when (end.WhensOf node) w = w.node == node
+is_ended_when (end.Every by step) w = false
+
+abbrev pub is_ended_every : RuleEnd → Repeated → Bool
+is_ended_every (end.Every by step) r = same_port r.every.by by && same_step r.every.step step
+is_ended_every ending r = false
+
+abbrev pub has_rule : Rules → RuleEnd → Bool
+has_rule rules e = list_any (is_ended_when e) rules.whens || list_any (is_ended_every e) rules.everies
+
+abbrev pub without_rule : Rules → RuleEnd → Rules
+without_rule rules e = record rules {
+  whens = filter (λ w. not (is_ended_when e w)) rules.whens;
+  everies = filter (λ r. not (is_ended_every e r)) rules.everies;
+}
+
+-- the rules after a line that is made at a time. What is noted stays, and so do states
 unfoldable pub ruled : ℕ → Rules → Rule → Rules
 ruled time rules (rule.When w) = record rules { whens = whens_with rules.whens w }
 ruled time rules rule.WhenOff = record rules { whens = [] }
@@ -170,3 +325,6 @@ ruled time rules (rule.Every every) =
 ruled time rules rule.EveryOff = record rules { everies = [] }
 ruled time rules (rule.Errors on) = record rules { errors = on }
 ruled time rules (rule.Services on) = record rules { services = on }
+ruled time rules (rule.End e) = without_rule rules e
+ruled time rules (rule.State node name) =
+    record rules { states = with_state rules.states node name }

@@ -1,14 +1,19 @@
 -- The rules in force as the lines that make them.
-use Rattle.std.specs.Prelude.{ℕ, ◌==◌, Bool, if◌then◌else◌, List, [], ◌∷◌, ◌++◌, codes, flat_map, map, Option, Some, None}
+use Rattle.std.specs.Prelude.{ℕ, ◌==◌, Bool, if◌then◌else◌, List, [], ◌∷◌, ◌++◌, codes, find, flat_map, map, Option, Some, None}
+use Rattle.std.specs.Option.{option_map_or}
 use Rattle.std.specs.Fmt.{decimal}
 use Rattle.hex.specs.Hex.{encode_upper}
+use Rattle.lin_frame.specs.Words.{numbers}
+use Rattle.lin_parts.specs.Cluster.{nodes}
 use Rattle.lin_parts.specs.declared.parts.Parts.{Parts}
 use Rattle.lin_core.specs.declared.port.PortId.{PortId}
 use Rattle.lin_core.specs.declared.port.PortId.TheVariants.{Bus}
 use Rattle.lin_log.specs.Language.{named_language}
 use Rattle.lin_log.specs.Words.{pattern_word, spaced_word, step_words, word_text}
 use Rattle.lin_log.specs.Words.Word.{Node, Port}
+use Rattle.lin_bench.specs.Rules.{is_state_of}
 use Rattle.lin_bench.specs.declared.rules.Every.{Every}
+use Rattle.lin_bench.specs.declared.rules.NodeState.{NodeState}
 use Rattle.lin_bench.specs.declared.rules.Part.{Part}
 use Rattle.lin_bench.specs.declared.rules.Part.TheVariants.{Byte, Copied}
 use Rattle.lin_bench.specs.declared.rules.RuleAnswer.{RuleAnswer}
@@ -49,11 +54,18 @@ abbrev pub answers_text : List RuleAnswer → List ℕ
 answers_text [] = codes " silent"
 answers_text (a ∷ more) = codes " answer" ++ (answer_text a ++ flat_map further_answer_text more)
 
+-- a state, after a word
+abbrev pub name_text : List ℕ → Option (List ℕ) → List ℕ
+name_text word None = []
+name_text word (Some name) = word ++ name
+
 abbrev pub when_line : Parts → When → List ℕ
 when_line c w =
     codes "when"
     ++ (spaced_word (word_text (named_language c) (Node w.node))
-    ++ (spaced_word (pattern_word w.pattern) ++ answers_text w.answers))
+    ++ (name_text (codes " in ") w.state
+    ++ (spaced_word (pattern_word w.pattern)
+    ++ (answers_text w.answers ++ name_text (codes " enter ") w.enter))))
 
 -- ---- `every`: the bus makes the step if no port stands before it
 abbrev pub port_text : Parts → PortId → List ℕ
@@ -65,6 +77,17 @@ every_line c e =
     time_text (codes "every ") e.period_ms
     ++ (port_text c e.by ++ flat_map spaced_word (map (word_text (named_language c)) (step_words e.step)))
 
+-- ---- `state`: those that aren't `default`, by rising node
+abbrev pub state_line : Parts → NodeState → List ℕ
+state_line c s =
+    codes "state" ++ (spaced_word (word_text (named_language c) (Node s.node)) ++ spaced_word s.name)
+
+abbrev pub state_lines_of : Parts → List NodeState → ℕ → List (List ℕ)
+state_lines_of c states n = option_map_or (λ s. state_line c s ∷ []) (find (is_state_of n) states) []
+
+abbrev pub state_lines : Parts → List NodeState → List (List ℕ)
+state_lines c states = flat_map (state_lines_of c states) (numbers (nodes c))
+
 -- ---- all of them
 -- the line of a rule, as code has it
 abbrev pub rule_line : Parts → RuleLine → List ℕ
@@ -72,6 +95,7 @@ rule_line c (code.When w) = when_line c w.now
 rule_line c (code.Timeouts ms) = time_text (codes "timeouts ") ms
 rule_line c (code.Switch line) = line.now
 rule_line c (code.Every e) = every_line c e.now
+rule_line c (code.State s) = state_line c s.now
 
 abbrev pub timeouts_lines : Option ℕ → List (List ℕ)
 timeouts_lines None = []
@@ -87,5 +111,6 @@ switch_lines r =
 
 abbrev pub lines_of_rules : Parts → Rules → List (List ℕ)
 lines_of_rules c r =
-    ((map (when_line c) r.whens ++ timeouts_lines r.limit_ms) ++ switch_lines r)
-    ++ map (λ repeated. every_line c repeated.every) r.everies
+    (((map (when_line c) r.whens ++ timeouts_lines r.limit_ms) ++ switch_lines r)
+    ++ map (λ repeated. every_line c repeated.every) r.everies)
+    ++ state_lines c r.states

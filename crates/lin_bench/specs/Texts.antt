@@ -5,11 +5,15 @@ use Rattle.std.specs.Fmt.{decimal}
 use Rattle.std.specs.Option.{option_map_or}
 use Rattle.lin_parts.specs.declared.parts.Parts.{Parts}
 use Rattle.lin_core.specs.Tables.{cause_word, look_word, refusal_word}
+use Rattle.lin_core.specs.declared.port.PortId.{PortId}
+use Rattle.lin_core.specs.declared.port.PortId.TheVariants.{Bus}
+use Rattle.lin_core.specs.declared.step.Step.{Step}
 use Rattle.lin_log.specs.Language.{named_language, plain}
-use Rattle.lin_log.specs.Words.{Word, spaced_word, word_text}
-use Rattle.lin_log.specs.Words.Word.{Node, Signal, Table, Frame, Number, Range}
+use Rattle.lin_log.specs.Words.{Word, spaced_word, step_words, word_text}
+use Rattle.lin_log.specs.Words.Word.{Port, Node, Signal, Table, Frame, Number, Range}
 use Rattle.lin_log.specs.Words.Word.{Hex, Matching, Raw, Fixed, Said, Fields}
 use Rattle.lin_log.specs.Words.Word.{Listed, Mark}
+use Rattle.lin_log.specs.declared.pattern.Pattern.{Pattern}
 use Rattle.lin_log.specs.declared.reason.Reason.{Reason as StepReason}
 use Rattle.lin_log.specs.declared.reason.Reason.TheVariants as step
 use Rattle.lin_bench.specs.LineWords.{words_text}
@@ -28,6 +32,8 @@ use Rattle.lin_bench.specs.declared.got.Pending.TheVariants.{MessagesWait, Answe
 use Rattle.lin_bench.specs.declared.got.Judged.{Judged}
 use Rattle.lin_bench.specs.declared.got.Judged.TheVariants as judged
 use Rattle.lin_bench.specs.declared.got.Judgement.{Judgement}
+use Rattle.lin_bench.specs.declared.rules.RuleEnd.{RuleEnd}
+use Rattle.lin_bench.specs.declared.rules.RuleEnd.TheVariants as end
 use Rattle.lin_bench.specs.Played.{is_unmet}
 
 abbrev pub fields_word : ℕ → List ℕ
@@ -112,7 +118,9 @@ reason_words reason.WhileForm = Fixed (codes "missing expectation after while") 
 reason_words (reason.UnknownWhile fields) =
     Fixed (codes "while doesn't accept") ∷ Fields fields ∷ []
 reason_words reason.WhenForm =
-    Fixed (codes "usage: when NODE PATTERN answer BYTES or when NODE PATTERN silent") ∷ []
+    Fixed (codes "usage: when NODE PATTERN answer BYTES, when NODE PATTERN silent or when NODE PATTERN off") ∷ []
+reason_words reason.StateForm = Fixed (codes "usage: state NODE NAME") ∷ []
+reason_words (reason.NoName field) = Fixed (codes "expected a name, not") ∷ Said field ∷ []
 reason_words (reason.NoResponder field) =
     Said field ∷ Fixed (codes "isn't a responder with a NAD") ∷ []
 reason_words (reason.NoMessages from to) =
@@ -122,7 +130,7 @@ reason_words (reason.NotItsSignal node signal) =
 reason_words (reason.NoPattern fields) = Fields fields ∷ Fixed (codes "isn't a pattern") ∷ []
 reason_words reason.LongAnswer = Fixed (codes "answer has more than 4095 bytes") ∷ []
 reason_words reason.TimeoutsForm = Fixed (codes "usage: timeouts N ms or timeouts off") ∷ []
-reason_words reason.EveryForm = Fixed (codes "usage: every N ms STEP or every off") ∷ []
+reason_words reason.EveryForm = Fixed (codes "usage: every N ms STEP, every off STEP or every off") ∷ []
 reason_words reason.EveryStep = Fixed (codes "every accepts only send and write") ∷ []
 reason_words reason.ServicesForm = Fixed (codes "usage: services on or services off") ∷ []
 reason_words reason.NoServices = Fixed (codes "no responder answers services") ∷ []
@@ -158,6 +166,23 @@ abbrev pub since_word : Since → List ℕ
 since_word Request = codes "ms"
 since_word Last = codes "ms of last"
 
+-- the line that ends rules; no port stands in it where the bus makes the step
+abbrev pub repeated_words : PortId → Step → List Word
+repeated_words Bus s = Fixed (codes "every off") ∷ step_words s
+repeated_words by s = Fixed (codes "every off") ∷ Port by ∷ step_words s
+
+abbrev pub when_end_words : ℕ → Option (List ℕ) → Pattern → List Word
+when_end_words node None pattern =
+    Fixed (codes "when") ∷ Node node ∷ Matching pattern ∷ Fixed (codes "off") ∷ []
+when_end_words node (Some state) pattern =
+    Fixed (codes "when") ∷ Node node ∷ Fixed (codes "in") ∷ Said state ∷ Matching pattern
+    ∷ Fixed (codes "off") ∷ []
+
+abbrev pub end_words : RuleEnd → List Word
+end_words (end.When node state pattern) = when_end_words node state pattern
+end_words (end.WhensOf node) = Fixed (codes "when") ∷ Node node ∷ Fixed (codes "off") ∷ []
+end_words (end.Every by s) = repeated_words by s
+
 -- what is expected
 abbrev pub expected_words : Expected → List Word
 expected_words (expected.Signal node signal value) =
@@ -192,6 +217,7 @@ expected_words (expected.Refused why) = Fixed (codes "refused") ∷ Fixed (refus
 expected_words expected.Asleep = Fixed (codes "asleep") ∷ []
 expected_words expected.Awake = Fixed (codes "awake") ∷ []
 expected_words expected.Idle = Fixed (codes "idle") ∷ []
+expected_words (expected.HasRule e) = end_words e
 
 abbrev pub expected_text : Parts → Expected → List ℕ
 expected_text c what = cluster_text c (expected_words what)
@@ -238,6 +264,7 @@ short_words got.NoStep = Fixed (codes "no step") ∷ []
 short_words got.Asleep = Fixed (codes "asleep") ∷ []
 short_words got.Awake = Fixed (codes "awake") ∷ []
 short_words (got.StillPending all) = []
+short_words got.NoRule = Fixed (codes "no such rule") ∷ []
 short_words got.NoNode = Fixed (codes "no such node") ∷ []
 short_words got.NoNodeOrSignal = Fixed (codes "no such node or signal") ∷ []
 

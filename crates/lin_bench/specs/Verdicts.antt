@@ -5,7 +5,6 @@ use Rattle.std.specs.Prelude.{◌∷◌, ◌++◌, filter, length, slice_get, Op
 use Rattle.std.specs.Prelude.{find, map, option_map, reverse, take, slice_index, ◌*◌, ◌-◌}
 use Rattle.std.specs.List.{filter_map, list_any}
 use Rattle.std.specs.Option.{option_map_or}
-use Rattle.std.specs.Str.{bytes_eq}
 use Rattle.lin_frame.specs.declared.value.Value.{Value}
 use Rattle.lin_frame.specs.declared.value.Value.TheVariants.{Scalar, Bytes}
 use Rattle.lin_parts.specs.Cluster.{line_of, nodes}
@@ -30,6 +29,7 @@ use Rattle.lin_core.specs.declared.reply.Reply.{Reply}
 use Rattle.lin_core.specs.declared.reply.Reply.TheVariants.{Done, Refused}
 use Rattle.lin_log.specs.LastFinish.{before_last_finish}
 use Rattle.lin_bench.specs.Meant.{is_among_values}
+pub use Rattle.lin_bench.specs.Rules.{same_value}
 use Rattle.lin_bench.specs.Rules.{fits}
 use Rattle.lin_bench.specs.Slots.{pending}
 use Rattle.lin_log.specs.declared.line_words.Carried.{Carried}
@@ -45,12 +45,6 @@ use Rattle.lin_bench.specs.declared.rules.Noted.{Noted}
 use Rattle.lin_log.specs.declared.pattern.Pattern.{Pattern}
 use Rattle.lin_bench.specs.declared.taken.EventKind.{EventKind}
 use Rattle.lin_bench.specs.declared.taken.EventKind.TheVariants.{Messages, Fates, Ends, Begins}
-
-abbrev pub same_value : Value → Value → Bool
-same_value (Scalar a) (Scalar b) = a == b
-same_value (Scalar a) (Bytes b) = false
-same_value (Bytes a) (Scalar b) = false
-same_value (Bytes a) (Bytes b) = bytes_eq a b
 
 -- ---- events that expectations speak of: messages from one host to another, what became of a
 -- host's messages, how slots were seen, and which slots began
@@ -295,7 +289,8 @@ refused_verdict why (Some (Refused r)) =
 abbrev pub idle_verdict : List Pending → Option Got
 idle_verdict all = got_unless (length all == 0) (got.StillPending all)
 
--- given also the table that the schedule opened with, and the answers that are noted
+-- given also the table that the schedule opened with, and the answers that are noted. (That there is a rule is
+-- judged by the line that ends it, and told only where there is none)
 unfoldable pub verdict : Parts → ℕ → List LogEntry → List Noted → List EventKind → Expected
     → Option Got
 verdict c opening past noted taken (expected.Signal node signal value) =
@@ -327,3 +322,4 @@ verdict c opening past noted taken (expected.Refused why) = refused_verdict why 
 verdict c opening past noted taken expected.Asleep = got_unless (asleep past) got.Awake
 verdict c opening past noted taken expected.Awake = if asleep past then Some got.Asleep else None
 verdict c opening past noted taken expected.Idle = idle_verdict (pending c past noted)
+verdict c opening past noted taken (expected.HasRule e) = Some got.NoRule

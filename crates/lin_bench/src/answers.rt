@@ -1,17 +1,20 @@
 //! What rules answer to messages.
 
-ghost use Rattle.std.specs.Prelude.{◌≡◌, ◌==◌, ◌<◌, ◌≤◌, ◌^◌, ◌&&◌, ℕ, flat_map, length};
+ghost use Rattle.std.specs.Prelude.{◌≡◌, ◌==◌, ◌<◌, ◌≤◌, ◌^◌, ◌&&◌, ℕ, length};
 ghost use Rattle.std.specs.Prelude.{IfOk, IfSome, OnOk, find, Option, option_map, position, zip};
 ghost use Rattle.std.specs.Cmp.Lexicographic.{pointwise};
 ghost use Rattle.std.specs.List.{list_all};
-ghost use Rattle.std.specs.Option.{option_copied};
+ghost use Rattle.std.specs.Option.{option_copied, option_map_or};
 ghost use Rattle.lin_parts.specs.Cluster.{nodes};
 ghost use Rattle.lin_bench.specs.Rules.{all_noted, answer_bytes, fits, fits_byte, has_length, noted_with, noted_answers};
-ghost use Rattle.lin_bench.specs.Rules.{notes_for, part_byte, rule_for, same_byte, same_pattern};
+ghost use Rattle.lin_bench.specs.Rules.{is_below, is_rule_for, more_specific, rank_at, rule_for};
+ghost use Rattle.lin_bench.specs.Rules.{after_event, after_events, answered, entered, is_below_pattern};
+ghost use Rattle.lin_bench.specs.Rules.{part_byte, reacted, same_byte, same_pattern, same_rule, state_of};
 ghost use Rattle.lin_bench.specs.Rules.{data_by, request_byte, request_of, service_answer};
 ghost use Rattle.lin_bench.specs.Rules.{service_data, service_notes, whens_with};
 
-use crate::rules::{Noted, Part, RuleAnswer, When};
+use crate::rules::{NodeState, Noted, Part, RuleAnswer, Rules, When};
+use crate::states::{enter, is_for_state, same_state, state_of};
 use lin_core::{Event, Payload};
 use lin_log::Pattern;
 use lin_parts::{Cluster, Identity};
@@ -55,13 +58,72 @@ pub(crate) fn fits(pattern: &Pattern, message: &[u8]) -> bool
     has_length(pattern, message.len()) && fits_bytes(pattern.bytes.as_slice(), message)
 }
 
-/// The first rule of a node that is for a message.
-fn rule_for<'r>(whens: &'r [When], node: u8, message: &[u8]) -> Option<&'r When>
-    ensures { option_map (λ w. w.now) result ≡ rule_for whens.now node message.now }
+/// How specific a pattern is at a place, from 0: 3 stands for a byte, 2 for any byte, and after these 1
+/// for the end, or 0 if more bytes may follow.
+fn rank_at(pattern: &Pattern, place: usize) -> u8
+    ensures { result ≡ rank_at pattern.now place }
 {
-    whens
-        .iter()
-        .find(|when| when.node == node && fits(&when.pattern, message))
+    match pattern.bytes.as_slice().get(place) {
+        Some(Some(_)) => 3,
+        Some(None) => 2,
+        None => if pattern.more { 0 } else { 1 },
+    }
+}
+
+/// Whether a pattern is less specific than another one at the first place where they differ.
+fn is_below_pattern(pattern: &Pattern, other: &Pattern) -> bool
+    ensures { result ≡ is_below_pattern pattern.now other.now }
+{
+    let end = pattern.bytes.as_slice().len();
+    let mut place = 0;
+    while place < end && rank_at(pattern, place) == rank_at(other, place) {
+        place += 1;
+    }
+    rank_at(pattern, place) < rank_at(other, place)
+}
+
+/// Whether a rule is less specific than another one: a rule for every state is less specific than one for
+/// a state, and otherwise their patterns decide.
+fn is_below(when: &When, other: &When) -> bool
+    ensures { result ≡ is_below when.now other.now }
+{
+    match (&when.state, &other.state) {
+        (None, Some(_)) => true,
+        (Some(_), None) => false,
+        _ => is_below_pattern(&when.pattern, &other.pattern),
+    }
+}
+
+/// The more specific one of a rule and another one, if there is another one.
+fn more_specific<'r>(when: &'r When, other: Option<&'r When>) -> &'r When
+    ensures { result.now ≡ option_map_or (λ o. more_specific when.now o.now) other.entry when.now }
+{
+    match other {
+        Some(other) if is_below(when, other) => other,
+        _ => when,
+    }
+}
+
+/// Whether a rule is one of a node in a state, and matches a message.
+fn is_rule_for(when: &When, node: u8, state: &[u8], message: &[u8]) -> bool
+    ensures { result ≡ is_rule_for node state.now message.now when.now }
+{
+    when.node == node && is_for_state(&when.state, state) && fits(&when.pattern, message)
+}
+
+/// The rule of a node in a state for a message: of those that match, the most specific one.
+fn rule_for<'r>(whens: &'r [When], node: u8, state: &[u8], message: &[u8]) -> Option<&'r When>
+    ensures { option_map (λ w. w.now) result ≡ rule_for whens.now node state.now message.now }
+{
+    let mut best = None;
+    let mut index = whens.len();
+    while index > 0 {
+        index -= 1;
+        if is_rule_for(&whens[index], node, state, message) {
+            best = Some(more_specific(&whens[index], best));
+        }
+    }
+    best
 }
 
 fn part_byte(message: &[u8], part: Part) -> Option<u8>
@@ -244,48 +306,110 @@ fn note_service(
     Ok(())
 }
 
-/// Notes what is answered to an event.
-fn note_event(
+/// Where and when a message arrived that may be answered.
+#[derive(Clone, Copy)]
+struct Arrival<'a> {
+    /// The cluster, if its responders answer messages that ask for a service.
+    served: Option<&'a Cluster>,
+    /// Whether the message went to all responders.
+    to_all: bool,
+    time: u64,
+    node: u8,
+    message: &'a [u8],
+}
+
+/// Notes what a rule answers to a message, unless it went to all responders; its responder enters the
+/// state that the rule names.
+fn apply(
     alloc: Global,
+    when: &When,
+    states: &mut Many<NodeState>,
     noted: &mut Many<Noted>,
-    whens: &[When],
+    at: Arrival<'_>,
+) -> Result<(), AllocError>
+    ensures states { OnOk result (states.new ≡ entered states.old at.entry.node when.now.enter) }
+    ensures noted { OnOk result (noted.new ≡ answered at.entry.to_all noted.old
+        (noted_answers at.entry.time at.entry.node at.entry.message.now when.now.answers)) }
+{
+    enter(alloc, states, at.node, &when.enter)?;
+    if at.to_all {
+        return Ok(());
+    }
+    let answers = when.answers.as_slice();
+    note_answers(
+        alloc,
+        noted,
+        u128::from(at.time),
+        at.node,
+        at.message,
+        answers,
+    )
+}
+
+/// Changes what a message changes that arrived at a responder.
+fn react(alloc: Global, rules: &mut Rules, at: Arrival<'_>) -> Result<(), AllocError>
+    ensures { OnOk result (rules.new ≡ reacted (option_copied at.entry.served) at.entry.to_all
+        at.entry.time rules.old at.entry.node at.entry.message.now
+        (rule_for rules.old.whens at.entry.node (state_of rules.old.states at.entry.node)
+        at.entry.message.now)) }
+{
+    let whens = rules.whens.as_slice();
+    let state = state_of(rules.states.as_slice(), at.node);
+    match rule_for(whens, at.node, state, at.message) {
+        Some(when) => apply(alloc, when, &mut rules.states, &mut rules.noted, at),
+        None if at.to_all => Ok(()),
+        None => note_service(
+            alloc,
+            &mut rules.noted,
+            at.served,
+            at.time,
+            at.node,
+            at.message,
+        ),
+    }
+}
+
+/// Changes what an event changes.
+fn react_to_event(
+    alloc: Global,
+    rules: &mut Rules,
     served: Option<&Cluster>,
+    to_all: bool,
     time: u64,
     event: &Event,
 ) -> Result<(), AllocError>
-    ensures { OnOk result (noted.new ≡ all_noted noted.old
-        (notes_for (option_copied served.entry) whens.now time event.now)) }
+    ensures { OnOk result (rules.new ≡ after_event (option_copied served.entry) to_all time rules.old event.now) }
 {
     match event {
-        Event::Message { from, to, bytes } if *from == 0 => {
-            let message = bytes.as_slice();
-            match rule_for(whens, *to, message) {
-                None => note_service(alloc, noted, served, time, *to, message),
-                Some(when) => {
-                    let answers = when.answers.as_slice();
-                    note_answers(alloc, noted, u128::from(time), *to, message, answers)
-                }
-            }
-        }
+        Event::Message { from, to, bytes } if *from == 0 => react(
+            alloc,
+            rules,
+            Arrival {
+                served,
+                to_all,
+                time,
+                node: *to,
+                message: bytes.as_slice(),
+            },
+        ),
         _ => Ok(()),
     }
 }
 
-/// Notes what is answered to events.
-pub(crate) fn note_events(
+/// Changes what the events of a finish change, each on what those before it left: messages are answered,
+/// unless they went to all responders, and responders enter states.
+pub(crate) fn react_to_events(
     alloc: Global,
-    noted: &mut Many<Noted>,
-    whens: &[When],
+    rules: &mut Rules,
     served: Option<&Cluster>,
+    to_all: bool,
     time: u64,
     events: &[Event],
 ) -> Result<(), AllocError>
-    ensures { OnOk result
-        (noted.new ≡ all_noted noted.old
-        (flat_map (notes_for (option_copied served.entry) whens.now time) events.now)) }
+    ensures { OnOk result (rules.new ≡ after_events (option_copied served.entry) to_all time rules.old events.now) }
 {
     for event in events {
-        note_event(alloc, noted, whens, served, time, event)?;
+        react_to_event(alloc, rules, served, to_all, time, event)?;
     }
     Ok(())
 }
@@ -313,23 +437,29 @@ fn same_bytes(xs: &[Option<u8>], ys: &[Option<u8>]) -> bool
     xs.len() == ys.len() && same_pairs(xs, ys)
 }
 
-fn same_pattern(a: &Pattern, b: &Pattern) -> bool
+pub(crate) fn same_pattern(a: &Pattern, b: &Pattern) -> bool
     ensures { result ≡ same_pattern a.now b.now }
 {
     a.more == b.more && same_bytes(a.bytes.as_slice(), b.bytes.as_slice())
 }
 
-/// The number of the rule with the node and the pattern of another one.
-fn place_of(whens: &[When], when: &When) -> Option<usize>
-    ensures { result ≡
-        position (λ v. v.node == when.now.node && same_pattern v.pattern when.now.pattern)
-        whens.now }
+/// Whether two rules are for the same node, state and pattern.
+fn same_rule(when: &When, other: &When) -> bool
+    ensures { result ≡ same_rule when.now other.now }
 {
-    whens.iter().position(|other| other.node == when.node
-        && same_pattern(&other.pattern, &when.pattern))
+    other.node == when.node
+        && same_state(&other.state, &when.state)
+        && same_pattern(&other.pattern, &when.pattern)
 }
 
-/// Puts a rule in the place of the one with its node and its pattern, or behind all.
+/// The number of the rule with the node, the state and the pattern of another one.
+fn place_of(whens: &[When], when: &When) -> Option<usize>
+    ensures { result ≡ position (same_rule when.now) whens.now }
+{
+    whens.iter().position(|other| same_rule(when, other))
+}
+
+/// Puts a rule in the place of the one with its node, its state and its pattern, or behind all.
 pub(crate) fn add_when(whens: &mut Many<When>, when: When) -> Result<(), AllocError>
     ensures { OnOk result (whens.new ≡ whens_with whens.old when) }
 {

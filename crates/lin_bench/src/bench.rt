@@ -3,21 +3,25 @@
 ghost use Rattle.std.specs.Prelude.{◌≡◌, ◌≤◌, ◌<◌, [], IfOk, OnOk, count_by, length, not, option_map};
 ghost use Rattle.lin_bench.specs.Bench.{early_end};
 ghost use Rattle.lin_core.specs.Core.{IsAlike, past_of};
-ghost use Rattle.lin_bench.specs.Made.{expected_after, met_or};
+ghost use Rattle.lin_bench.specs.Made.{ended_verdict, expected_after, met_or};
 ghost use Rattle.lin_bench.specs.Making.{ending_of};
 ghost use Rattle.lin_bench.specs.RulesInForce.{lines_of_rules};
 ghost use Rattle.lin_bench.specs.Searches.{IsSearchState, taken_by};
 ghost use Rattle.lin_bench.specs.Slots.{pending};
 ghost use Rattle.lin_bench.specs.Verdicts.{kind_taken, taking, verdict};
 ghost use Rattle.lin_bench.specs.declared.line.Disturbance.{Disturbance};
+ghost use Rattle.lin_bench.specs.declared.line.ScriptLine.{ScriptLine};
+ghost use Rattle.lin_bench.specs.declared.rules.Rule.{Rule};
 
+use crate::ended_rules::has_rule;
 use crate::expected::Expected;
 use crate::fault::MakeFault;
 use crate::faults::ArmedFault;
-use crate::got::{Pending, Verdict};
+use crate::got::{Got, Pending, Verdict};
 use crate::line::{Disturbance, Extent, ScriptLine, Slots};
 use crate::marks::Mark;
 use crate::ruled::{RuledCore, pending};
+use crate::rules::{Rule, RuleEnd};
 use crate::rules_in_force::lines_of_rules;
 use crate::slot_runs::{Ending, SLOT_LIMIT, slots};
 use crate::taken::{Cleared, TakenEvents};
@@ -103,6 +107,17 @@ fn early_end(early: Early, expected: &Option<Expected>) -> Option<Ending<'_>>
     }
 }
 
+/// The verdict on a line that ends rules: that there are none, if so.
+fn ended_verdict(found: bool, end: RuleEnd) -> Verdict
+    ensures { result ≡ ended_verdict found end }
+{
+    if found {
+        Verdict::Nothing
+    } else {
+        Verdict::Unmet(Expected::HasRule(end), Got::NoRule)
+    }
+}
+
 impl Bench {
     ghost use Rattle.lin_bench.specs.Bench.{GivesVerdict, MakesBench, MakesLine, forgotten, new_bench, fresh_under};
     ghost use Rattle.lin_bench.specs.Bench.{made_early};
@@ -162,8 +177,9 @@ impl Bench {
     }
 
     /// Returns the lines that make the rules in force, each without its end: `when` in the order of the
-    /// first lines of a node and a pattern, then `timeouts`, `response_errors on`, `services on`, and
-    /// `every` in the order of the lines. An error means out of memory.
+    /// first lines of a node, a state and a pattern, then `timeouts`, `response_errors on`, `services on`,
+    /// `every` in the order of the lines, and the states that aren't `default`. An error means out of
+    /// memory.
     pub fn rules(&self, alloc: Global) -> Result<Vec<Text>, AllocError>
         ensures { IfOk result (λ lines. lines.items
             ≡ lines_of_rules self.now.core.cluster self.now.rules) }
@@ -288,6 +304,30 @@ impl Bench {
         self.slots(alloc, &Disturbance::Leave(leave), extent, expected, early)
     }
 
+    /// Puts single rules out of force. The verdict is that there are none, if so.
+    #[tactic(auto, unfolding(crate::specs::Made::made))]
+    fn end_rules(&mut self, alloc: Global, end: RuleEnd) -> Result<Verdict, MakeFault>
+        ensures { MakesLine self.old (ScriptLine.Rule (Rule.End end)) result self.new }
+    {
+        let found = has_rule(self.ruled.rules(), &end);
+        self.ruled.end_rules(alloc, &end)?;
+        Ok(ended_verdict(found, end))
+    }
+
+    /// Puts a rule in force, or out of it.
+    #[tactic(auto, unfolding(crate::specs::Made::made))]
+    fn rule(&mut self, alloc: Global, rule: Rule) -> Result<Verdict, MakeFault>
+        ensures { MakesLine self.old (ScriptLine.Rule rule) result self.new }
+    {
+        match rule {
+            Rule::End(end) => self.end_rules(alloc, end),
+            rule => {
+                self.ruled.rule(alloc, rule)?;
+                Ok(Verdict::Nothing)
+            }
+        }
+    }
+
     /// Makes a line: the steps that it says, each answered on the history before it, and its
     /// verdict. What it expects is judged after its steps. The entries of these steps are those by
     /// which the core's log grows.
@@ -322,10 +362,7 @@ impl Bench {
                 self.forget(alloc);
                 Ok(Verdict::Nothing)
             }
-            ScriptLine::Rule(rule) => {
-                self.ruled.rule(alloc, rule)?;
-                Ok(Verdict::Nothing)
-            }
+            ScriptLine::Rule(rule) => self.rule(alloc, rule),
         }
     }
 }

@@ -2,10 +2,10 @@
 
 ghost use Rattle.std.specs.Prelude.{◌≡◌, IfOk};
 
-use crate::rules::{Every, Noted, Repeated, RuleAnswer, Rules, When};
+use crate::rules::{Every, NodeState, Noted, Repeated, RuleAnswer, Rules, When};
 use lin_core::Payload;
 use lin_log::Pattern;
-use lin_text::Many;
+use lin_text::{Many, Text};
 use std::alloc::{AllocError, Global};
 
 /// A type whose values can be copied if there is memory for them.
@@ -35,6 +35,16 @@ fn same<T: Copy + Drop>(alloc: Global, items: &[T]) -> Result<Many<T>, AllocErro
     Ok(Many::new(all))
 }
 
+/// Returns an equal name, if there is one. An error means out of memory.
+fn copied_name(alloc: Global, name: &Option<Text>) -> Result<Option<Text>, AllocError>
+    ensures { IfOk result (λ copy. copy ≡ name.now) }
+{
+    match name {
+        Some(name) => Ok(Some(Text::copied(alloc, name.as_slice())?)),
+        None => Ok(None),
+    }
+}
+
 impl TryCopy for RuleAnswer {
     fn copy(&self, alloc: Global) -> Result<RuleAnswer, AllocError> {
         Ok(RuleAnswer {
@@ -48,11 +58,22 @@ impl TryCopy for When {
     fn copy(&self, alloc: Global) -> Result<When, AllocError> {
         Ok(When {
             node: self.node,
+            state: copied_name(alloc, &self.state)?,
             pattern: Pattern {
                 bytes: same(alloc, self.pattern.bytes.as_slice())?,
                 more: self.pattern.more,
             },
             answers: copied(alloc, self.answers.as_slice())?,
+            enter: copied_name(alloc, &self.enter)?,
+        })
+    }
+}
+
+impl TryCopy for NodeState {
+    fn copy(&self, alloc: Global) -> Result<NodeState, AllocError> {
+        Ok(NodeState {
+            node: self.node,
+            name: Text::copied(alloc, self.name.as_slice())?,
         })
     }
 }
@@ -91,6 +112,7 @@ impl Rules {
             everies: copied(alloc, self.everies.as_slice())?,
             errors: self.errors,
             services: self.services,
+            states: copied(alloc, self.states.as_slice())?,
             noted: copied(alloc, self.noted.as_slice())?,
             faults: same(alloc, self.faults.as_slice())?,
         })

@@ -1,6 +1,7 @@
 //! What is expected.
 
 use crate::meant::MeantValues;
+use crate::rules::RuleEnd;
 use lin_core::{Cause, Look, Refusal};
 use lin_frame::Value;
 use lin_log::{Carried, Pattern};
@@ -100,4 +101,6 @@ pub enum Expected {
     Awake,
     /// No message of any host waits, and no answer is noted: `slots idle` expects it after its slots.
     Idle,
+    /// A rule is in force that a line ends. The line judges it, and only that there is none is told.
+    HasRule(RuleEnd),
 }

@@ -59,6 +59,8 @@ pub enum Got {
     Awake,
     /// Messages of hosts wait still, or answers of nodes are noted.
     StillPending(Many<Pending>),
+    /// No such rule is in force.
+    NoRule,
     /// No node has this number.
     NoNode,
     /// No node, or no signal, has this number.

@@ -3,7 +3,7 @@
 ghost use Rattle.lin_bench.specs.FaultLaws.{IsAlikeBefore, NoFaultIsRefused, UnderNoneIsPlayed};
 ghost use Rattle.lin_bench.specs.Plain.{NamedTexts, PlainScripts};
 ghost use Rattle.lin_bench.specs.RuleLaws.{AddedByAnyFinish, AddedByHistoryAndRules, NoRuleAddsNothing};
-ghost use Rattle.lin_bench.specs.RuleLaws.{NoRuleChangesNothing};
+ghost use Rattle.lin_bench.specs.RuleLaws.{KeepsDistinct, NoRuleChangesNothing, OldScripts, OrderOfRules};
 
 /// A script that `replay` reads says the same steps as a bench script, and makes and expects
 /// nothing else; and so does a text of steps with the cluster's names.
@@ -19,6 +19,14 @@ pub fn rules_alone_add_steps()
     ensures unchanged { NoRuleChangesNothing }
     ensures any_finish { AddedByAnyFinish }
     ensures alone { AddedByHistoryAndRules }
+{}
+
+/// Rules are for different nodes, states and patterns, and lines keep them so. Of such rules, in whatever
+/// order, the same one applies to a message. If only one of them matches it, it is the first that does.
+pub fn order_of_rules_is_free()
+    ensures order { OrderOfRules }
+    ensures distinct { KeepsDistinct }
+    ensures old { OldScripts }
 {}
 
 /// A play under no fault is a play. A step that a fault makes is never refused. A line comes to what it

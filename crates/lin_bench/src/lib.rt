@@ -23,6 +23,7 @@ mod arrivals;
 mod bench;
 mod carried;
 mod copies;
+mod ended_rules;
 mod ends;
 mod errors;
 mod expectations;
@@ -49,6 +50,7 @@ mod rules_in_force;
 mod said_values;
 mod script;
 mod slot_runs;
+mod states;
 mod strict;
 mod taken;
 mod texts;
@@ -64,7 +66,10 @@ pub use faults::{FaultKind, SlotFault};
 pub use fields::{present_node, present_signal};
 pub use got::{Got, Judged, Judgement, Pending, Verdict, is_unmet, some_unmet};
 pub use got_meanings::{told_meaning, told_meanings};
-pub use law::{faults_change_their_slots_alone, plain_scripts_say_the_same, rules_alone_add_steps};
+pub use law::{
+    faults_change_their_slots_alone, order_of_rules_is_free, plain_scripts_say_the_same,
+    rules_alone_add_steps,
+};
 pub use lin_core::Look;
 pub use lin_log::{Carried, Pattern};
 pub use line::{Disturbance, Extent, ScriptLine, Slots};
@@ -74,7 +79,7 @@ pub use meant::MeantValues;
 pub use playing::{LineEnd, Played, PlayedUnder, play, play_under};
 pub use reason::{Hint, Reason};
 pub use replies::first_refusal;
-pub use rules::{Every, Part, Rule, RuleAnswer, When};
+pub use rules::{Every, Part, Rule, RuleAnswer, RuleEnd, When};
 pub use script::{bad_lines, read, without_mark};
 pub use texts::{
     put_found, put_judged, put_pending, put_reason, put_unmet, put_verdict, put_what, reason_line,

@@ -13,7 +13,7 @@ use crate::fault::LineFault;
 use crate::fields::{bytes_fields, count_field, node_field};
 use crate::line::{Disturbance, Extent, ScriptLine, Slots};
 use crate::reason::Reason;
-use crate::rule_lines::{every, response_errors, services, timeouts, when};
+use crate::rule_lines::{every, response_errors, services, state, timeouts, when};
 use lin_core::PortId;
 use lin_log::{first_field, is_over, is_port, port_step, step};
 use lin_parts::Cluster;
@@ -278,6 +278,8 @@ fn of_word(
         Ok(ScriptLine::Rule(services(alloc, cluster, rest)?))
     } else if word == b"response_errors".as_slice() {
         Ok(ScriptLine::Rule(response_errors(alloc, cluster, rest)?))
+    } else if word == b"state".as_slice() {
+        Ok(ScriptLine::Rule(state(alloc, cluster, rest)?))
     } else {
         Ok(ScriptLine::Step(PortId::Bus, step(alloc, cluster, word, rest)?))
     }

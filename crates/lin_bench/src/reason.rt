@@ -61,8 +61,12 @@ pub enum Reason {
     WhileForm,
     /// `while` has no form of these fields.
     UnknownWhile(Many<Text>),
-    /// `when` takes a node, a pattern and answers.
+    /// `when` takes a node, a pattern and answers, `silent` or `off`.
     WhenForm,
+    /// `state` takes a node and a name.
+    StateForm,
+    /// A field is no name: a letter or `_`, then letters, digits and `_`.
+    NoName(Text),
     /// No responder with an address has this name or number.
     NoResponder(Text),
     /// No message goes from the first of these nodes to the second: not exactly one is the commander.

@@ -1,13 +1,17 @@
 //! The forms of lines of rules.
 
-ghost use Rattle.std.specs.Prelude.{◌≡◌, ◌<◌, ◌&&◌, ◌∷◌, [], ◌++◌, codes, find, length, option_map, position};
+ghost use Rattle.std.specs.Prelude.{◌≡◌, ◌<◌, ◌≤◌, ◌&&◌, ◌∷◌, [], ◌++◌, codes, find, length, option_map, position};
 ghost use Rattle.std.specs.Prelude.{IfOk, IfSome};
+ghost use Rattle.std.specs.List.{list_all};
 ghost use Rattle.std.specs.Str.{bytes_eq};
 ghost use Rattle.hex.specs.Hex.{hex_digit_value};
 ghost use Rattle.lin_bench.specs.Fields.{line_fields, field_texts};
 ghost use Rattle.lin_bench.specs.Read.{Gives};
 ghost use Rattle.lin_bench.specs.RuleLines.{AddsRow, answer_form, answer_parts, answers_form, answers_of, copied_part};
-ghost use Rattle.lin_bench.specs.RuleLines.{errors_form, errors_on, services_form, services_on, has_several_bits, every_fields, every_form, has_star, hex_byte, hex_part};
+ghost use Rattle.lin_bench.specs.RuleLines.{after_state, before_enter, errors_form, errors_on, every_off, is_digit, is_letter};
+ghost use Rattle.lin_bench.specs.RuleLines.{ends_rule, is_name, is_name_sign, is_only, maybe_name, name_field, state_form, unanswered};
+ghost use Rattle.lin_bench.specs.RuleLines.{when_end, when_in, whens_end};
+ghost use Rattle.lin_bench.specs.RuleLines.{services_form, services_on, has_several_bits, every_fields, every_form, has_star, hex_byte, hex_part};
 ghost use Rattle.lin_bench.specs.RuleLines.{all_parts, last_field, parts_field, parts_fields, pattern_byte};
 ghost use Rattle.lin_bench.specs.RuleLines.{pattern_fields, pattern_of, repeated_step, responder_field};
 ghost use Rattle.lin_bench.specs.RuleLines.{row_of_pairs, sends_or_writes, timeouts_form};
@@ -17,7 +21,7 @@ ghost use Rattle.lin_bench.specs.declared.rules.Part.{Part};
 use crate::fault::LineFault;
 use crate::fields::{copied_fields, count_field, fields, node_field, number_field, rows_and_time};
 use crate::reason::Reason;
-use crate::rules::{Every, Part, Rule, RuleAnswer, When};
+use crate::rules::{Every, Part, Rule, RuleAnswer, RuleEnd, When};
 use lin_core::{PortId, Step};
 use lin_log::{Pattern, Reason as StepReason, first_field, is_port, number, port_step, step};
 use lin_parts::Cluster;
@@ -280,57 +284,239 @@ fn responder(alloc: Global, cluster: &Cluster, field: &[u8]) -> Result<u8, LineF
     }
 }
 
-/// That a node answers messages of a pattern, by the fields of these and the answers.
+fn is_letter(sign: u8) -> bool
+    ensures { result ≡ is_letter sign }
+{
+    matches!(sign, b'A'..=b'Z' | b'a'..=b'z' | b'_')
+}
+
+fn is_digit(sign: u8) -> bool
+    ensures { result ≡ is_digit sign }
+{
+    matches!(sign, b'0'..=b'9')
+}
+
+fn is_name_sign(sign: u8) -> bool
+    ensures { result ≡ is_name_sign sign }
+{
+    is_letter(sign) || is_digit(sign)
+}
+
+fn are_name_signs(signs: &[u8]) -> bool
+    ensures { result ≡ list_all is_name_sign signs.now }
+{
+    signs.iter().all(|sign| is_name_sign(*sign))
+}
+
+/// Whether a field is a name: a letter or `_`, then letters, digits and `_`.
+fn is_name(field: &[u8]) -> bool
+    ensures { result ≡ is_name field.now }
+{
+    match field {
+        [first, ..] => is_letter(*first) && are_name_signs(field),
+        [] => false,
+    }
+}
+
+/// A name.
+fn name(alloc: Global, field: &[u8]) -> Result<Text, LineFault>
+    ensures { Gives (λ n. n) result (name_field field.now) }
+{
+    let text = Text::copied(alloc, field)?;
+    if is_name(field) {
+        Ok(text)
+    } else {
+        Err(LineFault::Bad(Reason::NoName(text)))
+    }
+}
+
+/// A name, if there is a field for it.
+fn maybe_name(alloc: Global, field: Option<&[u8]>) -> Result<Option<Text>, LineFault>
+    ensures { Gives (λ n. n) result (maybe_name (option_map (λ f. f.now) field.entry)) }
+{
+    match field {
+        Some(field) => Ok(Some(name(alloc, field)?)),
+        None => Ok(None),
+    }
+}
+
+/// The node of a rule, and the state that the rule is for, if it names one.
+#[derive(Clone, Copy)]
+struct Whose<'a> {
+    node: &'a [u8],
+    state: Option<&'a [u8]>,
+}
+
+/// That a node answers messages of a pattern, by the fields of these and the answers, and which state it
+/// enters then.
 fn when_with(
     alloc: Global,
     cluster: &Cluster,
-    node: &[u8],
+    whose: Whose<'_>,
     fields: &[&[u8]],
     answers_in: Option<&[&[u8]]>,
+    next: Option<&[u8]>,
 ) -> Result<Rule, LineFault>
-    ensures { Gives (λ r. r) result (when_of cluster.now node.now (field_texts fields.now)
-        (answers_of (option_map (λ fs. field_texts fs.now) answers_in.entry))) }
+    ensures { Gives (λ r. r) result (when_of cluster.now whose.entry.node.now
+        (option_map (λ f. f.now) whose.entry.state) (field_texts fields.now)
+        (answers_of (option_map (λ fs. field_texts fs.now) answers_in.entry))
+        (option_map (λ f. f.now) next.entry)) }
 {
-    let node = responder(alloc, cluster, node)?;
+    let node = responder(alloc, cluster, whose.node)?;
+    let state = maybe_name(alloc, whose.state)?;
     let pattern = pattern(alloc, fields)?;
     let answers = match answers_in {
         Some(fields) => answers(alloc, fields)?,
         None => Many::new(Vec::new(alloc)),
     };
+    let enter = maybe_name(alloc, next)?;
     Ok(Rule::When(When {
         node,
+        state,
         pattern,
         answers,
+        enter,
     }))
 }
 
-fn is_silent(rest: &[&[u8]]) -> bool
-    ensures { result ≡ bytes_eq (last_field (field_texts rest.now)) (codes "silent") }
+/// The end of what a node answers to messages that match a pattern.
+fn when_end(
+    alloc: Global,
+    cluster: &Cluster,
+    whose: Whose<'_>,
+    rows: &[&[u8]],
+) -> Result<Rule, LineFault>
+    ensures { Gives (λ r. r) result (when_end cluster.now whose.entry.node.now
+        (option_map (λ f. f.now) whose.entry.state) (field_texts rows.now)) }
 {
-    match rest {
-        [.., last] => *last == b"silent".as_slice(),
-        [] => false,
+    let node = responder(alloc, cluster, whose.node)?;
+    let state = maybe_name(alloc, whose.state)?;
+    let pattern = pattern(alloc, rows)?;
+    Ok(Rule::End(RuleEnd::When {
+        node,
+        state,
+        pattern,
+    }))
+}
+
+/// The end of all that a node answers.
+fn whens_end(alloc: Global, cluster: &Cluster, node: &[u8]) -> Result<Rule, LineFault>
+    ensures { Gives (λ r. r) result (whens_end cluster.now node.now) }
+{
+    let node = responder(alloc, cluster, node)?;
+    Ok(Rule::End(RuleEnd::WhensOf(node)))
+}
+
+/// Whether the only field is `off`.
+fn is_off(fields: &[&[u8]]) -> bool
+    ensures { result ≡ is_only (codes "off") (field_texts fields.now) }
+{
+    match fields {
+        [word] => *word == b"off".as_slice(),
+        _ => false,
     }
 }
 
-/// A node, a pattern of a field at least, and answers or `silent`.
+/// The state after `in` at the beginning of fields, and the fields after it.
+fn after_state<'a>(fields: &'a [&'a [u8]]) -> (Option<&'a [u8]>, &'a [&'a [u8]])
+    ensures { (option_map (λ s. s.now) result.0, field_texts result.1.now)
+        ≡ after_state (field_texts fields.now) }
+{
+    let [word, state, rest @ ..] = fields else {
+        return (None, fields);
+    };
+    if *word == b"in".as_slice() {
+        (Some(*state), rest)
+    } else {
+        (None, fields)
+    }
+}
+
+/// The fields before `enter` and a state at their end, and the state.
+fn before_enter<'a>(fields: &'a [&'a [u8]]) -> (&'a [&'a [u8]], Option<&'a [u8]>)
+    ensures { (field_texts result.0.now, option_map (λ s. s.now) result.1)
+        ≡ before_enter (field_texts fields.now) }
+{
+    let [before @ .., word, state] = fields else {
+        return (fields, None);
+    };
+    if *word == b"enter".as_slice() {
+        (before, Some(*state))
+    } else {
+        (fields, None)
+    }
+}
+
+/// Whether the last field is `off`, and no state is entered.
+fn ends_rule(last: &[u8], next: Option<&[u8]>) -> bool
+    ensures { result ≡ ends_rule last.now (option_map (λ f. f.now) next.entry) }
+{
+    match next {
+        None => last == b"off".as_slice(),
+        Some(_) => false,
+    }
+}
+
+/// Of a node in a state, if one is named: a pattern of a field at least, and `silent`, or `off` alone.
+fn unanswered(
+    alloc: Global,
+    cluster: &Cluster,
+    whose: Whose<'_>,
+    fields: &[&[u8]],
+    next: Option<&[u8]>,
+) -> Result<Rule, LineFault>
+    ensures { Gives (λ r. r) result (unanswered cluster.now whose.entry.node.now
+        (option_map (λ f. f.now) whose.entry.state) (field_texts fields.now)
+        (option_map (λ f. f.now) next.entry)) }
+{
+    let [pattern @ .., last] = fields else {
+        return Err(LineFault::Bad(Reason::WhenForm));
+    };
+    if pattern.is_empty() {
+        return Err(LineFault::Bad(Reason::WhenForm));
+    }
+    if *last == b"silent".as_slice() {
+        return when_with(alloc, cluster, whose, pattern, None, next);
+    }
+    if ends_rule(*last, next) {
+        return when_end(alloc, cluster, whose, pattern);
+    }
+    Err(LineFault::Bad(Reason::WhenForm))
+}
+
+/// Of a node in a state, if one is named: a pattern of a field at least, and answers, `silent` or `off`.
+fn when_in(
+    alloc: Global,
+    cluster: &Cluster,
+    whose: Whose<'_>,
+    fields: &[&[u8]],
+) -> Result<Rule, LineFault>
+    ensures { Gives (λ r. r) result (when_in cluster.now whose.entry.node.now
+        (option_map (λ f. f.now) whose.entry.state, field_texts fields.now)) }
+{
+    let (fields, next) = before_enter(fields);
+    let [_, rest @ ..] = fields else {
+        return Err(LineFault::Bad(Reason::WhenForm));
+    };
+    if let Some(end) = word_at(rest, b"answer".as_slice()) {
+        let pattern = &fields[..end + 1];
+        return when_with(alloc, cluster, whose, pattern, Some(&rest[end + 1..]), next);
+    }
+    unanswered(alloc, cluster, whose, fields, next)
+}
+
+/// A node, and `off`; or what it answers in a state or in every state.
 fn when_by(alloc: Global, cluster: &Cluster, all: &[&[u8]]) -> Result<Rule, LineFault>
     ensures { Gives (λ r. r) result (when_fields cluster.now (field_texts all.now)) }
 {
     let [node, fields @ ..] = all else {
         return Err(LineFault::Bad(Reason::WhenForm));
     };
-    let [_, rest @ ..] = fields else {
-        return Err(LineFault::Bad(Reason::WhenForm));
-    };
-    if let Some(end) = word_at(rest, b"answer".as_slice()) {
-        let pattern = &fields[..end + 1];
-        return when_with(alloc, cluster, *node, pattern, Some(&rest[end + 1..]));
+    if is_off(fields) {
+        return whens_end(alloc, cluster, *node);
     }
-    if is_silent(rest) {
-        return when_with(alloc, cluster, *node, &fields[..rest.len()], None);
-    }
-    Err(LineFault::Bad(Reason::WhenForm))
+    let (state, fields) = after_state(fields);
+    when_in(alloc, cluster, Whose { node: *node, state }, fields)
 }
 
 /// What a node answers, by the fields after `when`.
@@ -415,6 +601,17 @@ fn every_of(
     }))
 }
 
+/// The end of repetitions, of all or of those of a step, by the fields after `off`.
+fn every_off(alloc: Global, cluster: &Cluster, line: &[u8]) -> Result<Rule, LineFault>
+    ensures { Gives (λ r. r) result (every_off cluster.now (line_fields line.now)) }
+{
+    let Some((word, rest)) = first_field(cluster, line) else {
+        return Ok(Rule::EveryOff);
+    };
+    let (by, step) = repeated_step(alloc, cluster, word, rest)?;
+    Ok(Rule::End(RuleEnd::Every { by, step }))
+}
+
 /// What is repeated, by the fields after `every`.
 #[tactic(auto, unfolding(crate::specs::RuleLines::every_form))]
 pub(crate) fn every(alloc: Global, cluster: &Cluster, line: &[u8]) -> Result<Rule, LineFault>
@@ -423,9 +620,11 @@ pub(crate) fn every(alloc: Global, cluster: &Cluster, line: &[u8]) -> Result<Rul
     let Some((number, rest)) = first_field(cluster, line) else {
         return Err(LineFault::Bad(Reason::EveryForm));
     };
+    if number == b"off".as_slice() {
+        return every_off(alloc, cluster, rest);
+    }
     match first_field(cluster, rest) {
         Some((unit, rest)) => every_of(alloc, cluster, number, unit, rest),
-        None if number == b"off".as_slice() => Ok(Rule::EveryOff),
         None => Err(LineFault::Bad(Reason::EveryForm)),
     }
 }
@@ -498,5 +697,21 @@ pub(crate) fn response_errors(
         [word] if *word == b"on".as_slice() => errors_on(alloc, cluster),
         [word] if *word == b"off".as_slice() => Ok(Rule::Errors(false)),
         _ => Err(LineFault::Bad(Reason::ErrorsForm)),
+    }
+}
+
+/// A responder that enters a state, by the fields after `state`.
+#[tactic(auto, unfolding(crate::specs::RuleLines::state_form))]
+pub(crate) fn state(alloc: Global, cluster: &Cluster, line: &[u8]) -> Result<Rule, LineFault>
+    ensures { Gives (λ r. r) result (state_form cluster.now (line_fields line.now)) }
+{
+    let all = fields(alloc, cluster, line)?;
+    match all.as_slice() {
+        [node, field] => {
+            let node = responder(alloc, cluster, *node)?;
+            let name = name(alloc, *field)?;
+            Ok(Rule::State { node, name })
+        }
+        _ => Err(LineFault::Bad(Reason::StateForm)),
     }
 }

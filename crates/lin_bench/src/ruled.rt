@@ -12,23 +12,25 @@ ghost use Rattle.lin_core.specs.declared.step.Step.TheVariants.{Finish, Hurt};
 ghost use Rattle.lin_bench.specs.Added.{has_time, is_given_up, send_of, step_to_repeat};
 ghost use Rattle.lin_bench.specs.Added.{timeouts, times_until};
 ghost use Rattle.lin_bench.specs.Adding.{AddsAfterFinish, AfterFinish, CountsFinished, MakesAdded, MakesOne};
-ghost use Rattle.lin_bench.specs.Adding.{errors_after, timeouts_of, with_noted};
+ghost use Rattle.lin_bench.specs.Adding.{errors_after, timeouts_of, with_arrived};
 ghost use Rattle.lin_bench.specs.Faults.{changed_steps};
 ghost use Rattle.lin_bench.specs.Making.{MakesSteps, MakesUnchanged, is_changed_on, struck_on};
 ghost use Rattle.std.specs.Option.{option_copied};
-ghost use Rattle.lin_bench.specs.Rules.{is_due_at, kept_at, no_rules, ruled, sent_at, serving};
+ghost use Rattle.lin_bench.specs.Rules.{is_due_at, kept_at, no_rules, ruled, sent_at, serving, without_rule};
 ghost use Rattle.lin_bench.specs.Slots.{nodes_noted, pending};
 ghost use Rattle.lin_bench.specs.declared.got.Pending.TheVariants.{AnswersNoted};
 
-use crate::answers::{add_when, note_events};
+use crate::answers::{add_when, react_to_events};
+use crate::ended_rules::end_rules;
 use crate::ends::Ends;
 use crate::errors::tell_errors;
 use crate::fault::MakeFault;
 use crate::faults::{ArmedFault, missed, no_bytes, strike, target};
 use crate::got::Pending;
 use crate::replies::{is_done, is_finish, went_to_all};
-use crate::rules::{Noted, Repeated, Rule, Rules};
+use crate::rules::{Noted, Repeated, Rule, RuleEnd, Rules};
 use crate::slot_runs::hosts_waiting;
+use crate::states::set_state;
 use lin_core::{Core, Direction, Hold, Log, PortId, Reply, Step};
 use lin_parts::Cluster;
 use lin_text::Many;
@@ -166,6 +168,27 @@ fn count_noted(noted: &[Noted], node: u8) -> usize
     noted.iter().filter(|one| one.node == node).count()
 }
 
+/// Puts a rule in force, or out of it, at a time in microseconds. An error means out of memory.
+fn put_rule(alloc: Global, rules: &mut Rules, time: u64, rule: Rule) -> Result<(), AllocError>
+    ensures { OnOk result (rules.new ≡ ruled time rules.old rule) }
+{
+    match rule {
+        Rule::When(when) => add_when(&mut rules.whens, when)?,
+        Rule::End(end) => end_rules(alloc, rules, &end)?,
+        Rule::WhenOff => rules.whens = Many::new(Vec::new(alloc)),
+        Rule::Timeouts(ms) => rules.limit_ms = Some(ms),
+        Rule::TimeoutsOff => rules.limit_ms = None,
+        Rule::Every(every) => rules.everies.push(Repeated { began: time, every })?,
+        Rule::EveryOff => rules.everies = Many::new(Vec::new(alloc)),
+        Rule::Errors(on) => rules.errors = on,
+        Rule::Services(on) => rules.services = on,
+        Rule::State { node, name } => {
+            set_state(alloc, &mut rules.states, node, name.as_slice())?;
+        }
+    }
+    Ok(())
+}
+
 impl RuledCore {
     /// A core on which no rule is in force, and whose log is empty. The steps of lines are made under
     /// these faults.
@@ -263,21 +286,16 @@ impl RuledCore {
             ≡ ruled (time self.old.core.cluster (past_of self.old.core)) self.old.rules rule) }
         ensures core { self.new.core ≡ self.old.core }
     {
-        let rules = &mut self.rules;
-        match rule {
-            Rule::When(when) => add_when(&mut rules.whens, when)?,
-            Rule::WhenOff => rules.whens = Many::new(Vec::new(alloc)),
-            Rule::Timeouts(ms) => rules.limit_ms = Some(ms),
-            Rule::TimeoutsOff => rules.limit_ms = None,
-            Rule::Every(every) => {
-                let began = self.core.time();
-                rules.everies.push(Repeated { began, every })?;
-            }
-            Rule::EveryOff => rules.everies = Many::new(Vec::new(alloc)),
-            Rule::Errors(on) => rules.errors = on,
-            Rule::Services(on) => rules.services = on,
-        }
-        Ok(())
+        let time = self.core.time();
+        put_rule(alloc, &mut self.rules, time, rule)
+    }
+
+    /// Puts single rules out of force. An error means out of memory.
+    pub(crate) fn end_rules(&mut self, alloc: Global, end: &RuleEnd) -> Result<(), AllocError>
+        ensures rules { OnOk result (self.new.rules ≡ without_rule self.old.rules end.now) }
+        ensures core { self.new.core ≡ self.old.core }
+    {
+        end_rules(alloc, &mut self.rules, end)
     }
 
     /// Makes a step by a port, to which no rule adds.
@@ -299,8 +317,8 @@ impl RuledCore {
         Ok(())
     }
 
-    /// Whether rules may add a step. If they can't, no rule is in force, no answer is noted, and there is
-    /// no fault.
+    /// Whether rules may add a step. If they can't, no rule is in force, each state is `default`, no answer
+    /// is noted, and there is no fault.
     fn may_add(&self) -> bool
         ensures { result ≡ false → self.now.rules ≡ no_rules }
     {
@@ -310,6 +328,7 @@ impl RuledCore {
             || rules.services
             || !rules.whens.as_slice().is_empty()
             || !rules.everies.as_slice().is_empty()
+            || !rules.states.as_slice().is_empty()
             || !rules.noted.as_slice().is_empty()
             || !rules.faults.as_slice().is_empty()
     }
@@ -375,25 +394,23 @@ impl RuledCore {
         self.make_unchanged(alloc, by, step)
     }
 
-    /// Notes what is answered to the messages of the finish.
-    fn note(&mut self, alloc: Global) -> Result<(), AllocError>
+    /// Changes what the messages of the finish change.
+    fn react(&mut self, alloc: Global) -> Result<(), AllocError>
         requires { 0 < length self.old.core.log }
         ensures core { self.new.core ≡ self.old.core }
-        ensures noted { OnOk result (AfterFinish self.old.core
-            (λ e past. self.new.rules ≡ with_noted self.old e past)) }
+        ensures rules { OnOk result (AfterFinish self.old.core
+            (λ e past. self.new.rules ≡ with_arrived self.old e past)) }
     {
         let time = self.core.time();
+        let served = serving(&self.core, self.rules.services);
         let entry = self.core.newest();
-        if went_to_all(entry) {
-            return Ok(());
-        }
         match &entry.reply {
             Reply::Refused(_) => Ok(()),
-            Reply::Done(events) => note_events(
+            Reply::Done(events) => react_to_events(
                 alloc,
-                &mut self.rules.noted,
-                self.rules.whens.as_slice(),
-                serving(&self.core, self.rules.services),
+                &mut self.rules,
+                served,
+                went_to_all(entry),
                 time,
                 events.as_slice(),
             ),
@@ -505,7 +522,7 @@ impl RuledCore {
         ensures { AfterFinish self.old.core (λ e past. began ≡ time self.old.core.cluster past
             → AddsAfterFinish self.old e past result self.new) }
     {
-        self.note(alloc)?;
+        self.react(alloc)?;
         let time = self.core.time();
         let mut steps = Vec::new(alloc);
         self.give_up(&mut steps)?;

@@ -6,7 +6,7 @@ ghost use Rattle.lin_bench.specs.Rules.{no_rules};
 use crate::faults::ArmedFault;
 use lin_core::{Payload, PortId, Step};
 use lin_log::Pattern;
-use lin_text::Many;
+use lin_text::{Many, Text};
 use std::alloc::Global;
 
 /// A byte of an answer.
@@ -29,8 +29,12 @@ pub struct RuleAnswer {
 #[derive(Drop)]
 pub struct When {
     pub node: u8,
+    /// The state in which it does; `None` stands for every state.
+    pub state: Option<Text>,
     pub pattern: Pattern,
     pub answers: Many<RuleAnswer>,
+    /// The state that the responder enters by such a message.
+    pub enter: Option<Text>,
 }
 
 /// A send or a write that is made again and again.
@@ -42,10 +46,30 @@ pub struct Every {
     pub step: Step,
 }
 
+/// Single rules that a line ends.
+#[derive(Drop)]
+pub enum RuleEnd {
+    /// What a responder answers in this state, or in every state, to messages that match this pattern.
+    When {
+        node: u8,
+        state: Option<Text>,
+        pattern: Pattern,
+    },
+    /// All that this responder answers.
+    WhensOf(u8),
+    /// Each repetition of this step by this port.
+    Every {
+        by: PortId,
+        step: Step,
+    },
+}
+
 /// What a line of a rule says.
 #[derive(Drop)]
 pub enum Rule {
     When(When),
+    /// These rules aren't in force any more. If there are none, the line's check fails.
+    End(RuleEnd),
     /// No rule says any more what responders answer.
     WhenOff,
     /// Transfers are given up whose last good frame is so many milliseconds ago, 1 to 1,000,000.
@@ -57,6 +81,8 @@ pub enum Rule {
     Errors(bool),
     /// Whether responders answer messages that ask for a service.
     Services(bool),
+    /// A responder enters a state.
+    State { node: u8, name: Text },
 }
 
 /// A step that is made again and again since a time in microseconds.
@@ -75,8 +101,16 @@ pub struct Noted {
     pub bytes: Payload,
 }
 
-/// The rules in force, each kind in the order of their lines, the answers that are noted, in the order in
-/// which they are sent, and the faults under which the steps of lines are made.
+/// The state of a responder.
+#[derive(Drop)]
+pub struct NodeState {
+    pub node: u8,
+    pub name: Text,
+}
+
+/// The rules in force, each kind in the order of their lines, the states that aren't `default`, the answers
+/// that are noted, in the order in which they are sent, and the faults under which the steps of lines are
+/// made.
 #[derive(Drop)]
 pub struct Rules {
     pub whens: Many<When>,
@@ -84,6 +118,7 @@ pub struct Rules {
     pub everies: Many<Repeated>,
     pub errors: bool,
     pub services: bool,
+    pub states: Many<NodeState>,
     pub noted: Many<Noted>,
     pub faults: Many<ArmedFault>,
 }
@@ -99,6 +134,7 @@ impl Rules {
             everies: Many::new(Vec::new(alloc)),
             errors: false,
             services: false,
+            states: Many::new(Vec::new(alloc)),
             noted: Many::new(Vec::new(alloc)),
             faults: Many::new(Vec::new(alloc)),
         }

@@ -3,11 +3,12 @@
 ghost use Rattle.std.specs.Prelude.{◌≡◌, ◌∷◌, ◌++◌, [], IfOk, None, OnOk, flat_map, map};
 ghost use Rattle.lin_text.specs.Written.{Grows};
 ghost use Rattle.lin_bench.specs.RulesInForce.{answer_text, answers_text, every_line, further_answer_text};
-ghost use Rattle.lin_bench.specs.RulesInForce.{line_if, lines_of_rules, part_gap, part_word, parts_text};
+ghost use Rattle.lin_bench.specs.RulesInForce.{line_if, lines_of_rules, name_text, part_gap, part_word, parts_text};
 ghost use Rattle.lin_bench.specs.RulesInForce.{port_text, rule_line, time_text, timeouts_lines};
-ghost use Rattle.lin_bench.specs.RulesInForce.{wait_text, when_line};
+ghost use Rattle.lin_bench.specs.RulesInForce.{state_line, state_lines, wait_text, when_line};
 
-use crate::rules::{Every, Part, Repeated, RuleAnswer, Rules, When};
+use crate::rules::{Every, NodeState, Part, Repeated, RuleAnswer, Rules, When};
+use crate::states::kept_state;
 use lin_core::PortId;
 use lin_log::{put_node, put_pattern, put_port, put_step};
 use lin_parts::Cluster;
@@ -92,18 +93,43 @@ fn put_answers<W: Write>(out: &mut TextWriter<'_, W>, answers: &[RuleAnswer])
     }
 }
 
+/// A state after a word, if there is one.
+fn put_name<W: Write>(out: &mut TextWriter<'_, W>, word: &str, name: &Option<Text>)
+    ensures { Grows W.contents out.old out.new (name_text word.now name.now) }
+{
+    if let Some(name) = name {
+        out.put_text(word);
+        out.put(name.as_slice());
+    }
+}
+
 fn put_when<W: Write>(out: &mut TextWriter<'_, W>, cluster: &Cluster, when: &When)
     ensures { Grows W.contents out.old out.new (when_line cluster.now when.now) }
 {
     out.put_text("when");
     put_node(out, cluster, when.node);
+    put_name(out, " in ", &when.state);
     out.put_byte(b' ');
     put_pattern(out, &when.pattern);
     put_answers(out, when.answers.as_slice());
+    put_name(out, " enter ", &when.enter);
+}
+
+fn put_state<W: Write>(out: &mut TextWriter<'_, W>, cluster: &Cluster, state: &NodeState)
+    ensures { Grows W.contents out.old out.new (state_line cluster.now state.now) }
+{
+    out.put_text("state");
+    put_node(out, cluster, state.node);
+    out.put_byte(b' ');
+    out.put(state.name.as_slice());
 }
 
 /// The port of a step that is repeated; nothing for the bus.
-fn put_repeating_port<W: Write>(out: &mut TextWriter<'_, W>, cluster: &Cluster, by: PortId)
+pub(crate) fn put_repeating_port<W: Write>(
+    out: &mut TextWriter<'_, W>,
+    cluster: &Cluster,
+    by: PortId,
+)
     ensures { Grows W.contents out.old out.new (port_text cluster.now by) }
 {
     match by {
@@ -131,6 +157,7 @@ enum RuleLine<'r> {
     /// A rule that is on or off; its line is always the same.
     Switch(&'r str),
     Every(&'r Every),
+    State(&'r NodeState),
 }
 
 fn put_rule<W: Write>(out: &mut TextWriter<'_, W>, cluster: &Cluster, rule: RuleLine<'_>)
@@ -141,6 +168,7 @@ fn put_rule<W: Write>(out: &mut TextWriter<'_, W>, cluster: &Cluster, rule: Rule
         RuleLine::Timeouts(ms) => put_time(out, "timeouts ", ms),
         RuleLine::Switch(line) => out.put_text(line),
         RuleLine::Every(every) => put_every(out, cluster, every),
+        RuleLine::State(state) => put_state(out, cluster, state),
     }
 }
 
@@ -231,8 +259,26 @@ fn add_everies(
     Ok(())
 }
 
-/// The lines that make the rules in force: each `when` in the order of the first lines of its node and
-/// pattern, `timeouts`, `response_errors on`, `services on`, and each `every` in the order of the lines.
+/// Adds the lines of states that aren't `default`, by rising node.
+fn add_states(
+    alloc: Global,
+    cluster: &Cluster,
+    states: &[NodeState],
+    lines: &mut Vec<Text>,
+) -> Result<(), AllocError>
+    ensures { OnOk result (lines.new.items ≡ lines.old.items ++ state_lines cluster.now states.now) }
+{
+    for node in 0..cluster.nodes() as u8 {
+        if let Some(state) = kept_state(states, node) {
+            add_line(alloc, cluster, RuleLine::State(state), lines)?;
+        }
+    }
+    Ok(())
+}
+
+/// The lines that make the rules in force: each `when` in the order of the first lines of its node, state
+/// and pattern, `timeouts`, `response_errors on`, `services on`, each `every` in the order of the lines, and
+/// the states that aren't `default`, by rising node.
 ///
 /// # Errors
 /// Out of memory.
@@ -255,5 +301,6 @@ pub(crate) fn lines_of_rules(
     )?;
     add_if(alloc, cluster, rules.services, "services on", &mut lines)?;
     add_everies(alloc, cluster, rules.everies.as_slice(), &mut lines)?;
+    add_states(alloc, cluster, rules.states.as_slice(), &mut lines)?;
     Ok(lines)
 }

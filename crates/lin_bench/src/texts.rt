@@ -7,21 +7,25 @@ ghost use Rattle.lin_text.specs.Written.{Grows, WritesText};
 ghost use Rattle.lin_log.specs.Language.{named_language};
 ghost use Rattle.lin_log.specs.Shown.{as_word};
 ghost use Rattle.lin_bench.specs.LineWords.{spaced_words};
-ghost use Rattle.lin_bench.specs.Texts.{bad_line_text, bytes_word, entries_word, expected_text, expected_words, fields_word};
+ghost use Rattle.lin_bench.specs.Texts.{bad_line_text, bytes_word, cluster_text, end_words, entries_word, expected_text, expected_words, fields_word};
+ghost use Rattle.lin_bench.specs.declared.expected.Expected.TheVariants.{HasRule};
+ghost use Rattle.lin_bench.specs.declared.rules.RuleEnd.{RuleEnd};
 ghost use Rattle.lin_bench.specs.Texts.{found_text, got_text, hint_words, judged_text};
 ghost use Rattle.lin_bench.specs.Texts.{or_marked, other_pending_words, pending_text};
-ghost use Rattle.lin_bench.specs.Texts.{pending_words, reason_text, reason_words};
+ghost use Rattle.lin_bench.specs.Texts.{pending_words, reason_text, reason_words, repeated_words};
 ghost use Rattle.lin_bench.specs.Texts.{short_words, since_word, step_reason_words};
-ghost use Rattle.lin_bench.specs.Texts.{unmet_text, verdict_text, what_text};
+ghost use Rattle.lin_bench.specs.Texts.{unmet_text, verdict_text, what_text, when_end_words};
 
 use crate::expected::{Expected, Since};
 use crate::got::{Got, Judged, Judgement, Pending, is_unmet};
 use crate::reason::{Hint, Reason};
+use crate::rules::RuleEnd;
+use crate::rules_in_force::put_repeating_port;
 use crate::word_list::{WordList, put_all_after, put_joined, put_word_list};
-use lin_core::Listed;
-use lin_log::{NumberNaming, Reason as StepReason, Word, put_node};
+use lin_core::{Listed, PortId, Step};
+use lin_log::{NumberNaming, Pattern, Reason as StepReason, Word, put_node, put_step};
 use lin_parts::Cluster;
-use lin_text::{TextBuffer, TextWriter, WriteFailed};
+use lin_text::{Text, TextBuffer, TextWriter, WriteFailed};
 use std::io::Write;
 
 /// `argument`, or `arguments`.
@@ -201,8 +205,13 @@ pub fn reason_line(reason: &Reason) -> WordList<'_>
             Word::Fields(fields.as_slice()),
         ]),
         Reason::WhenForm => return WordList::of(&[Word::Fixed(
-            "usage: when NODE PATTERN answer BYTES or when NODE PATTERN silent",
+            "usage: when NODE PATTERN answer BYTES, when NODE PATTERN silent or when NODE PATTERN off",
         )]),
+        Reason::StateForm => return WordList::of(&[Word::Fixed("usage: state NODE NAME")]),
+        Reason::NoName(field) => return WordList::of(&[
+            Word::Fixed("expected a name, not"),
+            Word::Said(field.as_slice()),
+        ]),
         Reason::NoResponder(field) => return WordList::of(&[
             Word::Said(field.as_slice()),
             Word::Fixed("isn't a responder with a NAD"),
@@ -229,7 +238,7 @@ pub fn reason_line(reason: &Reason) -> WordList<'_>
             "usage: timeouts N ms or timeouts off",
         )]),
         Reason::EveryForm => return WordList::of(&[Word::Fixed(
-            "usage: every N ms STEP or every off",
+            "usage: every N ms STEP, every off STEP or every off",
         )]),
         Reason::EveryStep => return WordList::of(&[Word::Fixed(
             "every accepts only send and write",
@@ -340,6 +349,7 @@ fn since_word(since: Since) -> &'static str
 
 /// What is expected.
 fn expected_line(expected: &Expected) -> WordList<'_>
+    requires { (end : RuleEnd) → expected.now ≡ HasRule end → ⊥ }
     ensures { result ≡ expected_words expected.now }
 {
     match expected {
@@ -467,6 +477,66 @@ fn expected_line(expected: &Expected) -> WordList<'_>
         Expected::Asleep => return WordList::of(&[Word::Fixed("asleep")]),
         Expected::Awake => return WordList::of(&[Word::Fixed("awake")]),
         Expected::Idle => return WordList::of(&[Word::Fixed("idle")]),
+        Expected::HasRule(_) => return WordList::of(&[]),
+    }
+}
+
+/// The end of the rule of a pattern.
+fn when_end_line<'a>(node: u8, state: &'a Option<Text>, pattern: &'a Pattern) -> WordList<'a>
+    ensures { result ≡ when_end_words node state.now pattern.now }
+{
+    match state {
+        None => {
+            return WordList::of(&[
+                Word::Fixed("when"),
+                Word::Node(node),
+                Word::Pattern(pattern),
+                Word::Fixed("off"),
+            ]);
+        }
+        Some(state) => {
+            return WordList::of(&[
+                Word::Fixed("when"),
+                Word::Node(node),
+                Word::Fixed("in"),
+                Word::Said(state.as_slice()),
+                Word::Pattern(pattern),
+                Word::Fixed("off"),
+            ]);
+        }
+    }
+}
+
+/// The end of a repetition, with a space before it.
+fn put_every_end<W: Write>(out: &mut TextWriter<'_, W>, cluster: &Cluster, by: PortId, step: &Step)
+    ensures { Grows W.contents out.old out.new
+        (spaced_word (cluster_text cluster.now (repeated_words by step.now))) }
+{
+    out.put_text(" every off");
+    put_repeating_port(out, cluster, by);
+    put_step(out, cluster, step);
+}
+
+/// The line that ends rules, with a space before it.
+fn put_end<W: Write>(out: &mut TextWriter<'_, W>, cluster: &Cluster, end: &RuleEnd)
+    ensures { Grows W.contents out.old out.new
+        (spaced_word (cluster_text cluster.now (end_words end.now))) }
+{
+    match end {
+        RuleEnd::When {
+            node,
+            state,
+            pattern,
+        } => {
+            out.put_byte(b' ');
+            put_word_list(out, cluster, &when_end_line(*node, state, pattern));
+        }
+        RuleEnd::WhensOf(node) => {
+            out.put_text(" when");
+            put_node(out, cluster, *node);
+            out.put_text(" off");
+        }
+        RuleEnd::Every { by, step } => put_every_end(out, cluster, *by, step),
     }
 }
 
@@ -475,8 +545,13 @@ fn put_expected<W: Write>(out: &mut TextWriter<'_, W>, cluster: &Cluster, expect
     ensures { Grows W.contents out.old out.new
         (spaced_word (expected_text cluster.now expected.now)) }
 {
-    out.put_byte(b' ');
-    put_word_list(out, cluster, &expected_line(expected));
+    match expected {
+        Expected::HasRule(end) => put_end(out, cluster, end),
+        _ => {
+            out.put_byte(b' ');
+            put_word_list(out, cluster, &expected_line(expected));
+        }
+    }
 }
 
 /// How many messages of a host wait, or answers of a node are noted.
@@ -573,6 +648,7 @@ fn got_line(got: &Got) -> WordList<'_>
         Got::Asleep => return WordList::of(&[Word::Fixed("asleep")]),
         Got::Awake => return WordList::of(&[Word::Fixed("awake")]),
         Got::StillPending(_) => return WordList::of(&[]),
+        Got::NoRule => return WordList::of(&[Word::Fixed("no such rule")]),
         Got::NoNode => return WordList::of(&[Word::Fixed("no such node")]),
         Got::NoNodeOrSignal => return WordList::of(&[Word::Fixed("no such node or signal")]),
     }

@@ -17,6 +17,7 @@ ghost use Rattle.lin_bench.specs.Verdicts.{with_taken, data_of, fits_data, frame
 use crate::answers::fits;
 use crate::arrivals::{self, EarlierMessages};
 use crate::carried::{last_carried, open_after};
+use crate::ended_rules::same_value;
 use crate::expected::{Expected, Since};
 use crate::got::Got;
 use crate::losses::first_loss;
@@ -30,16 +31,6 @@ use lin_frame::Value;
 use lin_log::{Carried, Pattern};
 use lin_text::Many;
 use std::alloc::{AllocError, Global};
-
-fn same_value(a: &Value, b: &Value) -> bool
-    ensures { result ≡ same_value a.now b.now }
-{
-    match (a, b) {
-        (Value::Scalar(a), Value::Scalar(b)) => *a == *b,
-        (Value::Bytes(a), Value::Bytes(b)) => a.as_slice() == b.as_slice(),
-        _ => false,
-    }
-}
 
 /// What a node sees of a signal; none where there is no such node or signal.
 fn value_seen(core: &Core, node: u8, signal: u16) -> Option<Value>
@@ -594,5 +585,6 @@ pub(crate) fn verdict(
             None
         }),
         Expected::Idle => idle(alloc, ruled),
+        Expected::HasRule(_) => Ok(Some(Got::NoRule)),
     }
 }

@@ -13,7 +13,7 @@ use strsim::generic_damerau_levenshtein;
 const COMPARED: usize = 64;
 
 /// The words that a line begins with.
-static WORDS: [&str; 22] = [
+static WORDS: [&str; 23] = [
     "send",
     "write",
     "open",
@@ -31,6 +31,7 @@ static WORDS: [&str; 22] = [
     "expect",
     "forget",
     "when",
+    "state",
     "timeouts",
     "every",
     "response_errors",

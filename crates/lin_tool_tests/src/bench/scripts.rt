@@ -90,7 +90,7 @@ fn name_of_rule(rule: &Rule) -> &'static str {
         Rule::Timeouts(_) => "timeouts",
         Rule::TimeoutsOff => "no timeouts",
         Rule::Every(every) => name_of_every(every),
-        Rule::WhenOff | Rule::EveryOff | Rule::Errors(_) | Rule::Services(_) => "another rule",
+        _ => "another rule",
     }
 }
 

@@ -6,11 +6,11 @@ pub returns : goal.returns
 returns c by past s fin began =
     let core = ap (λ a. a.core) c.self.view_is in
     let rules = ap (λ a. a.rules) c.self.view_is in
-    rules-add c.args.self.now c.note.new.self c.make_all.new.self by past s c.args.began c.time-time.result c.new-steps.result.items c.give_up.new.steps.items
+    rules-add c.args.self.now c.react.new.self c.make_all.new.self by past s c.args.began c.time-time.result c.new-steps.result.items c.give_up.new.steps.items
     c.tell_errors.new.steps.items c.take_noted.new.steps.items c.repeat.new.steps.items c.take_noted.new.noted c.make_all.result fin
     (record {
-      core = c.in_ok-note.ensures.core;
-      rules = c.in_ok-note.ensures.noted by past s fin;
+      core = c.in_ok-react.ensures.core;
+      rules = c.in_ok-react.ensures.rules by past s fin;
       began_is = began;
       now_is = rw core at c.time-time.ensures;
     })

@@ -1,0 +1,47 @@
+use Rattle.std.proofs.Common.{◌≡◌, ◌∙◌, ℕ, suc, ◌+◌, ◌-◌, ◌≤◌, List, [], ◌∷◌, Option, Some, None, refl, sym, ap, arith, add-one, drop, get_or, length, take}
+use Rattle.std.specs.Borrow.{Bor}
+use Rattle.std.specs.List.{position}
+use Rattle.std.specs.Prelude.{codes, option_map}
+use Rattle.std.specs.Str.{bytes_eq}
+use Rattle.std.proofs.lemmas.List.{length-drop, take_all}
+use Rattle.lin_parts.specs.declared.parts.Parts.{Parts}
+use Rattle.lin_bench.specs.Fields.{field_texts}
+use Rattle.lin_bench.specs.RuleLines.{answers_of, cut_at_answer, unanswered, when_by, when_entering, when_of}
+use Rattle.lin_bench.proofs.Appending.{head-and-rest}
+use Rattle.lin_bench.proofs.Places.{cut-at, cut-nowhere, is-answer}
+use Rattle.lin_bench.proofs.rule_lines.when_in.Goals as goal
+
+abbrev rest-of : List (Bor (List ℕ)) → List (Bor (List ℕ))
+rest-of fs = take (length fs - 1) (drop 1 fs)
+
+as-answer : (o : Option ℕ) (word : List ℕ) (fs : List (Bor (List ℕ))) → word ≡ codes "answer" → o ≡ position (λ f. bytes_eq f.now word) fs
+    → o ≡ position is-answer fs
+as-answer o word fs same e = e ∙ ap (λ w. position (λ f. bytes_eq f.now w) fs) same
+
+abbrev none : Bor (List ℕ)
+none = record { ref_ptr = (0, 0); now = [] }
+
+-- the first field of a pattern, and what follows
+by-fields : (c : Parts) (n : List ℕ) (s next : Option (List ℕ)) (fields : List (Bor (List ℕ))) (d : Bor (List ℕ)) → 1 ≤ length fields
+    → when_entering c n s (field_texts fields, next) ≡ when_by c n s (get_or fields 0 d).now (field_texts (rest-of fields)) next (cut_at_answer (field_texts (rest-of fields)))
+by-fields c n s next fields d k = ap (λ l. when_entering c n s (field_texts l, next)) (head-and-rest fields d k)
+
+answered : (c : Parts) (n : List ℕ) (s next : Option (List ℕ)) (fields : List (Bor (List ℕ))) (d : Bor (List ℕ)) (i : ℕ) → 1 ≤ length fields → Some i ≡ position is-answer (rest-of fields)
+    → when_entering c n s (field_texts fields, next)
+    ≡ when_of c n s (field_texts (take (i + 1) fields)) (answers_of (Some (field_texts (take (length (rest-of fields) - (i + 1)) (drop (i + 1) (rest-of fields)))))) next
+answered c n s next fields d i k e =
+    let f = get_or fields 0 d in
+    let rest = rest-of fields in
+    let whole = take_all (length rest - (i + 1)) (drop (i + 1) rest) (omega (arith, length-drop (i + 1) rest)) in
+    let first : take (i + 1) fields ≡ f ∷ take i rest = ap (take (i + 1)) (head-and-rest fields d k) ∙ ap (λ j. take j (f ∷ rest)) (add-one i) in
+    by-fields c n s next fields d k ∙ ap (when_by c n s f.now (field_texts rest) next) (cut-at rest d i e)
+    ∙ ap (λ l. when_of c n s l (answers_of (Some (field_texts (drop (i + 1) rest)))) next) (sym (ap field_texts first))
+    ∙ ap (λ l. when_of c n s (field_texts (take (i + 1) fields)) (answers_of (Some (field_texts l))) next) (sym whole)
+
+not-answered : (c : Parts) (n : List ℕ) (s next : Option (List ℕ)) (fields : List (Bor (List ℕ))) (d : Bor (List ℕ)) → 1 ≤ length fields → None ≡ position is-answer (rest-of fields)
+    → when_entering c n s (field_texts fields, next) ≡ unanswered c n s (field_texts fields) next
+not-answered c n s next fields d k e =
+    let f = get_or fields 0 d in
+    let rest = rest-of fields in
+    by-fields c n s next fields d k ∙ ap (when_by c n s f.now (field_texts rest) next) (cut-nowhere rest d e)
+    ∙ ap (λ l. unanswered c n s (field_texts l) next) (sym (head-and-rest fields d k))

@@ -1,0 +1,6 @@
+use Rattle.lin_text.proofs.Growing.{grows-more}
+use Rattle.lin_bench.proofs.rules_in_force.put_state.Goals as goal
+
+pub returns : goal.returns
+returns g c =
+    grows-more c.put_text.ensures (grows-more c.put_node.ensures (grows-more c.put_byte.ensures (rw c.as_slice.ensures at c.put.ensures)))
