@@ -18,6 +18,7 @@ pub mod Searches
 pub mod Walks
 pub mod CarriedFrames
 pub mod LossSearches
+pub mod LeftEvents
 pub mod Hosts
 pub mod Runs
 pub mod Stricts

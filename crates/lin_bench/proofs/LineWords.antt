@@ -37,10 +37,12 @@ pending-more l (MessagesWait host count) more =
 pending-more l (AnswersNoted node count) more =
     words-more l (Number count) (Fixed (codes "of") ∷ Node node ∷ Fixed (codes "noted") ∷ []) more
 
--- what is so where nothing is left waiting
-pub few-words : (g : Got) → ((all : List Pending) → g ≡ got.StillPending all → ⊥) → short_words g ≡ got_words g
-few-words (got.StillPending all) h = absurd (h all refl)
-few-words g h = refl
+-- what is so where nothing is left waiting, and no messages are counted
+pub few-words : (g : Got) → ((all : List Pending) → g ≡ got.StillPending all → ⊥) → ((count : ℕ) → g ≡ got.Messages count → ⊥)
+    → short_words g ≡ got_words g
+few-words (got.StillPending all) h k = absurd (h all refl)
+few-words (got.Messages count) h k = absurd (k count refl)
+few-words g h k = refl
 
 -- ---- no line of words has an LF, whatever its words are
 module _ (l : Language) where

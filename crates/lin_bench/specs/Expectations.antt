@@ -8,7 +8,7 @@ use Rattle.lin_core.specs.Tables.{cause_word, causes, look_word, looks, first_wi
 use Rattle.lin_core.specs.Tables.{refusal_number, refusal_word, refusals}
 use Rattle.lin_core.specs.declared.reply.Refusal.{Refusal}
 use Rattle.lin_log.specs.Said.{is_number, number}
-use Rattle.lin_bench.specs.Fields.{◌>>=◌, count_field, frame_field, host_field}
+use Rattle.lin_bench.specs.Fields.{◌>>=◌, count_field, counts_field, frame_field, host_field}
 use Rattle.lin_bench.specs.Fields.{number_up_to, or_bad, pair_fields, present_node, present_table}
 use Rattle.lin_bench.specs.Fields.{range_ends, range_field, rows_and_time, signal_fields}
 use Rattle.lin_bench.specs.Fields.{value_field}
@@ -180,6 +180,14 @@ no_lost_form c all [] = Ok (expected.NoLost None)
 no_lost_form c all (n ∷ []) = host_field c n >>= (λ host. Ok (expected.NoLost (Some host)))
 no_lost_form c all fs = Err (UnknownExpectation all)
 
+-- how many messages there are
+abbrev pub messages_form : Parts → List (List ℕ) → List (List ℕ) → Result Expected Reason
+messages_form c all (from ∷ to ∷ k ∷ []) = do
+  pair ← pair_fields c from to
+  count ← counts_field k (range_ends k)
+  Ok (expected.Messages pair.0 pair.1 count.0 count.1)
+messages_form c all fs = Err (UnknownExpectation all)
+
 -- what isn't to be
 abbrev pub no_form : Parts → List (List ℕ) → List (List ℕ) → Result Expected Reason
 no_form c all [] = Err (UnknownExpectation all)
@@ -195,6 +203,7 @@ word_expectation c all word fs =
     if bytes_eq word (codes "signal") then signal_form c all fs
     else if bytes_eq word (codes "waiting") then waiting_form c all fs
     else if bytes_eq word (codes "message") then message_form c all fs
+    else if bytes_eq word (codes "messages") then messages_form c all fs
     else if bytes_eq word (codes "no") then no_form c all fs
     else if bytes_eq word (codes "sent") then sent_form c all fs
     else if bytes_eq word (codes "lost") then lost_form c all fs

@@ -189,3 +189,21 @@ range_between c f low high = do
 -- the ends of a range that a field has
 unfoldable pub range_field : Parts → List ℕ → List ℕ → List ℕ → Result (ℕ × ℕ) Reason
 range_field c f low high = if lacks_end low high then Err (NoRange f) else range_between c f low high
+
+-- numbers of messages, of which the first isn't above the second
+abbrev pub ordered_counts : List ℕ → ℕ → ℕ → Result (ℕ × ℕ) Reason
+ordered_counts f least most = if nat_lt most least then Err (NoRange f) else Ok (least, most)
+
+abbrev pub counts_to : List ℕ → List ℕ → List ℕ → Result (ℕ × ℕ) Reason
+counts_to f low high = do
+  least ← number_up_to 1000000 low
+  most ← number_up_to 1000000 high
+  ordered_counts f least most
+
+unfoldable pub counts_between : List ℕ → List ℕ → List ℕ → Result (ℕ × ℕ) Reason
+counts_between f low high = if lacks_end low high then Err (NoRange f) else counts_to f low high
+
+-- a number of messages, or a range of them that the field has
+abbrev pub counts_field : List ℕ → Option (List ℕ × List ℕ) → Result (ℕ × ℕ) Reason
+counts_field f None = number_up_to 1000000 f >>= (λ count. Ok (count, count))
+counts_field f (Some ends) = counts_between f ends.0 ends.1

@@ -183,6 +183,10 @@ end_words (end.When node state pattern) = when_end_words node state pattern
 end_words (end.WhensOf node) = Fixed (codes "when") ∷ Node node ∷ Fixed (codes "off") ∷ []
 end_words (end.Every by s) = repeated_words by s
 
+-- a number of messages, or a range of them
+abbrev pub counts_word : ℕ → ℕ → Word
+counts_word low high = if low == high then Number low else Range low high
+
 -- what is expected
 abbrev pub expected_words : Expected → List Word
 expected_words (expected.Signal node signal value) =
@@ -200,6 +204,8 @@ expected_words (expected.MessageWithin from to pattern most since) =
     ∷ Fixed (codes "within") ∷ Number most ∷ Fixed (since_word since) ∷ []
 expected_words (expected.NoMessage from to) =
     Fixed (codes "no message") ∷ Node from ∷ Node to ∷ []
+expected_words (expected.Messages from to low high) =
+    Fixed (codes "messages") ∷ Node from ∷ Node to ∷ counts_word low high ∷ []
 expected_words (expected.NoLost None) = Fixed (codes "no lost") ∷ []
 expected_words (expected.NoLost (Some host)) = Fixed (codes "no lost") ∷ Node host ∷ []
 expected_words (expected.Sent host) = Fixed (codes "sent") ∷ Node host ∷ []
@@ -265,12 +271,14 @@ short_words got.Asleep = Fixed (codes "asleep") ∷ []
 short_words got.Awake = Fixed (codes "awake") ∷ []
 short_words (got.StillPending all) = []
 short_words got.NoRule = Fixed (codes "no such rule") ∷ []
+short_words (got.Messages count) = []
 short_words got.NoNode = Fixed (codes "no such node") ∷ []
 short_words got.NoNodeOrSignal = Fixed (codes "no such node or signal") ∷ []
 
 -- what is so in its place
 abbrev pub got_words : Got → List Word
 got_words (got.StillPending all) = all_pending_words all
+got_words (got.Messages count) = Number count ∷ []
 got_words is = short_words is
 
 abbrev pub got_text : Parts → Got → List ℕ

@@ -81,6 +81,11 @@ abbrev pub next_event : List LogEntry → List EventKind → EventKind → Optio
 next_event past taken kind =
     slice_get (filter (is_of_kind kind) (all_events past)) (count_by (same_kind kind) taken)
 
+-- how many events of a kind no expectation has taken
+abbrev pub left_count : List LogEntry → List EventKind → EventKind → ℕ
+left_count past taken kind =
+    count_by (is_of_kind kind) (all_events past) - count_by (same_kind kind) taken
+
 abbrev pub with_taken : Option Event → EventKind → List EventKind → List EventKind
 with_taken None kind taken = taken
 with_taken (Some e) kind taken = taken ++ kind ∷ []
@@ -228,6 +233,11 @@ abbrev pub no_message_verdict : Option Event → Option Got
 no_message_verdict (Some (event.Message from to b)) = Some (got.Message b)
 no_message_verdict other = None
 
+-- so many messages, from one number to another, aren't taken
+abbrev pub messages_verdict : ℕ → ℕ → ℕ → Option Got
+messages_verdict low high count =
+    got_unless (nat_le low count && nat_le count high) (got.Messages count)
+
 abbrev pub no_lost_verdict : Option Event → Option Got
 no_lost_verdict (Some (event.Lost host number cause)) = Some (got.LostOf host number cause)
 no_lost_verdict other = None
@@ -307,6 +317,8 @@ verdict c opening past noted taken (expected.MessageWithin from to pattern most 
     (message_verdict pattern (next_event past taken (Messages from to)))
 verdict c opening past noted taken (expected.NoMessage from to) =
     no_message_verdict (next_event past taken (Messages from to))
+verdict c opening past noted taken (expected.Messages from to low high) =
+    messages_verdict low high (left_count past taken (Messages from to))
 verdict c opening past noted taken (expected.NoLost host) =
     no_lost_verdict (first_loss past taken host)
 verdict c opening past noted taken (expected.Sent host) = sent_verdict (next_event past taken (Fates host))

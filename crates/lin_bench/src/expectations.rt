@@ -4,7 +4,7 @@ ghost use Rattle.std.specs.Prelude.{◌≡◌, ◌<◌, ◌&&◌, IfOk, codes, l
 ghost use Rattle.std.specs.Str.{bytes_eq};
 ghost use Rattle.lin_bench.specs.Expectations.{before_last, data_length, data_pattern, entry_field, expectation, frame_form, lone_form};
 ghost use Rattle.lin_bench.specs.Expectations.{loss_expectation, lost_form, pattern_form, rows_and_limit};
-ghost use Rattle.lin_bench.specs.Expectations.{message_form, no_form, no_lost_form, no_message_form, signal_expectation};
+ghost use Rattle.lin_bench.specs.Expectations.{message_form, messages_form, no_form, no_lost_form, no_message_form, signal_expectation};
 ghost use Rattle.lin_bench.specs.Expectations.{refusal_called, refusal_field, refused_form, seen_form, sent_form};
 ghost use Rattle.lin_bench.specs.Expectations.{passes, signal_form, slot_form, table_form, until_form, waiting_form, while_form};
 ghost use Rattle.lin_bench.specs.Expectations.{word_expectation};
@@ -17,8 +17,9 @@ use crate::answers::has_length;
 use crate::expected::{Expected, Since};
 use crate::fault::LineFault;
 use crate::fields::{
-    count_field, fields, frame_field, host_field, number_field, pair_fields, present_node,
-    present_table, range_ends, range_field, rows_and_time, signal_fields, value_field,
+    count_field, counts_field, fields, frame_field, host_field, number_field, pair_fields,
+    present_node, present_table, range_ends, range_field, rows_and_time, signal_fields,
+    value_field,
 };
 use crate::reason::Reason;
 use crate::rule_lines::pattern;
@@ -434,6 +435,31 @@ fn no_lost(
     }
 }
 
+/// How many messages there are, by the fields after `messages`.
+fn messages(
+    alloc: Global,
+    cluster: &Cluster,
+    all: &[u8],
+    parts: &[&[u8]],
+) -> Result<Expected, LineFault>
+    ensures { Gives (λ e. e) result
+        (messages_form cluster.now (line_fields all.now) (field_texts parts.now)) }
+{
+    match parts {
+        [from, to, count] => {
+            let (from, to) = pair_fields(alloc, cluster, from, to)?;
+            let (low, high) = counts_field(alloc, count)?;
+            Ok(Expected::Messages {
+                from,
+                to,
+                low,
+                high,
+            })
+        }
+        _ => Err(no_form(alloc, cluster, all)?),
+    }
+}
+
 /// What isn't to be, by the fields after `no`.
 fn nothing(alloc: Global, cluster: &Cluster, all: &[u8], line: &[u8]) -> Result<Expected, LineFault>
     ensures { Gives (λ e. e) result (no_form cluster.now (line_fields all.now) (line_fields line.now)) }
@@ -486,6 +512,8 @@ fn of_word(
         waiting(alloc, cluster, all, parts)
     } else if word == b"message".as_slice() {
         message(alloc, cluster, all, line)
+    } else if word == b"messages".as_slice() {
+        messages(alloc, cluster, all, parts)
     } else if word == b"no".as_slice() {
         nothing(alloc, cluster, all, line)
     } else if word == b"sent".as_slice() {

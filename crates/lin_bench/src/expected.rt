@@ -64,6 +64,14 @@ pub enum Expected {
         from: u8,
         to: u8,
     },
+    /// So many messages from one host to another, from one number to another, have arrived that aren't
+    /// taken.
+    Messages {
+        from: u8,
+        to: u8,
+        low: u32,
+        high: u32,
+    },
     /// No message of a host, or of any, was lost that isn't taken.
     NoLost {
         host: Option<u8>,

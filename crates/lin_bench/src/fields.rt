@@ -4,6 +4,7 @@ ghost use Rattle.std.specs.Prelude.{◌≡◌, ◌<◌, ◌&&◌, codes, length,
 ghost use Rattle.std.specs.Str.{bytes_eq};
 ghost use Rattle.lin_log.specs.Said.{fields as said_fields};
 ghost use Rattle.lin_bench.specs.Fields.{bytes_fields, count_field, line_fields, node_field, number_up_to};
+ghost use Rattle.lin_bench.specs.Fields.{counts_between, counts_field};
 ghost use Rattle.lin_bench.specs.Fields.{after_dots, frame_called, frame_field, frame_numbered};
 ghost use Rattle.lin_bench.specs.Fields.{has_commander, lacks_end, message_frame};
 ghost use Rattle.lin_log.specs.Language.{named_language, number_named};
@@ -383,6 +384,40 @@ pub(crate) fn range_field(
     match (low, high) {
         (Value::Scalar(low), Value::Scalar(high)) if low <= high => Ok((low, high)),
         _ => Err(LineFault::Bad(Reason::NoRange(Text::copied(alloc, field)?))),
+    }
+}
+
+/// A number of messages from one end of a range, which stands in this field, to the other.
+#[tactic(auto, unfolding(crate::specs::Fields::counts_between))]
+fn counts_between(
+    alloc: Global,
+    field: &[u8],
+    low: &[u8],
+    high: &[u8],
+) -> Result<(u32, u32), LineFault>
+    ensures { Gives (λ r. r) result (counts_between field.now low.now high.now) }
+{
+    if lacks_end(low, high) {
+        return Err(LineFault::Bad(Reason::NoRange(Text::copied(alloc, field)?)));
+    }
+    let least = number_field(alloc, low, 1_000_000)?;
+    let most = number_field(alloc, high, 1_000_000)?;
+    if most < least {
+        return Err(LineFault::Bad(Reason::NoRange(Text::copied(alloc, field)?)));
+    }
+    Ok((least, most))
+}
+
+/// A number of messages, at most 1,000,000, or a range of them.
+pub(crate) fn counts_field(alloc: Global, field: &[u8]) -> Result<(u32, u32), LineFault>
+    ensures { Gives (λ r. r) result (counts_field field.now (range_ends field.now)) }
+{
+    match range_ends(field) {
+        Some((low, high)) => counts_between(alloc, field, low, high),
+        None => {
+            let count = number_field(alloc, field, 1_000_000)?;
+            Ok((count, count))
+        }
     }
 }
 

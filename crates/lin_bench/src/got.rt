@@ -29,6 +29,8 @@ pub enum Got {
     Waiting(usize),
     /// The next message has these bytes.
     Message(Payload),
+    /// So many messages have arrived that aren't taken.
+    Messages(u128),
     /// The next message came so many microseconds after the last one the other way before it.
     Took(u64),
     /// The host's message with this number was sent.

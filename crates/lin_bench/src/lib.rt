@@ -35,6 +35,7 @@ mod got;
 mod got_meanings;
 mod hints;
 mod law;
+mod left_events;
 mod line;
 mod lines;
 mod losses;

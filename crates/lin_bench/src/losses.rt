@@ -8,6 +8,7 @@ ghost use Rattle.lin_bench.specs.Searches.{AreClear, IsSearchState, taken_by};
 ghost use Rattle.lin_bench.specs.Verdicts.{first_loss, is_host, is_loss_left, is_of_kind};
 ghost use Rattle.lin_bench.specs.declared.taken.EventKind.TheVariants.{Fates};
 
+use crate::left_events::count_of;
 use crate::taken::{EventKind, TakenEvents, events_of, last_end};
 use lin_core::{Event, Log};
 
@@ -18,13 +19,6 @@ fn is_host(which: Option<u8>, host: u8) -> bool
         Some(h) => h == host,
         None => true,
     }
-}
-
-/// How many events of a kind there are.
-fn count_of(told: &[Event], kind: EventKind) -> usize
-    ensures { result ≡ count_by (is_of_kind kind) told.now }
-{
-    told.iter().filter(|event| kind.has(event)).count()
 }
 
 /// Whether what became of a host's message isn't taken, by its entry and the events before it there.

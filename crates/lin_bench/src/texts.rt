@@ -7,7 +7,7 @@ ghost use Rattle.lin_text.specs.Written.{Grows, WritesText};
 ghost use Rattle.lin_log.specs.Language.{named_language};
 ghost use Rattle.lin_log.specs.Shown.{as_word};
 ghost use Rattle.lin_bench.specs.LineWords.{spaced_words};
-ghost use Rattle.lin_bench.specs.Texts.{bad_line_text, bytes_word, cluster_text, end_words, entries_word, expected_text, expected_words, fields_word};
+ghost use Rattle.lin_bench.specs.Texts.{bad_line_text, bytes_word, cluster_text, counts_word, end_words, entries_word, expected_text, expected_words, fields_word};
 ghost use Rattle.lin_bench.specs.declared.expected.Expected.TheVariants.{HasRule};
 ghost use Rattle.lin_bench.specs.declared.rules.RuleEnd.{RuleEnd};
 ghost use Rattle.lin_bench.specs.Texts.{found_text, got_text, hint_words, judged_text};
@@ -347,6 +347,17 @@ fn since_word(since: Since) -> &'static str
     }
 }
 
+/// A number of messages, or a range of them.
+fn counts_word(low: u32, high: u32) -> Word<'static>
+    ensures { as_word result ≡ counts_word low high }
+{
+    if low == high {
+        Word::Number(u64::from(low))
+    } else {
+        Word::Range(u64::from(low), u64::from(high))
+    }
+}
+
 /// What is expected.
 fn expected_line(expected: &Expected) -> WordList<'_>
     requires { (end : RuleEnd) → expected.now ≡ HasRule end → ⊥ }
@@ -429,6 +440,19 @@ fn expected_line(expected: &Expected) -> WordList<'_>
                 Word::Fixed("no message"),
                 Word::Node(*from),
                 Word::Node(*to),
+            ]);
+        }
+        Expected::Messages {
+            from,
+            to,
+            low,
+            high,
+        } => {
+            return WordList::of(&[
+                Word::Fixed("messages"),
+                Word::Node(*from),
+                Word::Node(*to),
+                counts_word(*low, *high),
             ]);
         }
         Expected::NoLost { host: None } => return WordList::of(&[Word::Fixed("no lost")]),
@@ -594,7 +618,7 @@ pub fn put_pending<W: Write>(out: &mut TextWriter<'_, W>, cluster: &Cluster, pen
     }
 }
 
-/// What is so in its place, in few words.
+/// What is so in its place, in few words; nothing for what `put_is` puts.
 fn got_line(got: &Got) -> WordList<'_>
     ensures { result ≡ short_words got.now }
 {
@@ -647,7 +671,7 @@ fn got_line(got: &Got) -> WordList<'_>
         Got::NoStep => return WordList::of(&[Word::Fixed("no step")]),
         Got::Asleep => return WordList::of(&[Word::Fixed("asleep")]),
         Got::Awake => return WordList::of(&[Word::Fixed("awake")]),
-        Got::StillPending(_) => return WordList::of(&[]),
+        Got::StillPending(_) | Got::Messages(_) => return WordList::of(&[]),
         Got::NoRule => return WordList::of(&[Word::Fixed("no such rule")]),
         Got::NoNode => return WordList::of(&[Word::Fixed("no such node")]),
         Got::NoNodeOrSignal => return WordList::of(&[Word::Fixed("no such node or signal")]),
@@ -660,6 +684,7 @@ fn put_is<W: Write>(out: &mut TextWriter<'_, W>, cluster: &Cluster, got: &Got)
 {
     match got {
         Got::StillPending(pending) => put_pending(out, cluster, pending.as_slice()),
+        Got::Messages(count) => out.put_number(*count),
         _ => put_word_list(out, cluster, &got_line(got)),
     }
 }

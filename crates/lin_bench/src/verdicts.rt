@@ -8,7 +8,7 @@ ghost use Rattle.lin_bench.specs.Making.{course_on};
 ghost use Rattle.lin_bench.specs.Meant.{is_among_values};
 ghost use Rattle.lin_bench.specs.Slots.{pending};
 ghost use Rattle.lin_bench.specs.Verdicts.{done_verdict, idle_verdict, kind_taken, last_event};
-ghost use Rattle.lin_bench.specs.Verdicts.{lost_verdict, message_verdict, newest_reply};
+ghost use Rattle.lin_bench.specs.Verdicts.{left_count, lost_verdict, message_verdict, messages_verdict, newest_reply};
 ghost use Rattle.lin_bench.specs.Verdicts.{next_event, refused_verdict};
 ghost use Rattle.lin_bench.specs.Verdicts.{is_within, no_lost_verdict, no_message_verdict, running_table, same_value, seen_verdict, sent_verdict};
 ghost use Rattle.lin_bench.specs.Verdicts.{slot_verdict, table_verdict, taking, time_taken, value_seen, value_verdict, verdict, waiting_verdict, within_verdict};
@@ -20,6 +20,7 @@ use crate::carried::{last_carried, open_after};
 use crate::ended_rules::same_value;
 use crate::expected::{Expected, Since};
 use crate::got::Got;
+use crate::left_events::count_left;
 use crate::losses::first_loss;
 use crate::meant::MeantValues;
 use crate::ruled::{RuledCore, pending};
@@ -163,6 +164,17 @@ fn no_message(alloc: Global, event: Option<&Event>) -> Result<Option<Got>, Alloc
             Ok(Some(Got::Message(Payload::copied(alloc, bytes.as_slice())?)))
         }
         _ => Ok(None),
+    }
+}
+
+/// Whether so many messages, from one number to another, aren't taken.
+fn messages(count: u128, low: u32, high: u32) -> Option<Got>
+    ensures { result ≡ messages_verdict low high count }
+{
+    if u128::from(low) <= count && count <= u128::from(high) {
+        None
+    } else {
+        Some(Got::Messages(count))
     }
 }
 
@@ -551,6 +563,18 @@ pub(crate) fn verdict(
                 to: *to,
             };
             no_message(alloc, look_for(core, taken, kind)?)
+        }
+        Expected::Messages {
+            from,
+            to,
+            low,
+            high,
+        } => {
+            let kind = EventKind::Messages {
+                from: *from,
+                to: *to,
+            };
+            Ok(messages(count_left(core.log(), taken, kind), *low, *high))
         }
         Expected::NoLost { host } => Ok(no_lost(first_loss(core.log(), taken, *host))),
         Expected::Sent { host } => {

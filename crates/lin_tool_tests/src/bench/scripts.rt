@@ -167,6 +167,14 @@ fn name_of(line: &ScriptLine) -> &'static str {
             },
         ) => "signal in a range",
         ScriptLine::Expect(Expected::NoMessage { from: 0, to: 1 }) => "no message",
+        ScriptLine::Expect(
+            Expected::Messages {
+                from: 1,
+                to: 0,
+                low: 2,
+                high: 1_000_000,
+            },
+        ) => "two messages or more",
         ScriptLine::Expect(Expected::Table(2)) => "running table",
         ScriptLine::Forget => "forget",
         ScriptLine::Rule(rule) => name_of_rule(rule),
@@ -223,6 +231,7 @@ const ON_BUILT_IN: Lines<'static> = &[
     (b"expect seen none", "seen none"),
     (b"expect lost door timedout", "lost in time"),
     (b"expect no message cem 1", "no message"),
+    (b"expect messages door 0 2..1000000", "two messages or more"),
     (b"forget # what was before", "forget"),
     (
         b"slots 20 until message door cem 7E",
