@@ -6,7 +6,7 @@ const LDF_WORDS = new Set(`LIN_description_file LIN_protocol_version LIN_languag
 	bcd_value ascii_value kbps ms`.split(/\s+/));
 const STEP_WORDS = `slots slot write expect send switch sleep wake when every timeouts response_errors services state forget
 	open finish answer leave hurt close timeout`.split(/\s+/);
-const FORM_WORDS = 'signal message messages frame seen sent lost no waiting slot table asleep awake done refused'.split(' ');
+const FORM_WORDS = 'signal message messages next frame seen sent lost no waiting slot table asleep awake done refused'.split(' ');
 const SEEN_WORDS = 'good none silent damaged collided'.split(' '), CAUSE_WORDS = 'damaged timedout slept'.split(' ');
 const BENCH_WORDS = new Set([...STEP_WORDS, ...FORM_WORDS, ...SEEN_WORDS, ...CAUSE_WORDS,
 	...'until while idle ms within of last silent then after in enter on off up down bus'.split(' ')]);
@@ -95,6 +95,7 @@ function formWords(words, names) {
 	if (form === 'slot' || form === 'table') return count === 1 ? names('tables') : [];
 	if (form === 'seen') return count === 1 ? SEEN_WORDS : [];
 	if (form === 'no' && count === 1) return ['lost', 'message'];
+	if (form === 'next' && count === 1) return ['message'];
 	if (form === 'lost' && count > 1) return CAUSE_WORDS;
 	return names('nodes');
 }

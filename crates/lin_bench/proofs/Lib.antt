@@ -17,6 +17,7 @@ pub mod Events
 pub mod Searches
 pub mod Walks
 pub mod CarriedFrames
+pub mod FirstEvents
 pub mod LossSearches
 pub mod LeftEvents
 pub mod Hosts

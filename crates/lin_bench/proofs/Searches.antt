@@ -21,7 +21,8 @@ use Rattle.lin_bench.specs.declared.taken.LogPlace.{LogPlace}
 use Rattle.lin_bench.specs.declared.taken.Search.{Search}
 use Rattle.lin_bench.specs.declared.taken.TakenEvents.{TakenEvents}
 use Rattle.lin_bench.proofs.Events.{count-kinds, events-of-log}
-use Rattle.lin_bench.proofs.LossSearches.{clear-at-first, each-at-most, fewer, grown-count, none-more}
+use Rattle.lin_bench.proofs.FirstEvents.{fewer, grown-count}
+use Rattle.lin_bench.proofs.LossSearches.{clear-at-first, each-at-most, none-more}
 use Rattle.lin_bench.proofs.Makes.{append-nothing}
 
 -- what is taken where nothing was searched for since these entries

@@ -102,6 +102,20 @@ message_form c all (from ∷ to ∷ f ∷ fs) = do
   pattern_form all pair.0 pair.1 (rows_and_limit (f ∷ fs))
 message_form c all fs = Err (UnknownExpectation all)
 
+-- the oldest message of all
+abbrev pub next_message_form : Parts → List (List ℕ) → List (List ℕ) → Result Expected Reason
+next_message_form c all (from ∷ to ∷ f ∷ fs) = do
+  pair ← pair_fields c from to
+  pattern ← pattern_fields (f ∷ fs)
+  Ok (expected.NextMessage pair.0 pair.1 pattern)
+next_message_form c all fs = Err (UnknownExpectation all)
+
+abbrev pub next_form : Parts → List (List ℕ) → List (List ℕ) → Result Expected Reason
+next_form c all [] = Err (UnknownExpectation all)
+next_form c all (word ∷ fs) =
+    if bytes_eq word (codes "message") then next_message_form c all fs
+    else Err (UnknownExpectation all)
+
 abbrev pub sent_form : Parts → List (List ℕ) → List (List ℕ) → Result Expected Reason
 sent_form c all (n ∷ []) = host_field c n >>= (λ host. Ok (expected.Sent host))
 sent_form c all fs = Err (UnknownExpectation all)
@@ -204,6 +218,7 @@ word_expectation c all word fs =
     else if bytes_eq word (codes "waiting") then waiting_form c all fs
     else if bytes_eq word (codes "message") then message_form c all fs
     else if bytes_eq word (codes "messages") then messages_form c all fs
+    else if bytes_eq word (codes "next") then next_form c all fs
     else if bytes_eq word (codes "no") then no_form c all fs
     else if bytes_eq word (codes "sent") then sent_form c all fs
     else if bytes_eq word (codes "lost") then lost_form c all fs
@@ -234,8 +249,8 @@ as_until read = read
 -- what speaks of single events or of a step
 abbrev pub passes : List ℕ → Bool
 passes word =
-    bytes_eq word (codes "message") || bytes_eq word (codes "sent") || bytes_eq word (codes "lost")
-    || bytes_eq word (codes "done") || bytes_eq word (codes "refused")
+    bytes_eq word (codes "message") || bytes_eq word (codes "next") || bytes_eq word (codes "sent")
+    || bytes_eq word (codes "lost") || bytes_eq word (codes "done") || bytes_eq word (codes "refused")
 
 abbrev pub as_while : Result Expected Reason → Result Expected Reason
 as_while (Err (UnknownExpectation fs)) = Err (UnknownWhile fs)

@@ -17,7 +17,7 @@ pub mod Slots
 pub mod Verdicts
 pub mod Searches
 pub mod Arrivals
-pub mod Losses
+pub mod LeftEvents
 pub mod Carried
 pub mod Made
 pub mod Making

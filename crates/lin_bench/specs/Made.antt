@@ -43,7 +43,7 @@ course_of b = record { past = b.past; rules = b.rules }
 abbrev pub comes : Parts → ℕ → List EventKind → Expected → Course → Bool
 comes c opening taken what at =
     option_map_or (λ kind. is_some (next_event at.past taken kind))
-    (kind_taken what) (is_none (verdict c opening at.past at.rules.noted taken what))
+    (kind_taken at.past taken what) (is_none (verdict c opening at.past at.rules.noted taken what))
 
 -- after a line began with so many entries, slots were made, and what is to hold doesn't
 abbrev pub fails : Parts → ℕ → List EventKind → ℕ → Expected → Course → Bool
@@ -103,7 +103,7 @@ met_or what (Some got) = Unmet what got
 abbrev pub bench_with_verdict : Parts → ℕ → BenchState → Option Expected → BenchState × Verdict
 bench_with_verdict c opening b None = (b, Nothing)
 bench_with_verdict c opening b (Some what) = (
-  record b { taken = taking b.past b.taken (kind_taken what) },
+  record b { taken = taking b.past b.taken (kind_taken b.past b.taken what) },
   met_or what (verdict c opening b.past b.rules.noted b.taken what),
 )
 

@@ -8,7 +8,7 @@ use Rattle.std.specs.List.{filter_map}
 use Rattle.lin_core.specs.History.{events}
 use Rattle.lin_core.specs.declared.event.Event.{Event}
 use Rattle.lin_core.specs.declared.log.LogEntry.{LogEntry}
-use Rattle.lin_bench.specs.Verdicts.{is_of_kind, kind_of, loss_after, same_kind}
+use Rattle.lin_bench.specs.Verdicts.{first_so, is_loss_left, is_of_kind, kind_of, same_kind}
 use Rattle.lin_bench.specs.declared.taken.Cleared.{Cleared}
 use Rattle.lin_bench.specs.declared.taken.EventKind.{EventKind}
 use Rattle.lin_bench.specs.declared.taken.LogPlace.{LogPlace}
@@ -49,11 +49,13 @@ abbrev pub cleared_count : Cleared → Option ℕ → ℕ
 cleared_count c None = c.all
 cleared_count c (Some host) = slice_index c.hosts host
 
--- so many entries hold none
+-- so many entries hold no event that passes a test of the events before it and itself
+abbrev pub HoldNone : (List Event → Event → Bool) → List LogEntry → ℕ → Type 0
+HoldNone is es n = (n ≤ length es) × (first_so is [] (flat_map events (take n es)) ≡ None)
+
+-- so many entries hold no such loss
 abbrev pub AreClear : List LogEntry → TakenEvents → Option ℕ → ℕ → Type 0
-AreClear es t which n =
-    (n ≤ length es)
-    × (loss_after which (taken_by es t) [] (flat_map events (take n es)) ≡ None)
+AreClear es t which n = HoldNone (is_loss_left which (taken_by es t)) es n
 
 -- the last search for each kind ended behind all events that were taken of it
 pub record IsSearchState (es : List LogEntry) (t : TakenEvents) : Type 0 where

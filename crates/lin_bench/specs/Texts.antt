@@ -202,6 +202,8 @@ expected_words (expected.Message from to pattern) =
 expected_words (expected.MessageWithin from to pattern most since) =
     Fixed (codes "message") ∷ Node from ∷ Node to ∷ Matching pattern
     ∷ Fixed (codes "within") ∷ Number most ∷ Fixed (since_word since) ∷ []
+expected_words (expected.NextMessage from to pattern) =
+    Fixed (codes "next message") ∷ Node from ∷ Node to ∷ Matching pattern ∷ []
 expected_words (expected.NoMessage from to) =
     Fixed (codes "no message") ∷ Node from ∷ Node to ∷ []
 expected_words (expected.Messages from to low high) =
@@ -251,6 +253,7 @@ short_words (got.Value value) = Raw value ∷ []
 short_words (got.Meaning text) = Said text ∷ []
 short_words (got.Waiting count) = Number count ∷ []
 short_words (got.Message bytes) = Hex bytes ∷ []
+short_words (got.MessageOf from to bytes) = Node from ∷ Node to ∷ Hex bytes ∷ []
 short_words (got.Took time) = Number time ∷ Fixed (codes "us") ∷ []
 short_words (got.Sent number) = Fixed (codes "message") ∷ Number number ∷ Fixed (codes "sent") ∷ []
 short_words (got.Lost number cause) =

@@ -2,7 +2,7 @@
 -- newest first.
 use Rattle.std.specs.Prelude.{ℕ, ◌==◌, ◌&&◌, ◌||◌, Bool, true, false, nat_le, nat_lt, if◌then◌else◌, List, []}
 use Rattle.std.specs.Prelude.{◌∷◌, ◌++◌, filter, length, slice_get, Option, Some, None, count_by}
-use Rattle.std.specs.Prelude.{find, map, option_map, reverse, take, slice_index, ◌*◌, ◌-◌}
+use Rattle.std.specs.Prelude.{find, map, option_and_then, option_map, reverse, take, slice_index, ◌*◌, ◌-◌}
 use Rattle.std.specs.List.{filter_map, list_any}
 use Rattle.std.specs.Option.{option_map_or}
 use Rattle.lin_frame.specs.declared.value.Value.{Value}
@@ -90,14 +90,6 @@ abbrev pub with_taken : Option Event → EventKind → List EventKind → List E
 with_taken None kind taken = taken
 with_taken (Some e) kind taken = taken ++ kind ∷ []
 
--- the kind of event that an expectation takes, if it takes one
-abbrev pub kind_taken : Expected → Option EventKind
-kind_taken (expected.Message from to pattern) = Some (Messages from to)
-kind_taken (expected.MessageWithin from to pattern most since) = Some (Messages from to)
-kind_taken (expected.Sent host) = Some (Fates host)
-kind_taken (expected.Lost host cause) = Some (Fates host)
-kind_taken what = None
-
 -- the time of the last step with such an event, and 0 where there was none
 abbrev pub last_time : Parts → (Event → Bool) → List LogEntry → ℕ
 last_time c is [] = 0
@@ -132,6 +124,38 @@ abbrev pub taking : List LogEntry → List EventKind → Option EventKind → Li
 taking past taken None = taken
 taking past taken (Some kind) = with_taken (next_event past taken kind) kind taken
 
+-- the first of events, of which these stand before them, that passes a test of those before it and itself
+abbrev pub first_so : (List Event → Event → Bool) → List Event → List Event → Option Event
+first_so is before [] = None
+first_so is before (e ∷ es) = if is before e then Some e else first_so is (before ++ e ∷ []) es
+
+-- ---- messages that aren't taken
+abbrev pub message_kind : Event → Option EventKind
+message_kind (event.Message from to bytes) = Some (Messages from to)
+message_kind event = None
+
+-- whether an event, of which these stand before it, is a message that isn't taken: as many messages
+-- between its hosts as were taken stand before it
+abbrev pub is_message_left : List EventKind → List Event → Event → Bool
+is_message_left taken before e =
+    option_map_or
+    (λ kind. nat_le (count_by (same_kind kind) taken) (count_by (is_of_kind kind) before))
+    (message_kind e) false
+
+-- the oldest message of all that no expectation has taken
+abbrev pub first_message : List LogEntry → List EventKind → Option Event
+first_message past taken = first_so (is_message_left taken) [] (all_events past)
+
+-- the kind of event that an expectation takes, if it takes one
+abbrev pub kind_taken : List LogEntry → List EventKind → Expected → Option EventKind
+kind_taken past taken (expected.Message from to pattern) = Some (Messages from to)
+kind_taken past taken (expected.MessageWithin from to pattern most since) = Some (Messages from to)
+kind_taken past taken (expected.NextMessage from to pattern) =
+    option_and_then message_kind (first_message past taken)
+kind_taken past taken (expected.Sent host) = Some (Fates host)
+kind_taken past taken (expected.Lost host cause) = Some (Fates host)
+kind_taken past taken what = None
+
 -- ---- losses that aren't taken
 abbrev pub host_lost : Event → Option ℕ
 host_lost (event.Lost host number cause) = Some host
@@ -152,10 +176,7 @@ is_loss_left which taken before e =
 
 -- the first such, of the events after these
 abbrev pub loss_after : Option ℕ → List EventKind → List Event → List Event → Option Event
-loss_after which taken before [] = None
-loss_after which taken before (e ∷ es) =
-    if is_loss_left which taken before e then Some e
-    else loss_after which taken (before ++ e ∷ []) es
+loss_after which taken before es = first_so (is_loss_left which taken) before es
 
 abbrev pub first_loss : List LogEntry → List EventKind → Option ℕ → Option Event
 first_loss past taken which = loss_after which taken [] (all_events past)
@@ -220,9 +241,18 @@ waiting_verdict c past host count =
     then got_unless (length (waiting c past host) == count) (got.Waiting (length (waiting c past host)))
     else Some got.NoNode
 
+abbrev pub bytes_verdict : Pattern → List ℕ → Option Got
+bytes_verdict pattern b = got_unless (fits pattern b) (got.Message b)
+
 abbrev pub message_verdict : Pattern → Option Event → Option Got
-message_verdict pattern (Some (event.Message from to b)) = got_unless (fits pattern b) (got.Message b)
+message_verdict pattern (Some (event.Message from to b)) = bytes_verdict pattern b
 message_verdict pattern other = Some got.NoEvent
+
+-- a message that is between other hosts isn't right, whatever its bytes are
+abbrev pub next_message_verdict : ℕ → ℕ → Pattern → Option Event → Option Got
+next_message_verdict from to pattern (Some (event.Message f t b)) =
+    if f == from && t == to then bytes_verdict pattern b else Some (got.MessageOf f t b)
+next_message_verdict from to pattern other = Some got.NoEvent
 
 -- a message that is right may be late
 abbrev pub within_verdict : ℕ → ℕ → Option Got → Option Got
@@ -315,6 +345,8 @@ verdict c opening past noted taken (expected.Message from to pattern) =
 verdict c opening past noted taken (expected.MessageWithin from to pattern most since) =
     within_verdict most (time_taken c past taken since from to)
     (message_verdict pattern (next_event past taken (Messages from to)))
+verdict c opening past noted taken (expected.NextMessage from to pattern) =
+    next_message_verdict from to pattern (first_message past taken)
 verdict c opening past noted taken (expected.NoMessage from to) =
     no_message_verdict (next_event past taken (Messages from to))
 verdict c opening past noted taken (expected.Messages from to low high) =

@@ -63,7 +63,8 @@ fn judge(
         (verdict ruled.now.core.cluster ruled.now.core.opening (past_of ruled.now.core)
         ruled.now.rules.noted (taken_by ruled.now.core.log taken.old) expected)) }
     ensures taken { OnOk result (taken_by ruled.now.core.log taken.new ≡ taking
-        (past_of ruled.now.core) (taken_by ruled.now.core.log taken.old) (kind_taken expected)) }
+        (past_of ruled.now.core) (taken_by ruled.now.core.log taken.old)
+        (kind_taken (past_of ruled.now.core) (taken_by ruled.now.core.log taken.old) expected)) }
     ensures known { IsSearchState ruled.now.core.log taken.new }
 {
     match verdict(alloc, ruled, taken, &expected)? {

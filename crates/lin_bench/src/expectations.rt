@@ -4,7 +4,7 @@ ghost use Rattle.std.specs.Prelude.{◌≡◌, ◌<◌, ◌&&◌, IfOk, codes, l
 ghost use Rattle.std.specs.Str.{bytes_eq};
 ghost use Rattle.lin_bench.specs.Expectations.{before_last, data_length, data_pattern, entry_field, expectation, frame_form, lone_form};
 ghost use Rattle.lin_bench.specs.Expectations.{loss_expectation, lost_form, pattern_form, rows_and_limit};
-ghost use Rattle.lin_bench.specs.Expectations.{message_form, messages_form, no_form, no_lost_form, no_message_form, signal_expectation};
+ghost use Rattle.lin_bench.specs.Expectations.{message_form, messages_form, next_form, next_message_form, no_form, no_lost_form, no_message_form, signal_expectation};
 ghost use Rattle.lin_bench.specs.Expectations.{refusal_called, refusal_field, refused_form, seen_form, sent_form};
 ghost use Rattle.lin_bench.specs.Expectations.{passes, signal_form, slot_form, table_form, until_form, waiting_form, while_form};
 ghost use Rattle.lin_bench.specs.Expectations.{word_expectation};
@@ -205,6 +205,45 @@ fn message(alloc: Global, cluster: &Cluster, all: &[u8], line: &[u8]) -> Result<
     let (from, to) = pair_fields(alloc, cluster, from, to)?;
     let parts = fields(alloc, cluster, rest)?;
     message_pattern(alloc, cluster, from, to, all, parts.as_slice())
+}
+
+/// The oldest message of all, by the fields after `next message`.
+fn next_message(
+    alloc: Global,
+    cluster: &Cluster,
+    all: &[u8],
+    line: &[u8],
+) -> Result<Expected, LineFault>
+    ensures { Gives (λ e. e) result
+        (next_message_form cluster.now (line_fields all.now) (line_fields line.now)) }
+{
+    let Some((from, rest)) = first_field(cluster, line) else {
+        return Err(no_form(alloc, cluster, all)?);
+    };
+    let Some((to, rest)) = first_field(cluster, rest) else {
+        return Err(no_form(alloc, cluster, all)?);
+    };
+    if is_over(cluster, rest) {
+        return Err(no_form(alloc, cluster, all)?);
+    }
+    let (from, to) = pair_fields(alloc, cluster, from, to)?;
+    let parts = fields(alloc, cluster, rest)?;
+    let pattern = pattern(alloc, parts.as_slice())?;
+    Ok(Expected::NextMessage { from, to, pattern })
+}
+
+/// What is next, by the fields after `next`.
+fn next(alloc: Global, cluster: &Cluster, all: &[u8], line: &[u8]) -> Result<Expected, LineFault>
+    ensures { Gives (λ e. e) result (next_form cluster.now (line_fields all.now) (line_fields line.now)) }
+{
+    let Some((word, rest)) = first_field(cluster, line) else {
+        return Err(no_form(alloc, cluster, all)?);
+    };
+    if word == b"message".as_slice() {
+        next_message(alloc, cluster, all, rest)
+    } else {
+        Err(no_form(alloc, cluster, all)?)
+    }
 }
 
 fn sent(
@@ -514,6 +553,8 @@ fn of_word(
         message(alloc, cluster, all, line)
     } else if word == b"messages".as_slice() {
         messages(alloc, cluster, all, parts)
+    } else if word == b"next".as_slice() {
+        next(alloc, cluster, all, line)
     } else if word == b"no".as_slice() {
         nothing(alloc, cluster, all, line)
     } else if word == b"sent".as_slice() {
@@ -565,6 +606,7 @@ fn passes(word: &[u8]) -> bool
     ensures { result ≡ passes word.now }
 {
     word == b"message".as_slice()
+        || word == b"next".as_slice()
         || word == b"sent".as_slice()
         || word == b"lost".as_slice()
         || word == b"done".as_slice()

@@ -59,6 +59,12 @@ pub enum Expected {
         most_ms: u32,
         since: Since,
     },
+    /// The next message of all hosts is from this one to another, and matches this pattern.
+    NextMessage {
+        from: u8,
+        to: u8,
+        pattern: Pattern,
+    },
     /// No message from one host to another has arrived that isn't taken.
     NoMessage {
         from: u8,

@@ -29,6 +29,8 @@ pub enum Got {
     Waiting(usize),
     /// The next message has these bytes.
     Message(Payload),
+    /// The next message of all hosts is from this one to another, with these bytes.
+    MessageOf { from: u8, to: u8, bytes: Payload },
     /// So many messages have arrived that aren't taken.
     Messages(u128),
     /// The next message came so many microseconds after the last one the other way before it.

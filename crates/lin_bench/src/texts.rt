@@ -435,6 +435,14 @@ fn expected_line(expected: &Expected) -> WordList<'_>
                 Word::Fixed(since_word(*since)),
             ]);
         }
+        Expected::NextMessage { from, to, pattern } => {
+            return WordList::of(&[
+                Word::Fixed("next message"),
+                Word::Node(*from),
+                Word::Node(*to),
+                Word::Pattern(pattern),
+            ]);
+        }
         Expected::NoMessage { from, to } => {
             return WordList::of(&[
                 Word::Fixed("no message"),
@@ -627,6 +635,11 @@ fn got_line(got: &Got) -> WordList<'_>
         Got::Meaning(text) => return WordList::of(&[Word::Said(text.as_slice())]),
         Got::Waiting(count) => return WordList::of(&[Word::Number(*count as u64)]),
         Got::Message(bytes) => return WordList::of(&[Word::Bytes(bytes.as_slice())]),
+        Got::MessageOf { from, to, bytes } => return WordList::of(&[
+            Word::Node(*from),
+            Word::Node(*to),
+            Word::Bytes(bytes.as_slice()),
+        ]),
         Got::Took(time) => return WordList::of(&[Word::Number(*time), Word::Fixed("us")]),
         Got::Sent { number } => return WordList::of(&[
             Word::Fixed("message"),

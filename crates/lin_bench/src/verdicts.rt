@@ -1,6 +1,6 @@
 //! Verdicts on what is expected.
 
-ghost use Rattle.std.specs.Prelude.{◌≡◌, ◌==◌, ◌<◌, ◌≤◌, ◌&&◌, IfOk, OnOk, None, option_map};
+ghost use Rattle.std.specs.Prelude.{◌≡◌, ◌==◌, ◌<◌, ◌≤◌, ◌&&◌, IfOk, OnOk, None, option_and_then, option_map};
 ghost use Rattle.lin_core.specs.Core.{past_of};
 ghost use Rattle.lin_bench.specs.Made.{comes};
 ghost use Rattle.lin_bench.specs.Searches.{IsSearchState, taken_by};
@@ -8,7 +8,8 @@ ghost use Rattle.lin_bench.specs.Making.{course_on};
 ghost use Rattle.lin_bench.specs.Meant.{is_among_values};
 ghost use Rattle.lin_bench.specs.Slots.{pending};
 ghost use Rattle.lin_bench.specs.Verdicts.{done_verdict, idle_verdict, kind_taken, last_event};
-ghost use Rattle.lin_bench.specs.Verdicts.{left_count, lost_verdict, message_verdict, messages_verdict, newest_reply};
+ghost use Rattle.lin_bench.specs.Verdicts.{bytes_verdict, first_message, left_count, lost_verdict, message_kind, message_verdict};
+ghost use Rattle.lin_bench.specs.Verdicts.{messages_verdict, newest_reply, next_message_verdict};
 ghost use Rattle.lin_bench.specs.Verdicts.{next_event, refused_verdict};
 ghost use Rattle.lin_bench.specs.Verdicts.{is_within, no_lost_verdict, no_message_verdict, running_table, same_value, seen_verdict, sent_verdict};
 ghost use Rattle.lin_bench.specs.Verdicts.{slot_verdict, table_verdict, taking, time_taken, value_seen, value_verdict, verdict, waiting_verdict, within_verdict};
@@ -20,7 +21,7 @@ use crate::carried::{last_carried, open_after};
 use crate::ended_rules::same_value;
 use crate::expected::{Expected, Since};
 use crate::got::Got;
-use crate::left_events::count_left;
+use crate::left_events::{count_left, first_message};
 use crate::losses::first_loss;
 use crate::meant::MeantValues;
 use crate::ruled::{RuledCore, pending};
@@ -110,6 +111,17 @@ fn waiting(core: &Core, host: u8, count: u16) -> Option<Got>
     }
 }
 
+/// Whether the bytes of a message match a pattern.
+fn message_bytes(alloc: Global, bytes: &[u8], pattern: &Pattern) -> Result<Option<Got>, AllocError>
+    ensures { IfOk result (λ v. v ≡ bytes_verdict pattern.now bytes.now) }
+{
+    if fits(pattern, bytes) {
+        Ok(None)
+    } else {
+        Ok(Some(Got::Message(Payload::copied(alloc, bytes)?)))
+    }
+}
+
 fn message(
     alloc: Global,
     event: Option<&Event>,
@@ -119,11 +131,38 @@ fn message(
         (λ v. v ≡ message_verdict pattern.now (option_map (λ e. e.now) event.entry)) }
 {
     match event {
-        Some(Event::Message { bytes, .. }) => {
-            if fits(pattern, bytes.as_slice()) {
-                Ok(None)
+        Some(Event::Message { bytes, .. }) => message_bytes(alloc, bytes.as_slice(), pattern),
+        _ => Ok(Some(Got::NoEvent)),
+    }
+}
+
+/// Whether the oldest message of all is from one host to another, and matches a pattern.
+fn next_message(
+    alloc: Global,
+    event: Option<&Event>,
+    from: u8,
+    to: u8,
+    pattern: &Pattern,
+) -> Result<Option<Got>, AllocError>
+    ensures { IfOk result
+        (λ v. v ≡ next_message_verdict from to pattern.now (option_map (λ e. e.now) event.entry)) }
+{
+    match event {
+        Some(
+            Event::Message {
+                from: f,
+                to: t,
+                bytes,
+            },
+        ) => {
+            if *f == from && *t == to {
+                message_bytes(alloc, bytes.as_slice(), pattern)
             } else {
-                Ok(Some(Got::Message(Payload::copied(alloc, bytes.as_slice())?)))
+                Ok(Some(Got::MessageOf {
+                    from: *f,
+                    to: *t,
+                    bytes: Payload::copied(alloc, bytes.as_slice())?,
+                }))
             }
         }
         _ => Ok(Some(Got::NoEvent)),
@@ -459,9 +498,44 @@ fn take_next<'a>(
     Ok(event)
 }
 
+/// The kind of an event that is a message.
+fn message_kind(event: Option<&Event>) -> Option<EventKind>
+    ensures { result ≡ option_and_then message_kind (option_map (λ e. e.now) event.entry) }
+{
+    match event {
+        Some(Event::Message { from, to, .. }) => Some(EventKind::Messages {
+            from: *from,
+            to: *to,
+        }),
+        _ => None,
+    }
+}
+
+/// The oldest message of all that no expectation has taken, which is taken now.
+fn take_first<'a>(core: &'a Core, taken: &mut TakenEvents) -> Result<Option<&'a Event>, AllocError>
+    requires { IsSearchState core.now.log taken.old }
+    ensures event { IfOk result (λ e. option_map (λ e. e.now) e
+        ≡ first_message (past_of core.now) (taken_by core.now.log taken.old)) }
+    ensures taken { OnOk result (taken_by core.now.log taken.new
+        ≡ taking (past_of core.now) (taken_by core.now.log taken.old)
+        (option_and_then message_kind (first_message (past_of core.now) (taken_by core.now.log taken.old)))) }
+    ensures known { IsSearchState core.now.log taken.new }
+{
+    let event = first_message(core.log(), taken);
+    match message_kind(event) {
+        Some(kind) => {
+            take_next(core, taken, kind)?;
+        }
+        None => {}
+    }
+    Ok(event)
+}
+
 /// The kind of event that an expectation takes, if it takes one.
-fn kind_taken(expected: &Expected) -> Option<EventKind>
-    ensures { result ≡ kind_taken expected.now }
+fn kind_taken(core: &Core, taken: &TakenEvents, expected: &Expected) -> Option<EventKind>
+    requires { IsSearchState core.now.log taken.now }
+    ensures { result
+        ≡ kind_taken (past_of core.now) (taken_by core.now.log taken.now) expected.now }
 {
     match expected {
         Expected::Message { from, to, .. } | Expected::MessageWithin { from, to, .. } => Some(
@@ -470,6 +544,7 @@ fn kind_taken(expected: &Expected) -> Option<EventKind>
                 to: *to,
             },
         ),
+        Expected::NextMessage { .. } => message_kind(first_message(core.log(), taken)),
         Expected::Sent { host } | Expected::Lost { host, .. } => {
             Some(EventKind::Fates { host: *host })
         }
@@ -491,7 +566,7 @@ pub(crate) fn comes(
         (taken_by ruled.now.core.log taken.new ≡ taken_by ruled.now.core.log taken.old) }
     ensures known { IsSearchState ruled.now.core.log taken.new }
 {
-    match kind_taken(expected) {
+    match kind_taken(ruled.core(), taken, expected) {
         Some(kind) => Ok(look_for(ruled.core(), taken, kind)?.is_some()),
         None => Ok(verdict(alloc, ruled, taken, expected)?.is_none()),
     }
@@ -511,7 +586,8 @@ pub(crate) fn verdict(
         (λ v. v ≡ verdict ruled.now.core.cluster ruled.now.core.opening (past_of ruled.now.core)
         ruled.now.rules.noted (taken_by ruled.now.core.log taken.old) expected.now) }
     ensures taken { OnOk result (taken_by ruled.now.core.log taken.new
-        ≡ taking (past_of ruled.now.core) (taken_by ruled.now.core.log taken.old) (kind_taken expected.now)) }
+        ≡ taking (past_of ruled.now.core) (taken_by ruled.now.core.log taken.old)
+        (kind_taken (past_of ruled.now.core) (taken_by ruled.now.core.log taken.old) expected.now)) }
     ensures known { IsSearchState ruled.now.core.log taken.new }
 {
     let core = ruled.core();
@@ -556,6 +632,10 @@ pub(crate) fn verdict(
             };
             let event = take_next(core, taken, kind)?;
             Ok(within(message(alloc, event, pattern)?, *most_ms, took))
+        }
+        Expected::NextMessage { from, to, pattern } => {
+            let event = take_first(core, taken)?;
+            next_message(alloc, event, *from, *to, pattern)
         }
         Expected::NoMessage { from, to } => {
             let kind = EventKind::Messages {

@@ -45,8 +45,8 @@ static MESSAGE_FRAMES: [&str; 2] = ["MasterReq", "SlaveResp"];
 /// What `expect` and `until` take.
 const FORMS: &str =
     "signal NODE SIGNAL VALUE (LOW..HIGH, = TEXT), waiting NODE K, message FROM TO PATTERN \
-                     (within N ms (of last)), messages FROM TO K (LOW..HIGH), sent NODE, lost NODE damaged \
-                     (timedout, slept), seen silent (none, good, damaged, collided), frame NAME (PATTERN), slot TABLE ENTRY, table TABLE, asleep, awake";
+                     (within N ms (of last)), next message FROM TO PATTERN, messages FROM TO K (LOW..HIGH), \
+                     sent NODE, lost NODE damaged (timedout, slept), seen silent (none, good, damaged, collided), frame NAME (PATTERN), slot TABLE ENTRY, table TABLE, asleep, awake";
 
 /// What `while` takes of these.
 const HOLDING: &str =

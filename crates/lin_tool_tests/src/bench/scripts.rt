@@ -168,6 +168,13 @@ fn name_of(line: &ScriptLine) -> &'static str {
         ) => "signal in a range",
         ScriptLine::Expect(Expected::NoMessage { from: 0, to: 1 }) => "no message",
         ScriptLine::Expect(
+            Expected::NextMessage {
+                from: 1,
+                to: 0,
+                pattern,
+            },
+        ) if is_7e(pattern) => "the next message of all",
+        ScriptLine::Expect(
             Expected::Messages {
                 from: 1,
                 to: 0,
@@ -231,6 +238,10 @@ const ON_BUILT_IN: Lines<'static> = &[
     (b"expect seen none", "seen none"),
     (b"expect lost door timedout", "lost in time"),
     (b"expect no message cem 1", "no message"),
+    (
+        b"expect next message door cem 7E",
+        "the next message of all",
+    ),
     (b"expect messages door 0 2..1000000", "two messages or more"),
     (b"forget # what was before", "forget"),
     (

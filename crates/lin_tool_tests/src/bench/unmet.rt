@@ -32,6 +32,11 @@ const ON_BUILT_IN: Rows<'static> = &[
         b"expect messages cem door 0\nsend cem door 3E\nsend cem door 3F\nslots idle\nexpect messages cem door 0\nexpect messages cem door 2\nexpect messages cem door 3..9\nexpect messages door cem 1\nexpect message cem door 3E\nexpect messages cem door 0..1\nforget\nexpect messages cem door 1..1\n",
         b"script 5 expected messages cem door 0: 2\nscript 7 expected messages cem door 3..9: 2\nscript 8 expected messages door cem 1: 0\nscript 12 expected messages cem door 1: 0\n",
     ),
+    // The oldest message of all is taken, right or wrong.
+    (
+        b"send cem door 3E\nwhen door 3F answer 7E\nsend cem door 3F\nslots idle\nexpect next message door cem 7E\nexpect next message cem door 3E\nexpect next message door cem 7E\nexpect next message door cem 7E\n",
+        b"script 5 expected next message door cem 7E: cem door 3E\nscript 6 expected next message cem door 3E: 3F\nscript 8 expected next message door cem 7E: none\n",
+    ),
     // What is waited for comes right or wrong, before the line or in time, or doesn't come.
     (
         b"send cem door 22F1\nslots 9 until message cem door 22F1\nslots 9 until sent cem\nexpect slot diag 0\nsend cem door 22F2\nslots 9 until message cem door 22F3\nexpect slot diag 0\nslots 3 until message cem door 22F2\nexpect slot diag 1\n",

@@ -3,7 +3,7 @@ use Rattle.std.specs.Prelude.{filter, flat_map, slice_get}
 use Rattle.lin_core.specs.History.{events}
 use Rattle.lin_bench.specs.Verdicts.{is_of_kind}
 use Rattle.lin_bench.proofs.Events.{found-behind, none-behind, reached-at, with-entry}
-use Rattle.lin_bench.proofs.LossSearches.{fewer}
+use Rattle.lin_bench.proofs.FirstEvents.{fewer}
 use Rattle.lin_bench.proofs.taken.event_from.Goals as goal
 
 pub returns-in-Ok : goal.returns-in-Ok

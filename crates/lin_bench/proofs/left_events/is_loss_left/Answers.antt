@@ -3,7 +3,7 @@ use Rattle.std.specs.Prelude.{flat_map}
 use Rattle.lin_core.specs.History.{events}
 use Rattle.lin_bench.specs.Searches.{taken_by}
 use Rattle.lin_bench.proofs.LossSearches.{lost-left, same-host}
-use Rattle.lin_bench.proofs.losses.is_loss_left.Goals as goal
+use Rattle.lin_bench.proofs.left_events.is_loss_left.Goals as goal
 
 pub returns-then-is_host : goal.returns-then-is_host
 returns-then-is_host c = λ es rest known are.
