@@ -23,6 +23,8 @@ use Rattle.lin_log.specs.declared.line_words.Carried.TheVariants.{Signals, Reque
 use Rattle.lin_bench.specs.declared.expected.Since.{Since}
 use Rattle.lin_bench.specs.declared.expected.Since.TheVariants.{Request, Last}
 use Rattle.lin_log.specs.declared.pattern.Pattern.{Pattern}
+use Rattle.lin_bench.specs.declared.expected.Condition.{Condition}
+use Rattle.lin_bench.specs.declared.expected.Condition.TheVariants as condition
 use Rattle.lin_bench.specs.declared.expected.Expected.{Expected}
 use Rattle.lin_bench.specs.declared.expected.Expected.TheVariants as expected
 
@@ -38,24 +40,24 @@ refusal_field f = or_bad (refusal_called f) (NoRefusal f)
 
 -- the forms of the expectations: all fields after `expect`, which are shown where there is no form
 -- of them, and those after the first word. A wrong number of fields is no form
-abbrev pub signal_expectation : Parts → ℕ → ℕ → List ℕ → Option (List ℕ × List ℕ) → Result Expected Reason
+abbrev pub signal_expectation : Parts → ℕ → ℕ → List ℕ → Option (List ℕ × List ℕ) → Result Condition Reason
 signal_expectation c node signal v None =
-    value_field c v >>= (λ value. Ok (expected.Signal node signal value))
+    value_field c v >>= (λ value. Ok (condition.Signal node signal value))
 signal_expectation c node signal v (Some ends) =
     range_field c v ends.0 ends.1
-    >>= (λ range. Ok (expected.SignalWithin node signal range.0 range.1))
+    >>= (λ range. Ok (condition.SignalWithin node signal range.0 range.1))
 
-abbrev pub signal_form : Parts → List (List ℕ) → List (List ℕ) → Result Expected Reason
+abbrev pub signal_form : Parts → List (List ℕ) → List (List ℕ) → Result Condition Reason
 signal_form c all (n ∷ s ∷ v ∷ []) = do
   at ← signal_fields c n s
   signal_expectation c at.0 at.1 v (range_ends v)
 signal_form c all fs = Err (UnknownExpectation all)
 
-abbrev pub waiting_form : Parts → List (List ℕ) → List (List ℕ) → Result Expected Reason
+abbrev pub waiting_form : Parts → List (List ℕ) → List (List ℕ) → Result Condition Reason
 waiting_form c all (n ∷ k ∷ []) = do
   host ← present_node c n
   count ← number_up_to 1024 k
-  Ok (expected.Waiting host count)
+  Ok (condition.Waiting host count)
 waiting_form c all fs = Err (UnknownExpectation all)
 
 -- the fields before `of last` at the end
@@ -143,19 +145,19 @@ data_pattern c f frame pattern =
     else Err (NoData f (data_length c frame))
 
 -- a frame, and a pattern of its data bytes, where it is said
-abbrev pub frame_form : Parts → List (List ℕ) → List (List ℕ) → Result Expected Reason
+abbrev pub frame_form : Parts → List (List ℕ) → List (List ℕ) → Result Condition Reason
 frame_form c all [] = Err (UnknownExpectation all)
-frame_form c all (f ∷ []) = frame_field c f >>= (λ frame. Ok (expected.Frame frame None))
+frame_form c all (f ∷ []) = frame_field c f >>= (λ frame. Ok (condition.Frame frame None))
 frame_form c all (f ∷ g ∷ fs) = do
   frame ← frame_field c f
   said ← pattern_fields (g ∷ fs)
   pattern ← data_pattern c f frame said
-  Ok (expected.Frame frame (Some pattern))
+  Ok (condition.Frame frame (Some pattern))
 
-abbrev pub seen_form : List (List ℕ) → List (List ℕ) → Result Expected Reason
+abbrev pub seen_form : List (List ℕ) → List (List ℕ) → Result Condition Reason
 seen_form all (word ∷ []) =
     or_bad (first_with_word look_word looks word) (UnknownExpectation all)
-    >>= (λ how. Ok (expected.Seen how))
+    >>= (λ how. Ok (condition.Seen how))
 seen_form all fs = Err (UnknownExpectation all)
 
 -- an entry that a table has, by its number (LIN 2.2A, section 9.2.5)
@@ -165,11 +167,11 @@ entry_field c t table e =
     >>= (λ entry. if nat_lt entry (length (table_of c table)) then Ok entry
     else Err (NoEntry t (length (table_of c table))))
 
-abbrev pub slot_form : Parts → List (List ℕ) → List (List ℕ) → Result Expected Reason
+abbrev pub slot_form : Parts → List (List ℕ) → List (List ℕ) → Result Condition Reason
 slot_form c all (t ∷ e ∷ []) = do
   table ← present_table c t
   entry ← entry_field c t table e
-  Ok (expected.Slot table entry)
+  Ok (condition.Slot table entry)
 slot_form c all fs = Err (UnknownExpectation all)
 
 abbrev pub table_form : Parts → List (List ℕ) → List (List ℕ) → Result Expected Reason
@@ -195,11 +197,11 @@ no_lost_form c all (n ∷ []) = host_field c n >>= (λ host. Ok (expected.NoLost
 no_lost_form c all fs = Err (UnknownExpectation all)
 
 -- how many messages there are
-abbrev pub messages_form : Parts → List (List ℕ) → List (List ℕ) → Result Expected Reason
+abbrev pub messages_form : Parts → List (List ℕ) → List (List ℕ) → Result Condition Reason
 messages_form c all (from ∷ to ∷ k ∷ []) = do
   pair ← pair_fields c from to
   count ← counts_field k (range_ends k)
-  Ok (expected.Messages pair.0 pair.1 count.0 count.1)
+  Ok (condition.Messages pair.0 pair.1 count.0 count.1)
 messages_form c all fs = Err (UnknownExpectation all)
 
 -- what isn't to be
@@ -210,27 +212,53 @@ no_form c all (word ∷ fs) =
     else if bytes_eq word (codes "lost") then no_lost_form c all fs
     else Err (UnknownExpectation all)
 
--- the expectation that a word names, with the fields after it
-abbrev pub word_expectation : Parts → List (List ℕ) → List ℕ → List (List ℕ)
+-- the condition that a word names, with the fields after it, if it names one
+abbrev pub condition_form : Parts → List (List ℕ) → List ℕ → List (List ℕ)
+    → Result (Option Condition) Reason
+condition_form c all word fs =
+    if bytes_eq word (codes "signal") then signal_form c all fs >>= (λ what. Ok (Some what))
+    else if bytes_eq word (codes "waiting") then waiting_form c all fs >>= (λ what. Ok (Some what))
+    else if bytes_eq word (codes "messages") then messages_form c all fs >>= (λ what. Ok (Some what))
+    else if bytes_eq word (codes "seen") then seen_form all fs >>= (λ what. Ok (Some what))
+    else if bytes_eq word (codes "frame") then frame_form c all fs >>= (λ what. Ok (Some what))
+    else if bytes_eq word (codes "slot") then slot_form c all fs >>= (λ what. Ok (Some what))
+    else Ok None
+
+-- what isn't to hold
+abbrev pub not_condition : List (List ℕ) → Option Condition → Result Expected Reason
+not_condition all None = Err (UnknownExpectation all)
+not_condition all (Some what) = Ok (expected.Not what)
+
+abbrev pub not_form : Parts → List (List ℕ) → List (List ℕ) → Result Expected Reason
+not_form c all [] = Err (UnknownExpectation all)
+not_form c all (word ∷ fs) = condition_form c all word fs >>= not_condition all
+
+-- the expectation of something else that a word names
+abbrev pub other_expectation : Parts → List (List ℕ) → List ℕ → List (List ℕ)
     → Result Expected Reason
-word_expectation c all word fs =
-    if bytes_eq word (codes "signal") then signal_form c all fs
-    else if bytes_eq word (codes "waiting") then waiting_form c all fs
+other_expectation c all word fs =
+    if bytes_eq word (codes "not") then not_form c all fs
     else if bytes_eq word (codes "message") then message_form c all fs
-    else if bytes_eq word (codes "messages") then messages_form c all fs
     else if bytes_eq word (codes "next") then next_form c all fs
     else if bytes_eq word (codes "no") then no_form c all fs
     else if bytes_eq word (codes "sent") then sent_form c all fs
     else if bytes_eq word (codes "lost") then lost_form c all fs
-    else if bytes_eq word (codes "seen") then seen_form all fs
-    else if bytes_eq word (codes "frame") then frame_form c all fs
-    else if bytes_eq word (codes "slot") then slot_form c all fs
     else if bytes_eq word (codes "table") then table_form c all fs
     else if bytes_eq word (codes "done") then lone_form all expected.Done fs
     else if bytes_eq word (codes "refused") then refused_form all fs
     else if bytes_eq word (codes "asleep") then lone_form all expected.Asleep fs
     else if bytes_eq word (codes "awake") then lone_form all expected.Awake fs
     else Err (UnknownExpectation all)
+
+-- the expectation that a word names, with the fields after it
+abbrev pub is_or : Result Expected Reason → Option Condition → Result Expected Reason
+is_or other None = other
+is_or other (Some what) = Ok (expected.Is what)
+
+abbrev pub word_expectation : Parts → List (List ℕ) → List ℕ → List (List ℕ)
+    → Result Expected Reason
+word_expectation c all word fs =
+    condition_form c all word fs >>= is_or (other_expectation c all word fs)
 
 -- what is expected, by the fields after `expect`
 unfoldable pub expectation : Parts → List (List ℕ) → Result Expected Reason

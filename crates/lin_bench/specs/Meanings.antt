@@ -1,10 +1,12 @@
 -- What is told of expectations in words that aren't met: what the value means.
-use Rattle.std.specs.Prelude.{ℕ, List, map}
+use Rattle.std.specs.Prelude.{ℕ, List, Option, Some, None, map}
 use Rattle.std.specs.Option.{option_map_or}
 use Rattle.lin_frame.specs.declared.value.Value.{Value}
 use Rattle.lin_values.specs.Coded.{CodedData}
 use Rattle.lin_values.specs.Meaning.{meaning}
 use Rattle.lin_values.specs.Shown.{shown}
+use Rattle.lin_bench.specs.declared.expected.Condition.{Condition}
+use Rattle.lin_bench.specs.declared.expected.Condition.TheVariants as condition
 use Rattle.lin_bench.specs.declared.expected.Expected.{Expected}
 use Rattle.lin_bench.specs.declared.expected.Expected.TheVariants as expected
 use Rattle.lin_bench.specs.declared.got.Got.{Got}
@@ -19,9 +21,22 @@ use Rattle.lin_bench.specs.declared.got.Verdict.TheVariants as verdicts
 abbrev pub meaning_got : CodedData → ℕ → Value → Got
 meaning_got k s v = option_map_or (λ m. got.Meaning (shown m)) (meaning k s v) (got.Value v)
 
+abbrev pub value_meaning : CodedData → ℕ → Got → Got
+value_meaning k s (got.Value v) = meaning_got k s v
+value_meaning k s g = g
+
+-- the signal of what is expected in words
+abbrev pub worded_signal : Condition → Option ℕ
+worded_signal (condition.SignalMeans node s text values) = Some s
+worded_signal what = None
+
+abbrev pub signal_in_words : Expected → Option ℕ
+signal_in_words (expected.Is what) = worded_signal what
+signal_in_words (expected.Not what) = worded_signal what
+signal_in_words what = None
+
 abbrev pub with_meaning : CodedData → Expected → Got → Got
-with_meaning k (expected.SignalMeans node s text values) (got.Value v) = meaning_got k s v
-with_meaning k e g = g
+with_meaning k e g = option_map_or (λ s. value_meaning k s g) (signal_in_words e) g
 
 abbrev pub told_meaning : CodedData → Verdict → Verdict
 told_meaning k (verdicts.Unmet e g) = verdicts.Unmet e (with_meaning k e g)

@@ -1,5 +1,5 @@
 -- What is said of bad lines and of expectations that aren't met.
-use Rattle.std.specs.Prelude.{ℕ, ◌==◌, if◌then◌else◌, Bool, List, [], ◌∷◌, ◌++◌, flat_map}
+use Rattle.std.specs.Prelude.{ℕ, ◌==◌, if◌then◌else◌, Bool, true, false, List, [], ◌∷◌, ◌++◌, flat_map}
 use Rattle.std.specs.Prelude.{codes, Option, Some, None}
 use Rattle.std.specs.Fmt.{decimal}
 use Rattle.std.specs.Option.{option_map_or}
@@ -23,6 +23,8 @@ use Rattle.lin_bench.specs.declared.reason.Hint.{Hint}
 use Rattle.lin_bench.specs.declared.reason.Hint.TheVariants as hint
 use Rattle.lin_bench.specs.declared.reason.Reason.{Reason}
 use Rattle.lin_bench.specs.declared.reason.Reason.TheVariants as reason
+use Rattle.lin_bench.specs.declared.expected.Condition.{Condition}
+use Rattle.lin_bench.specs.declared.expected.Condition.TheVariants as condition
 use Rattle.lin_bench.specs.declared.expected.Expected.{Expected}
 use Rattle.lin_bench.specs.declared.expected.Expected.TheVariants as expected
 use Rattle.lin_bench.specs.declared.got.Got.{Got}
@@ -187,16 +189,36 @@ end_words (end.Every by s) = repeated_words by s
 abbrev pub counts_word : ℕ → ℕ → Word
 counts_word low high = if low == high then Number low else Range low high
 
+-- the word of a condition that is to hold, or of one that isn't
+abbrev pub word_if : Bool → List ℕ → List ℕ → Word
+word_if wanted plain negated = if wanted then Fixed plain else Fixed negated
+
+abbrev pub condition_words : Bool → Condition → List Word
+condition_words wanted (condition.Signal node signal value) =
+    word_if wanted (codes "signal") (codes "not signal") ∷ Node node ∷ Signal signal ∷ Raw value ∷ []
+condition_words wanted (condition.SignalWithin node signal low high) =
+    word_if wanted (codes "signal") (codes "not signal") ∷ Node node ∷ Signal signal ∷ Range low high ∷ []
+condition_words wanted (condition.SignalMeans node signal text values) =
+    word_if wanted (codes "signal") (codes "not signal") ∷ Node node ∷ Signal signal ∷ Fixed (codes "=")
+    ∷ Said text ∷ []
+condition_words wanted (condition.Waiting host count) =
+    word_if wanted (codes "waiting") (codes "not waiting") ∷ Node host ∷ Number count ∷ []
+condition_words wanted (condition.Messages from to low high) =
+    word_if wanted (codes "messages") (codes "not messages") ∷ Node from ∷ Node to
+    ∷ counts_word low high ∷ []
+condition_words wanted (condition.Seen how) =
+    word_if wanted (codes "seen") (codes "not seen") ∷ Fixed (look_word how) ∷ []
+condition_words wanted (condition.Frame frame None) =
+    word_if wanted (codes "frame") (codes "not frame") ∷ Frame frame ∷ []
+condition_words wanted (condition.Frame frame (Some pattern)) =
+    word_if wanted (codes "frame") (codes "not frame") ∷ Frame frame ∷ Matching pattern ∷ []
+condition_words wanted (condition.Slot table entry) =
+    word_if wanted (codes "slot") (codes "not slot") ∷ Table table ∷ Number entry ∷ []
+
 -- what is expected
 abbrev pub expected_words : Expected → List Word
-expected_words (expected.Signal node signal value) =
-    Fixed (codes "signal") ∷ Node node ∷ Signal signal ∷ Raw value ∷ []
-expected_words (expected.SignalWithin node signal low high) =
-    Fixed (codes "signal") ∷ Node node ∷ Signal signal ∷ Range low high ∷ []
-expected_words (expected.SignalMeans node signal text values) =
-    Fixed (codes "signal") ∷ Node node ∷ Signal signal ∷ Fixed (codes "=") ∷ Said text ∷ []
-expected_words (expected.Waiting host count) =
-    Fixed (codes "waiting") ∷ Node host ∷ Number count ∷ []
+expected_words (expected.Is what) = condition_words true what
+expected_words (expected.Not what) = condition_words false what
 expected_words (expected.Message from to pattern) =
     Fixed (codes "message") ∷ Node from ∷ Node to ∷ Matching pattern ∷ []
 expected_words (expected.MessageWithin from to pattern most since) =
@@ -206,19 +228,11 @@ expected_words (expected.NextMessage from to pattern) =
     Fixed (codes "next message") ∷ Node from ∷ Node to ∷ Matching pattern ∷ []
 expected_words (expected.NoMessage from to) =
     Fixed (codes "no message") ∷ Node from ∷ Node to ∷ []
-expected_words (expected.Messages from to low high) =
-    Fixed (codes "messages") ∷ Node from ∷ Node to ∷ counts_word low high ∷ []
 expected_words (expected.NoLost None) = Fixed (codes "no lost") ∷ []
 expected_words (expected.NoLost (Some host)) = Fixed (codes "no lost") ∷ Node host ∷ []
 expected_words (expected.Sent host) = Fixed (codes "sent") ∷ Node host ∷ []
 expected_words (expected.Lost host cause) =
     Fixed (codes "lost") ∷ Node host ∷ Fixed (cause_word cause) ∷ []
-expected_words (expected.Seen how) = Fixed (codes "seen") ∷ Fixed (look_word how) ∷ []
-expected_words (expected.Frame frame None) = Fixed (codes "frame") ∷ Frame frame ∷ []
-expected_words (expected.Frame frame (Some pattern)) =
-    Fixed (codes "frame") ∷ Frame frame ∷ Matching pattern ∷ []
-expected_words (expected.Slot table entry) =
-    Fixed (codes "slot") ∷ Table table ∷ Number entry ∷ []
 expected_words (expected.Table table) = Fixed (codes "table") ∷ Table table ∷ []
 expected_words expected.Done = Fixed (codes "done") ∷ []
 expected_words (expected.Refused why) = Fixed (codes "refused") ∷ Fixed (refusal_word why) ∷ []

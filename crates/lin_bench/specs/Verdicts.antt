@@ -1,6 +1,6 @@
 -- Whether what a bench script expects is so, given the history before it: the entries of a log, the
 -- newest first.
-use Rattle.std.specs.Prelude.{ℕ, ◌==◌, ◌&&◌, ◌||◌, Bool, true, false, nat_le, nat_lt, if◌then◌else◌, List, []}
+use Rattle.std.specs.Prelude.{ℕ, ◌==◌, ◌&&◌, ◌||◌, Bool, true, false, not, nat_le, nat_lt, if◌then◌else◌, List, []}
 use Rattle.std.specs.Prelude.{◌∷◌, ◌++◌, filter, length, slice_get, Option, Some, None, count_by}
 use Rattle.std.specs.Prelude.{find, map, option_and_then, option_map, reverse, take, slice_index, ◌*◌, ◌-◌}
 use Rattle.std.specs.List.{filter_map, list_any}
@@ -34,6 +34,9 @@ use Rattle.lin_bench.specs.Rules.{fits}
 use Rattle.lin_bench.specs.Slots.{pending}
 use Rattle.lin_log.specs.declared.line_words.Carried.{Carried}
 use Rattle.lin_log.specs.declared.line_words.Carried.TheVariants.{Signals, Request as RequestFrame, Response}
+use Rattle.lin_bench.specs.declared.conditions.Finding.{Finding}
+use Rattle.lin_bench.specs.declared.expected.Condition.{Condition}
+use Rattle.lin_bench.specs.declared.expected.Condition.TheVariants as condition
 use Rattle.lin_bench.specs.declared.expected.Expected.{Expected}
 use Rattle.lin_bench.specs.declared.expected.Expected.TheVariants as expected
 use Rattle.lin_bench.specs.declared.expected.Since.{Since}
@@ -215,9 +218,13 @@ data_of answer = take (length answer - 1) answer
 abbrev pub fits_data : Option Pattern → List ℕ → Bool
 fits_data pattern row = option_map_or (λ p. fits p row) pattern true
 
--- ---- verdicts: none where the expectation is met, otherwise what is so
-abbrev pub got_unless : Bool → Got → Option Got
-got_unless met what = if met then None else Some what
+-- ---- what is found of conditions: whether they hold, and what is so
+abbrev pub finding : Bool → Got → Finding
+finding holds what = record { holds = Some holds; got = what }
+
+-- there is nothing yet of which it could be said
+abbrev pub unknown : Got → Finding
+unknown what = record { holds = None; got = what }
 
 -- what a node sees of a signal, none where there is no such node or signal
 abbrev pub value_seen : Parts → List LogEntry → ℕ → ℕ → Option Value
@@ -226,20 +233,76 @@ value_seen c past node signal =
     then Some (value_at c past node signal)
     else None
 
-abbrev pub value_verdict : (Value → Bool) → Option Value → Option Got
-value_verdict is None = Some got.NoNodeOrSignal
-value_verdict is (Some value) = got_unless (is value) (got.Value value)
+abbrev pub value_finding : (Value → Bool) → Option Value → Finding
+value_finding is None = unknown got.NoNodeOrSignal
+value_finding is (Some value) = finding (is value) (got.Value value)
 
 -- a scalar from one number to another
 abbrev pub is_within : ℕ → ℕ → Value → Bool
 is_within low high (Scalar n) = nat_le low n && nat_le n high
 is_within low high (Bytes b) = false
 
-abbrev pub waiting_verdict : Parts → List LogEntry → ℕ → ℕ → Option Got
-waiting_verdict c past host count =
+abbrev pub waiting_finding : Parts → List LogEntry → ℕ → ℕ → Finding
+waiting_finding c past host count =
     if nat_lt host (nodes c)
-    then got_unless (length (waiting c past host) == count) (got.Waiting (length (waiting c past host)))
-    else Some got.NoNode
+    then finding (length (waiting c past host) == count) (got.Waiting (length (waiting c past host)))
+    else unknown got.NoNode
+
+-- so many messages, from one number to another, aren't taken
+abbrev pub messages_finding : ℕ → ℕ → ℕ → Finding
+messages_finding low high count =
+    finding (nat_le low count && nat_le count high) (got.Messages count)
+
+abbrev pub seen_finding : Look → Option Event → Finding
+seen_finding how (Some (event.Seen s)) =
+    finding (look_number (look_of s) == look_number how) (got.Seen (look_of s))
+seen_finding how other = unknown got.NoSlot
+
+-- how the last slot that ended was seen, and what it carried
+abbrev pub good_finding : Carried → Option Pattern → List ℕ → Option Carried → Finding
+good_finding frame pattern row None = finding false (got.Seen look.Good)
+good_finding frame pattern row (Some f) =
+    finding (same_frame f frame && fits_data pattern row) (got.Frame f row)
+
+abbrev pub carried_finding : Carried → Option Pattern → Option Carried → Seen → Finding
+carried_finding frame pattern last (Good answer) = good_finding frame pattern (data_of answer) last
+carried_finding frame pattern last how = finding false (got.Seen (look_of how))
+
+abbrev pub frame_finding : Carried → Option Pattern → Option Carried → Option Event → Finding
+frame_finding frame pattern last (Some (event.Seen how)) = carried_finding frame pattern last how
+frame_finding frame pattern last other = unknown got.NoSlot
+
+abbrev pub slot_finding : ℕ → ℕ → Option Event → Finding
+slot_finding table entry (Some (event.Slot t e header)) =
+    finding (t == table && e == entry) (got.Slot t e)
+slot_finding table entry other = unknown got.NoSlot
+
+unfoldable pub found : Parts → List LogEntry → List EventKind → Condition → Finding
+found c past taken (condition.Signal node signal value) =
+    value_finding (λ v. same_value v value) (value_seen c past node signal)
+found c past taken (condition.SignalWithin node signal low high) =
+    value_finding (is_within low high) (value_seen c past node signal)
+found c past taken (condition.SignalMeans node signal text values) =
+    value_finding (is_among_values values) (value_seen c past node signal)
+found c past taken (condition.Waiting host count) = waiting_finding c past host count
+found c past taken (condition.Messages from to low high) =
+    messages_finding low high (left_count past taken (Messages from to))
+found c past taken (condition.Seen how) = seen_finding how (last_event past Ends)
+found c past taken (condition.Frame frame pattern) =
+    frame_finding frame pattern (last_carried c past) (last_event past Ends)
+found c past taken (condition.Slot table entry) = slot_finding table entry (last_event past Begins)
+
+-- ---- verdicts: none where the expectation is met, otherwise what is so
+abbrev pub got_unless : Bool → Got → Option Got
+got_unless met what = if met then None else Some what
+
+-- a condition is to hold, or not to hold
+abbrev pub is_met : Bool → Option Bool → Bool
+is_met wanted None = false
+is_met wanted (Some holds) = if wanted then holds else not holds
+
+abbrev pub judged_so : Bool → Finding → Option Got
+judged_so wanted f = got_unless (is_met wanted f.holds) f.got
 
 abbrev pub bytes_verdict : Pattern → List ℕ → Option Got
 bytes_verdict pattern b = got_unless (fits pattern b) (got.Message b)
@@ -263,11 +326,6 @@ abbrev pub no_message_verdict : Option Event → Option Got
 no_message_verdict (Some (event.Message from to b)) = Some (got.Message b)
 no_message_verdict other = None
 
--- so many messages, from one number to another, aren't taken
-abbrev pub messages_verdict : ℕ → ℕ → ℕ → Option Got
-messages_verdict low high count =
-    got_unless (nat_le low count && nat_le count high) (got.Messages count)
-
 abbrev pub no_lost_verdict : Option Event → Option Got
 no_lost_verdict (Some (event.Lost host number cause)) = Some (got.LostOf host number cause)
 no_lost_verdict other = None
@@ -282,30 +340,6 @@ lost_verdict cause (Some (event.Sent host number)) = Some (got.Sent number)
 lost_verdict cause (Some (event.Lost host number why)) =
     got_unless (cause_number why == cause_number cause) (got.Lost number why)
 lost_verdict cause other = Some got.NoEvent
-
-abbrev pub seen_verdict : Look → Option Event → Option Got
-seen_verdict how (Some (event.Seen s)) =
-    got_unless (look_number (look_of s) == look_number how) (got.Seen (look_of s))
-seen_verdict how other = Some got.NoSlot
-
--- how the last slot that ended was seen, and what it carried
-abbrev pub good_verdict : Carried → Option Pattern → List ℕ → Option Carried → Option Got
-good_verdict frame pattern row None = Some (got.Seen look.Good)
-good_verdict frame pattern row (Some f) =
-    got_unless (same_frame f frame && fits_data pattern row) (got.Frame f row)
-
-abbrev pub carried_verdict : Carried → Option Pattern → Option Carried → Seen → Option Got
-carried_verdict frame pattern last (Good answer) = good_verdict frame pattern (data_of answer) last
-carried_verdict frame pattern last how = Some (got.Seen (look_of how))
-
-abbrev pub frame_verdict : Carried → Option Pattern → Option Carried → Option Event → Option Got
-frame_verdict frame pattern last (Some (event.Seen how)) = carried_verdict frame pattern last how
-frame_verdict frame pattern last other = Some got.NoSlot
-
-abbrev pub slot_verdict : ℕ → ℕ → Option Event → Option Got
-slot_verdict table entry (Some (event.Slot t e header)) =
-    got_unless (t == table && e == entry) (got.Slot t e)
-slot_verdict table entry other = Some got.NoSlot
 
 abbrev pub table_verdict : ℕ → ℕ → Option Got
 table_verdict table running = got_unless (running == table) (got.Table running)
@@ -333,13 +367,8 @@ idle_verdict all = got_unless (length all == 0) (got.StillPending all)
 -- judged by the line that ends it, and told only where there is none)
 unfoldable pub verdict : Parts → ℕ → List LogEntry → List Noted → List EventKind → Expected
     → Option Got
-verdict c opening past noted taken (expected.Signal node signal value) =
-    value_verdict (λ v. same_value v value) (value_seen c past node signal)
-verdict c opening past noted taken (expected.SignalMeans node signal text values) =
-    value_verdict (is_among_values values) (value_seen c past node signal)
-verdict c opening past noted taken (expected.SignalWithin node signal low high) =
-    value_verdict (is_within low high) (value_seen c past node signal)
-verdict c opening past noted taken (expected.Waiting host count) = waiting_verdict c past host count
+verdict c opening past noted taken (expected.Is what) = judged_so true (found c past taken what)
+verdict c opening past noted taken (expected.Not what) = judged_so false (found c past taken what)
 verdict c opening past noted taken (expected.Message from to pattern) =
     message_verdict pattern (next_event past taken (Messages from to))
 verdict c opening past noted taken (expected.MessageWithin from to pattern most since) =
@@ -349,17 +378,11 @@ verdict c opening past noted taken (expected.NextMessage from to pattern) =
     next_message_verdict from to pattern (first_message past taken)
 verdict c opening past noted taken (expected.NoMessage from to) =
     no_message_verdict (next_event past taken (Messages from to))
-verdict c opening past noted taken (expected.Messages from to low high) =
-    messages_verdict low high (left_count past taken (Messages from to))
 verdict c opening past noted taken (expected.NoLost host) =
     no_lost_verdict (first_loss past taken host)
 verdict c opening past noted taken (expected.Sent host) = sent_verdict (next_event past taken (Fates host))
 verdict c opening past noted taken (expected.Lost host cause) =
     lost_verdict cause (next_event past taken (Fates host))
-verdict c opening past noted taken (expected.Seen how) = seen_verdict how (last_event past Ends)
-verdict c opening past noted taken (expected.Frame frame pattern) =
-    frame_verdict frame pattern (last_carried c past) (last_event past Ends)
-verdict c opening past noted taken (expected.Slot table entry) = slot_verdict table entry (last_event past Begins)
 verdict c opening past noted taken (expected.Table table) = table_verdict table (running_table c opening past)
 verdict c opening past noted taken expected.Done = done_verdict (newest_reply past)
 verdict c opening past noted taken (expected.Refused why) = refused_verdict why (newest_reply past)

@@ -24,6 +24,8 @@ use Rattle.lin_bench.specs.Hints.{names_hash, texts_in, unit_hint, units_hint, u
 use Rattle.lin_bench.specs.Lines.{read_line}
 use Rattle.lin_bench.specs.Meant.{values_within}
 use Rattle.lin_bench.specs.LineWords.{fields_text}
+use Rattle.lin_bench.specs.declared.expected.Condition.{Condition}
+use Rattle.lin_bench.specs.declared.expected.Condition.TheVariants as condition
 use Rattle.lin_bench.specs.declared.expected.Expected.{Expected}
 use Rattle.lin_bench.specs.declared.expected.Expected.TheVariants as expected
 use Rattle.lin_bench.specs.declared.line.ScriptLine.{ScriptLine}
@@ -51,13 +53,16 @@ abbrev pub is_write : List (List ℕ) → Bool
 is_write before =
     bytes_eq (from_end before 0) (codes "write") || bytes_eq (from_end before 1) (codes "write")
 
--- `expect`, `until` or `while`, `signal` and a node
+-- `expect`, `until` or `while`, `not` or nothing, `signal` and a node
 abbrev pub is_expectation_word : List ℕ → Bool
 is_expectation_word word =
     bytes_eq word (codes "expect") || bytes_eq word (codes "until") || bytes_eq word (codes "while")
 
 abbrev pub is_expect : List (List ℕ) → Bool
-is_expect before = bytes_eq (from_end before 1) (codes "signal") && is_expectation_word (from_end before 2)
+is_expect before =
+    bytes_eq (from_end before 1) (codes "signal")
+    && (is_expectation_word (from_end before 2)
+    || (bytes_eq (from_end before 2) (codes "not") && is_expectation_word (from_end before 3)))
 
 -- what is asked for by the fields before a signal and the mark behind it
 abbrev pub wish_of : List (List ℕ) → List ℕ → Option Wish
@@ -181,8 +186,14 @@ expected_values k s field text f (m ∷ fs) =
 expected_values k s field text f [] = by_text k s field text f
 
 -- an expectation of a value, with the values that words say in its place
+abbrev pub meant_condition : Condition → List ℕ → List Value → Condition
+meant_condition (condition.Signal node signal v) text values =
+    condition.SignalMeans node signal text values
+meant_condition other text values = other
+
 abbrev pub meant_by : Expected → List ℕ → List Value → Expected
-meant_by (expected.Signal node signal v) text values = expected.SignalMeans node signal text values
+meant_by (expected.Is what) text values = expected.Is (meant_condition what text values)
+meant_by (expected.Not what) text values = expected.Not (meant_condition what text values)
 meant_by other text values = other
 
 abbrev pub meant_line : List ℕ → List Value → Option ScriptLine → Option ScriptLine
@@ -305,10 +316,10 @@ abbrev pub last_signal : Parts → List (List ℕ) → ℕ → Option ℕ
 last_signal c fs zero = None
 last_signal c fs (suc i) = if is_signal c fs (suc i) then Some (suc i) else last_signal c fs i
 
--- a signal is looked for after at most eight fields: `every N ms PORT write NODE` has six before it,
--- `slots N ms leave NODE until signal NODE` eight
+-- a signal is looked for after at most nine fields: `every N ms PORT write NODE` has six before it,
+-- `slots N ms leave NODE until not signal NODE` nine
 abbrev pub signal_in_fields : Parts → List (List ℕ) → Option ℕ
-signal_in_fields c fs = last_signal c fs (min (length fs - 2) 8)
+signal_in_fields c fs = last_signal c fs (min (length fs - 2) 9)
 
 -- for a number the units, if the signal has some; else the texts, or the units
 abbrev pub missing_hint : CodedData → ℕ → List PlacedItem → List ℕ → Hint

@@ -2,6 +2,7 @@
 
 ghost use Rattle.std.specs.Prelude.{◌≡◌, ◌<◌, ◌&&◌, IfOk, codes, length, option_map};
 ghost use Rattle.std.specs.Str.{bytes_eq};
+ghost use Rattle.lin_bench.specs.Expectations.{condition_form, not_form, other_expectation};
 ghost use Rattle.lin_bench.specs.Expectations.{before_last, data_length, data_pattern, entry_field, expectation, frame_form, lone_form};
 ghost use Rattle.lin_bench.specs.Expectations.{loss_expectation, lost_form, pattern_form, rows_and_limit};
 ghost use Rattle.lin_bench.specs.Expectations.{message_form, messages_form, next_form, next_message_form, no_form, no_lost_form, no_message_form, signal_expectation};
@@ -14,7 +15,7 @@ ghost use Rattle.lin_bench.specs.declared.fault.LineFault.{LineFault};
 ghost use Rattle.lin_bench.specs.declared.reason.Reason.{Reason};
 
 use crate::answers::has_length;
-use crate::expected::{Expected, Since};
+use crate::expected::{Condition, Expected, Since};
 use crate::fault::LineFault;
 use crate::fields::{
     count_field, counts_field, fields, frame_field, host_field, number_field, pair_fields,
@@ -65,21 +66,21 @@ fn signal_value(
     node: u8,
     signal: u16,
     value: &[u8],
-) -> Result<Expected, LineFault>
-    ensures { Gives (λ e. e) result
+) -> Result<Condition, LineFault>
+    ensures { Gives (λ w. w) result
         (signal_expectation cluster.now node signal value.now (range_ends value.now)) }
 {
     match range_ends(value) {
         Some((low, high)) => {
             let (low, high) = range_field(alloc, cluster, value, low, high)?;
-            Ok(Expected::SignalWithin {
+            Ok(Condition::SignalWithin {
                 node,
                 signal,
                 low,
                 high,
             })
         }
-        None => Ok(Expected::Signal {
+        None => Ok(Condition::Signal {
             node,
             signal,
             value: value_field(alloc, cluster, value)?,
@@ -92,8 +93,8 @@ fn signal(
     cluster: &Cluster,
     all: &[u8],
     parts: &[&[u8]],
-) -> Result<Expected, LineFault>
-    ensures { Gives (λ e. e) result (signal_form cluster.now (line_fields all.now) (field_texts parts.now)) }
+) -> Result<Condition, LineFault>
+    ensures { Gives (λ w. w) result (signal_form cluster.now (line_fields all.now) (field_texts parts.now)) }
 {
     match parts {
         [node, signal, value] => {
@@ -109,11 +110,11 @@ fn waiting(
     cluster: &Cluster,
     all: &[u8],
     parts: &[&[u8]],
-) -> Result<Expected, LineFault>
-    ensures { Gives (λ e. e) result (waiting_form cluster.now (line_fields all.now) (field_texts parts.now)) }
+) -> Result<Condition, LineFault>
+    ensures { Gives (λ w. w) result (waiting_form cluster.now (line_fields all.now) (field_texts parts.now)) }
 {
     match parts {
-        [host, count] => Ok(Expected::Waiting {
+        [host, count] => Ok(Condition::Waiting {
             host: present_node(alloc, cluster, host)?,
             count: number_field(alloc, count, 1024)? as u16,
         }),
@@ -332,12 +333,12 @@ fn frame(
     cluster: &Cluster,
     all: &[u8],
     parts: &[&[u8]],
-) -> Result<Expected, LineFault>
-    ensures { Gives (λ e. e) result (frame_form cluster.now (line_fields all.now) (field_texts parts.now)) }
+) -> Result<Condition, LineFault>
+    ensures { Gives (λ w. w) result (frame_form cluster.now (line_fields all.now) (field_texts parts.now)) }
 {
     match parts {
         [] => Err(no_form(alloc, cluster, all)?),
-        [frame] => Ok(Expected::Frame {
+        [frame] => Ok(Condition::Frame {
             frame: frame_field(alloc, cluster, frame)?,
             pattern: None,
         }),
@@ -345,7 +346,7 @@ fn frame(
             let frame = frame_field(alloc, cluster, name)?;
             let said = pattern(alloc, rows)?;
             let pattern = data_pattern(alloc, cluster, name, frame, said)?;
-            Ok(Expected::Frame {
+            Ok(Condition::Frame {
                 frame,
                 pattern: Some(pattern),
             })
@@ -358,14 +359,14 @@ fn seen(
     cluster: &Cluster,
     all: &[u8],
     parts: &[&[u8]],
-) -> Result<Expected, LineFault>
-    ensures { Gives (λ e. e) result (seen_form (line_fields all.now) (field_texts parts.now)) }
+) -> Result<Condition, LineFault>
+    ensures { Gives (λ w. w) result (seen_form (line_fields all.now) (field_texts parts.now)) }
 {
     let [word] = parts else {
         return Err(no_form(alloc, cluster, all)?);
     };
     match named(word) {
-        Some(look) => Ok(Expected::Seen(look)),
+        Some(look) => Ok(Condition::Seen(look)),
         None => Err(no_form(alloc, cluster, all)?),
     }
 }
@@ -397,14 +398,14 @@ fn slot(
     cluster: &Cluster,
     all: &[u8],
     parts: &[&[u8]],
-) -> Result<Expected, LineFault>
-    ensures { Gives (λ e. e) result (slot_form cluster.now (line_fields all.now) (field_texts parts.now)) }
+) -> Result<Condition, LineFault>
+    ensures { Gives (λ w. w) result (slot_form cluster.now (line_fields all.now) (field_texts parts.now)) }
 {
     match parts {
         [name, entry] => {
             let table = present_table(alloc, cluster, name)?;
             let entry = entry_field(alloc, cluster, name, table, entry)?;
-            Ok(Expected::Slot { table, entry })
+            Ok(Condition::Slot { table, entry })
         }
         _ => Err(no_form(alloc, cluster, all)?),
     }
@@ -480,15 +481,15 @@ fn messages(
     cluster: &Cluster,
     all: &[u8],
     parts: &[&[u8]],
-) -> Result<Expected, LineFault>
-    ensures { Gives (λ e. e) result
+) -> Result<Condition, LineFault>
+    ensures { Gives (λ w. w) result
         (messages_form cluster.now (line_fields all.now) (field_texts parts.now)) }
 {
     match parts {
         [from, to, count] => {
             let (from, to) = pair_fields(alloc, cluster, from, to)?;
             let (low, high) = counts_field(alloc, count)?;
-            Ok(Expected::Messages {
+            Ok(Condition::Messages {
                 from,
                 to,
                 low,
@@ -532,8 +533,50 @@ fn lone(
     }
 }
 
-/// The expectation that a word names, with the fields after it; `all` are the line of the word and these.
-fn of_word(
+/// The condition that a word names, with the fields after it, if it names one; `all` are the line.
+fn condition(
+    alloc: Global,
+    cluster: &Cluster,
+    all: &[u8],
+    word: &[u8],
+    parts: &[&[u8]],
+) -> Result<Option<Condition>, LineFault>
+    ensures { Gives (λ w. w) result
+        (condition_form cluster.now (line_fields all.now) word.now (field_texts parts.now)) }
+{
+    if word == b"signal".as_slice() {
+        Ok(Some(signal(alloc, cluster, all, parts)?))
+    } else if word == b"waiting".as_slice() {
+        Ok(Some(waiting(alloc, cluster, all, parts)?))
+    } else if word == b"messages".as_slice() {
+        Ok(Some(messages(alloc, cluster, all, parts)?))
+    } else if word == b"seen".as_slice() {
+        Ok(Some(seen(alloc, cluster, all, parts)?))
+    } else if word == b"frame".as_slice() {
+        Ok(Some(frame(alloc, cluster, all, parts)?))
+    } else if word == b"slot".as_slice() {
+        Ok(Some(slot(alloc, cluster, all, parts)?))
+    } else {
+        Ok(None)
+    }
+}
+
+/// What isn't to hold, by the fields after `not`.
+fn negated(alloc: Global, cluster: &Cluster, all: &[u8], line: &[u8]) -> Result<Expected, LineFault>
+    ensures { Gives (λ e. e) result (not_form cluster.now (line_fields all.now) (line_fields line.now)) }
+{
+    let Some((word, rest)) = first_field(cluster, line) else {
+        return Err(no_form(alloc, cluster, all)?);
+    };
+    let parts = fields(alloc, cluster, rest)?;
+    match condition(alloc, cluster, all, word, parts.as_slice())? {
+        Some(what) => Ok(Expected::Not(what)),
+        None => Err(no_form(alloc, cluster, all)?),
+    }
+}
+
+/// The expectation of something else than a condition that a word names, with the fields after it.
+fn other(
     alloc: Global,
     cluster: &Cluster,
     all: &[u8],
@@ -541,18 +584,14 @@ fn of_word(
     line: &[u8],
 ) -> Result<Expected, LineFault>
     ensures { Gives
-        (λ e. e) result (word_expectation cluster.now (line_fields all.now) word.now (line_fields line.now)) }
+        (λ e. e) result (other_expectation cluster.now (line_fields all.now) word.now (line_fields line.now)) }
 {
     let parts = fields(alloc, cluster, line)?;
     let parts = parts.as_slice();
-    if word == b"signal".as_slice() {
-        signal(alloc, cluster, all, parts)
-    } else if word == b"waiting".as_slice() {
-        waiting(alloc, cluster, all, parts)
+    if word == b"not".as_slice() {
+        negated(alloc, cluster, all, line)
     } else if word == b"message".as_slice() {
         message(alloc, cluster, all, line)
-    } else if word == b"messages".as_slice() {
-        messages(alloc, cluster, all, parts)
     } else if word == b"next".as_slice() {
         next(alloc, cluster, all, line)
     } else if word == b"no".as_slice() {
@@ -561,12 +600,6 @@ fn of_word(
         sent(alloc, cluster, all, parts)
     } else if word == b"lost".as_slice() {
         lost(alloc, cluster, all, line)
-    } else if word == b"seen".as_slice() {
-        seen(alloc, cluster, all, parts)
-    } else if word == b"frame".as_slice() {
-        frame(alloc, cluster, all, parts)
-    } else if word == b"slot".as_slice() {
-        slot(alloc, cluster, all, parts)
     } else if word == b"table".as_slice() {
         table(alloc, cluster, all, parts)
     } else if word == b"done".as_slice() {
@@ -579,6 +612,24 @@ fn of_word(
         lone(alloc, cluster, Expected::Awake, all, parts)
     } else {
         Err(no_form(alloc, cluster, all)?)
+    }
+}
+
+/// The expectation that a word names, with the fields after it; `all` are the line of the word and these.
+fn of_word(
+    alloc: Global,
+    cluster: &Cluster,
+    all: &[u8],
+    word: &[u8],
+    line: &[u8],
+) -> Result<Expected, LineFault>
+    ensures { Gives
+        (λ e. e) result (word_expectation cluster.now (line_fields all.now) word.now (line_fields line.now)) }
+{
+    let parts = fields(alloc, cluster, line)?;
+    match condition(alloc, cluster, all, word, parts.as_slice())? {
+        Some(what) => Ok(Expected::Is(what)),
+        None => other(alloc, cluster, all, word, line),
     }
 }
 

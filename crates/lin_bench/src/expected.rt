@@ -16,9 +16,9 @@ pub enum Since {
     Last,
 }
 
-/// What a bench script expects of the steps before.
+/// What holds after some steps, and may not hold after others.
 #[derive(Drop)]
-pub enum Expected {
+pub enum Condition {
     /// A node sees this value of a signal (ISO 17987-3, signals).
     Signal {
         node: u8,
@@ -44,6 +44,36 @@ pub enum Expected {
         host: u8,
         count: u16,
     },
+    /// So many messages from one host to another, from one number to another, have arrived that aren't
+    /// taken.
+    Messages {
+        from: u8,
+        to: u8,
+        low: u32,
+        high: u32,
+    },
+    /// The last slot that ended was seen so.
+    Seen(Look),
+    /// The last slot that ended was seen good, and carried this frame, whose data bytes match the
+    /// pattern, if there is one.
+    Frame {
+        frame: Carried,
+        pattern: Option<Pattern>,
+    },
+    /// The last slot that began was for this entry of a schedule table.
+    Slot {
+        table: u16,
+        entry: u16,
+    },
+}
+
+/// What a bench script expects of the steps before.
+#[derive(Drop)]
+pub enum Expected {
+    /// This holds.
+    Is(Condition),
+    /// This doesn't hold. Where it is of a slot, there was one.
+    Not(Condition),
     /// The next message from one host to another matches this pattern (ISO 17987-2).
     Message {
         from: u8,
@@ -70,14 +100,6 @@ pub enum Expected {
         from: u8,
         to: u8,
     },
-    /// So many messages from one host to another, from one number to another, have arrived that aren't
-    /// taken.
-    Messages {
-        from: u8,
-        to: u8,
-        low: u32,
-        high: u32,
-    },
     /// No message of a host, or of any, was lost that isn't taken.
     NoLost {
         host: Option<u8>,
@@ -90,19 +112,6 @@ pub enum Expected {
     Lost {
         host: u8,
         cause: Cause,
-    },
-    /// The last slot that ended was seen so.
-    Seen(Look),
-    /// The last slot that ended was seen good, and carried this frame, whose data bytes match the
-    /// pattern, if there is one.
-    Frame {
-        frame: Carried,
-        pattern: Option<Pattern>,
-    },
-    /// The last slot that began was for this entry of a schedule table.
-    Slot {
-        table: u16,
-        entry: u16,
     },
     /// The running schedule table is this one: the table of the open slot or, if no slot is open, of the
     /// next slot.

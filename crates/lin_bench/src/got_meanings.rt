@@ -2,9 +2,9 @@
 
 ghost use Rattle.std.specs.Prelude.{◌≡◌, IfOk};
 ghost use Rattle.lin_bench.specs.Meanings.{judged_meaning, judgement_meaning, meaning_got};
-ghost use Rattle.lin_bench.specs.Meanings.{told_meaning, with_meaning, with_meanings};
+ghost use Rattle.lin_bench.specs.Meanings.{signal_in_words, told_meaning, value_meaning, with_meaning, with_meanings, worded_signal};
 
-use crate::expected::Expected;
+use crate::expected::{Condition, Expected};
 use crate::got::{Got, Judged, Judgement, Verdict};
 use lin_frame::Value;
 use lin_text::{Many, Text};
@@ -24,7 +24,37 @@ fn meaning_of(alloc: Global, coded: &Coded, signal: u16, value: Value) -> Result
     }
 }
 
-/// What is so in place of what is expected in words: what the value means.
+/// What is so in place of what is expected in words of a signal: what its value means.
+fn value_meaning(alloc: Global, coded: &Coded, signal: u16, got: Got) -> Result<Got, AllocError>
+    ensures { IfOk result (λ g. g ≡ value_meaning coded.now signal got) }
+{
+    match got {
+        Got::Value(value) => meaning_of(alloc, coded, signal, value),
+        got => Ok(got),
+    }
+}
+
+/// The signal of a condition in words.
+fn worded_signal(condition: &Condition) -> Option<u16>
+    ensures { result ≡ worded_signal condition.now }
+{
+    match condition {
+        Condition::SignalMeans { signal, .. } => Some(*signal),
+        _ => None,
+    }
+}
+
+/// The signal of what is expected in words.
+fn signal_in_words(expected: &Expected) -> Option<u16>
+    ensures { result ≡ signal_in_words expected.now }
+{
+    match expected {
+        Expected::Is(what) | Expected::Not(what) => worded_signal(what),
+        _ => None,
+    }
+}
+
+/// What is so in place of what is expected; where that is in words, what the value means.
 fn with_meaning(
     alloc: Global,
     coded: &Coded,
@@ -33,11 +63,9 @@ fn with_meaning(
 ) -> Result<Got, AllocError>
     ensures { IfOk result (λ g. g ≡ with_meaning coded.now expected.now got) }
 {
-    match (expected, got) {
-        (Expected::SignalMeans { signal, .. }, Got::Value(value)) => {
-            meaning_of(alloc, coded, *signal, value)
-        }
-        (_, got) => Ok(got),
+    match signal_in_words(expected) {
+        Some(signal) => value_meaning(alloc, coded, signal, got),
+        None => Ok(got),
     }
 }
 

@@ -22,6 +22,7 @@ mod answers;
 mod arrivals;
 mod bench;
 mod carried;
+mod conditions;
 mod copies;
 mod ended_rules;
 mod ends;
@@ -61,7 +62,7 @@ mod word_list;
 mod words;
 
 pub use bench::Bench;
-pub use expected::{Expected, Since};
+pub use expected::{Condition, Expected, Since};
 pub use fault::{LineFault, MakeFault, PlayFault, ReadFault};
 pub use faults::{FaultKind, SlotFault};
 pub use fields::{present_node, present_signal};

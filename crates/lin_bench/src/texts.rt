@@ -7,16 +7,16 @@ ghost use Rattle.lin_text.specs.Written.{Grows, WritesText};
 ghost use Rattle.lin_log.specs.Language.{named_language};
 ghost use Rattle.lin_log.specs.Shown.{as_word};
 ghost use Rattle.lin_bench.specs.LineWords.{spaced_words};
-ghost use Rattle.lin_bench.specs.Texts.{bad_line_text, bytes_word, cluster_text, counts_word, end_words, entries_word, expected_text, expected_words, fields_word};
+ghost use Rattle.lin_bench.specs.Texts.{bad_line_text, bytes_word, cluster_text, condition_words, counts_word, end_words, entries_word, expected_text, expected_words, fields_word};
 ghost use Rattle.lin_bench.specs.declared.expected.Expected.TheVariants.{HasRule};
 ghost use Rattle.lin_bench.specs.declared.rules.RuleEnd.{RuleEnd};
 ghost use Rattle.lin_bench.specs.Texts.{found_text, got_text, hint_words, judged_text};
 ghost use Rattle.lin_bench.specs.Texts.{or_marked, other_pending_words, pending_text};
 ghost use Rattle.lin_bench.specs.Texts.{pending_words, reason_text, reason_words, repeated_words};
 ghost use Rattle.lin_bench.specs.Texts.{short_words, since_word, step_reason_words};
-ghost use Rattle.lin_bench.specs.Texts.{unmet_text, verdict_text, what_text, when_end_words};
+ghost use Rattle.lin_bench.specs.Texts.{unmet_text, verdict_text, what_text, when_end_words, word_if};
 
-use crate::expected::{Expected, Since};
+use crate::expected::{Condition, Expected, Since};
 use crate::got::{Got, Judged, Judgement, Pending, is_unmet};
 use crate::reason::{Hint, Reason};
 use crate::rules::RuleEnd;
@@ -358,58 +358,118 @@ fn counts_word(low: u32, high: u32) -> Word<'static>
     }
 }
 
-/// What is expected.
-fn expected_line(expected: &Expected) -> WordList<'_>
+/// The word of a condition that is to hold, or of one that isn't.
+fn word_if(wanted: bool, plain: &'static str, negated: &'static str) -> Word<'static>
     requires { (end : RuleEnd) → expected.now ≡ HasRule end → ⊥ }
-    ensures { result ≡ expected_words expected.now }
+    ensures { as_word result ≡ word_if wanted plain.now negated.now }
 {
-    match expected {
-        Expected::Signal {
+    if wanted {
+        Word::Fixed(plain)
+    } else {
+        Word::Fixed(negated)
+    }
+}
+
+/// That a condition is to hold, or isn't.
+fn condition_line(condition: &Condition, wanted: bool) -> WordList<'_>
+    ensures { result ≡ condition_words wanted condition.now }
+{
+    match condition {
+        Condition::Signal {
             node,
             signal,
             value,
         } => {
             return WordList::of(&[
-                Word::Fixed("signal"),
+                word_if(wanted, "signal", "not signal"),
                 Word::Node(*node),
                 Word::Signal(*signal),
                 Word::Value(value),
             ]);
         }
-        Expected::SignalWithin {
+        Condition::SignalWithin {
             node,
             signal,
             low,
             high,
         } => {
             return WordList::of(&[
-                Word::Fixed("signal"),
+                word_if(wanted, "signal", "not signal"),
                 Word::Node(*node),
                 Word::Signal(*signal),
                 Word::Range(u64::from(*low), u64::from(*high)),
             ]);
         }
-        Expected::SignalMeans {
+        Condition::SignalMeans {
             node,
             signal,
             text,
             values: _,
         } => {
             return WordList::of(&[
-                Word::Fixed("signal"),
+                word_if(wanted, "signal", "not signal"),
                 Word::Node(*node),
                 Word::Signal(*signal),
                 Word::Fixed("="),
                 Word::Said(text.as_slice()),
             ]);
         }
-        Expected::Waiting { host, count } => {
+        Condition::Waiting { host, count } => {
             return WordList::of(&[
-                Word::Fixed("waiting"),
+                word_if(wanted, "waiting", "not waiting"),
                 Word::Node(*host),
                 Word::Number(u64::from(*count)),
             ]);
         }
+        Condition::Messages {
+            from,
+            to,
+            low,
+            high,
+        } => {
+            return WordList::of(&[
+                word_if(wanted, "messages", "not messages"),
+                Word::Node(*from),
+                Word::Node(*to),
+                counts_word(*low, *high),
+            ]);
+        }
+        Condition::Seen(how) => {
+            return WordList::of(&[word_if(wanted, "seen", "not seen"), Word::Fixed(how.word())]);
+        }
+        Condition::Frame {
+            frame,
+            pattern: None,
+        } => {
+            return WordList::of(&[word_if(wanted, "frame", "not frame"), Word::Frame(*frame)]);
+        }
+        Condition::Frame {
+            frame,
+            pattern: Some(pattern),
+        } => {
+            return WordList::of(&[
+                word_if(wanted, "frame", "not frame"),
+                Word::Frame(*frame),
+                Word::Pattern(pattern),
+            ]);
+        }
+        Condition::Slot { table, entry } => {
+            return WordList::of(&[
+                word_if(wanted, "slot", "not slot"),
+                Word::Table(*table),
+                Word::Number(u64::from(*entry)),
+            ]);
+        }
+    }
+}
+
+/// What is expected.
+fn expected_line(expected: &Expected) -> WordList<'_>
+    ensures { result ≡ expected_words expected.now }
+{
+    match expected {
+        Expected::Is(what) => return condition_line(what, true),
+        Expected::Not(what) => return condition_line(what, false),
         Expected::Message { from, to, pattern } => {
             return WordList::of(&[
                 Word::Fixed("message"),
@@ -450,19 +510,6 @@ fn expected_line(expected: &Expected) -> WordList<'_>
                 Word::Node(*to),
             ]);
         }
-        Expected::Messages {
-            from,
-            to,
-            low,
-            high,
-        } => {
-            return WordList::of(&[
-                Word::Fixed("messages"),
-                Word::Node(*from),
-                Word::Node(*to),
-                counts_word(*low, *high),
-            ]);
-        }
         Expected::NoLost { host: None } => return WordList::of(&[Word::Fixed("no lost")]),
         Expected::NoLost { host: Some(host) } => {
             return WordList::of(&[Word::Fixed("no lost"), Word::Node(*host)]);
@@ -473,30 +520,6 @@ fn expected_line(expected: &Expected) -> WordList<'_>
                 Word::Fixed("lost"),
                 Word::Node(*host),
                 Word::Fixed(cause.word()),
-            ]);
-        }
-        Expected::Seen(how) => return WordList::of(&[Word::Fixed("seen"), Word::Fixed(how.word())]),
-        Expected::Frame {
-            frame,
-            pattern: None,
-        } => {
-            return WordList::of(&[Word::Fixed("frame"), Word::Frame(*frame)]);
-        }
-        Expected::Frame {
-            frame,
-            pattern: Some(pattern),
-        } => {
-            return WordList::of(&[
-                Word::Fixed("frame"),
-                Word::Frame(*frame),
-                Word::Pattern(pattern),
-            ]);
-        }
-        Expected::Slot { table, entry } => {
-            return WordList::of(&[
-                Word::Fixed("slot"),
-                Word::Table(*table),
-                Word::Number(u64::from(*entry)),
             ]);
         }
         Expected::Table(table) => {

@@ -28,9 +28,9 @@ use lin_text::Text;
 use lin_values::{Coded, PlacedItem, number_and_unit};
 use std::alloc::{AllocError, Global};
 
-/// After how many fields a signal is looked for at most: eight are before it in `slots N ms leave NODE until
-/// signal NODE SIGNAL VALUE`.
-const MOST_BEFORE: usize = 8;
+/// After how many fields a signal is looked for at most: nine are before it in `slots N ms leave NODE until
+/// not signal NODE SIGNAL VALUE`.
+const MOST_BEFORE: usize = 9;
 
 fn are_hex(digits: &[u8]) -> bool
     ensures { result ≡ list_all is_hex digits.now }

@@ -1,114 +1,42 @@
 //! Verdicts on what is expected.
 
-ghost use Rattle.std.specs.Prelude.{◌≡◌, ◌==◌, ◌<◌, ◌≤◌, ◌&&◌, IfOk, OnOk, None, option_and_then, option_map};
+ghost use Rattle.std.specs.Prelude.{◌≡◌, ◌==◌, ◌≤◌, ◌&&◌, IfOk, OnOk, None, option_and_then, option_map};
 ghost use Rattle.lin_core.specs.Core.{past_of};
 ghost use Rattle.lin_bench.specs.Made.{comes};
 ghost use Rattle.lin_bench.specs.Searches.{IsSearchState, taken_by};
 ghost use Rattle.lin_bench.specs.Making.{course_on};
-ghost use Rattle.lin_bench.specs.Meant.{is_among_values};
 ghost use Rattle.lin_bench.specs.Slots.{pending};
-ghost use Rattle.lin_bench.specs.Verdicts.{done_verdict, idle_verdict, kind_taken, last_event};
-ghost use Rattle.lin_bench.specs.Verdicts.{bytes_verdict, first_message, left_count, lost_verdict, message_kind, message_verdict};
-ghost use Rattle.lin_bench.specs.Verdicts.{messages_verdict, newest_reply, next_message_verdict};
-ghost use Rattle.lin_bench.specs.Verdicts.{next_event, refused_verdict};
-ghost use Rattle.lin_bench.specs.Verdicts.{is_within, no_lost_verdict, no_message_verdict, running_table, same_value, seen_verdict, sent_verdict};
-ghost use Rattle.lin_bench.specs.Verdicts.{slot_verdict, table_verdict, taking, time_taken, value_seen, value_verdict, verdict, waiting_verdict, within_verdict};
-ghost use Rattle.lin_bench.specs.Verdicts.{with_taken, data_of, fits_data, frame_verdict, good_verdict, same_frame};
+ghost use Rattle.lin_bench.specs.Verdicts.{bytes_verdict, done_verdict, first_message, idle_verdict, judged_so};
+ghost use Rattle.lin_bench.specs.Verdicts.{kind_taken, lost_verdict, message_kind, message_verdict, newest_reply};
+ghost use Rattle.lin_bench.specs.Verdicts.{next_event, next_message_verdict, no_lost_verdict, no_message_verdict};
+ghost use Rattle.lin_bench.specs.Verdicts.{refused_verdict, running_table, sent_verdict, table_verdict, taking};
+ghost use Rattle.lin_bench.specs.Verdicts.{time_taken, verdict, with_taken, within_verdict};
 
 use crate::answers::fits;
 use crate::arrivals::{self, EarlierMessages};
-use crate::carried::{last_carried, open_after};
-use crate::ended_rules::same_value;
+use crate::carried::open_after;
+use crate::conditions::{Finding, found};
 use crate::expected::{Expected, Since};
 use crate::got::Got;
-use crate::left_events::{count_left, first_message};
+use crate::left_events::first_message;
 use crate::losses::first_loss;
-use crate::meant::MeantValues;
 use crate::ruled::{RuledCore, pending};
-use crate::taken::{
-    EventKind, Search, TakenEvents, event_from, last_end, last_event, place_before,
-};
-use lin_core::{Cause, Core, Event, Look, Payload, Refusal, Reply, Seen};
-use lin_frame::Value;
-use lin_log::{Carried, Pattern};
+use crate::taken::{EventKind, Search, TakenEvents, event_from, last_end, place_before};
+use lin_core::{Cause, Core, Event, Payload, Refusal, Reply};
+use lin_log::Pattern;
 use lin_text::Many;
 use std::alloc::{AllocError, Global};
 
-/// What a node sees of a signal; none where there is no such node or signal.
-fn value_seen(core: &Core, node: u8, signal: u16) -> Option<Value>
-    ensures { result ≡ value_seen core.now.cluster (past_of core.now) node signal }
+/// The verdict on a condition that is to hold, or not to hold, by what is found of it.
+fn judged(finding: Finding, wanted: bool) -> Option<Got>
+    ensures { result ≡ judged_so wanted finding }
 {
-    let cluster = core.cluster();
-    if (node as usize) < cluster.nodes() && (signal as usize) < cluster.signals() {
-        Some(core.signal(node, signal))
-    } else {
-        None
-    }
-}
-
-fn signal(seen: Option<Value>, value: &Value) -> Option<Got>
-    ensures { result ≡ value_verdict (λ v. same_value v value.now) seen }
-{
-    match seen {
-        None => Some(Got::NoNodeOrSignal),
-        Some(seen) => if same_value(&seen, value) {
-            None
-        } else {
-            Some(Got::Value(seen))
-        },
-    }
-}
-
-/// Whether a value is a scalar from one number to another.
-fn is_within(value: &Value, low: u16, high: u16) -> bool
-    ensures { result ≡ is_within low high value.now }
-{
-    match value {
-        Value::Scalar(n) => low <= *n && *n <= high,
-        Value::Bytes(_) => false,
-    }
-}
-
-fn signal_within(seen: Option<Value>, low: u16, high: u16) -> Option<Got>
-    ensures { result ≡ value_verdict (is_within low high) seen }
-{
-    match seen {
-        None => Some(Got::NoNodeOrSignal),
-        Some(seen) => if is_within(&seen, low, high) {
-            None
-        } else {
-            Some(Got::Value(seen))
-        },
-    }
-}
-
-/// Whether a value is one that words say.
-fn signal_means(seen: Option<Value>, values: &MeantValues) -> Option<Got>
-    ensures { result ≡ value_verdict (is_among_values values.now) seen }
-{
-    match seen {
-        None => Some(Got::NoNodeOrSignal),
-        Some(seen) => if values.has(&seen) {
-            None
-        } else {
-            Some(Got::Value(seen))
-        },
-    }
-}
-
-fn waiting(core: &Core, host: u8, count: u16) -> Option<Got>
-    ensures { result ≡ waiting_verdict core.now.cluster (past_of core.now) host count }
-{
-    if (host as usize) < core.cluster().nodes() {
-        let waiting = core.waiting(host);
-        if waiting == count as usize {
-            None
-        } else {
-            Some(Got::Waiting(waiting))
-        }
-    } else {
-        Some(Got::NoNode)
-    }
+    let Finding { holds, got } = finding;
+    let met = match holds {
+        Some(holds) => if wanted { holds } else { !holds },
+        None => false,
+    };
+    if met { None } else { Some(got) }
 }
 
 /// Whether the bytes of a message match a pattern.
@@ -206,17 +134,6 @@ fn no_message(alloc: Global, event: Option<&Event>) -> Result<Option<Got>, Alloc
     }
 }
 
-/// Whether so many messages, from one number to another, aren't taken.
-fn messages(count: u128, low: u32, high: u32) -> Option<Got>
-    ensures { result ≡ messages_verdict low high count }
-{
-    if u128::from(low) <= count && count <= u128::from(high) {
-        None
-    } else {
-        Some(Got::Messages(count))
-    }
-}
-
 fn no_lost(event: Option<&Event>) -> Option<Got>
     ensures { result ≡ no_lost_verdict (option_map (λ e. e.now) event.entry) }
 {
@@ -265,117 +182,6 @@ fn lost(event: Option<&Event>, why: Cause) -> Option<Got>
             }
         }
         _ => Some(Got::NoEvent),
-    }
-}
-
-fn seen(event: Option<&Event>, how: Look) -> Option<Got>
-    ensures { result ≡ seen_verdict how (option_map (λ e. e.now) event.entry) }
-{
-    match event {
-        Some(Event::Seen(seen)) => {
-            let look = seen.look();
-            if look == how {
-                None
-            } else {
-                Some(Got::Seen(look))
-            }
-        }
-        _ => Some(Got::NoSlot),
-    }
-}
-
-fn same_frame(a: Carried, b: Carried) -> bool
-    ensures { result ≡ same_frame a b }
-{
-    match (a, b) {
-        (Carried::Signals(f), Carried::Signals(g)) => f == g,
-        (Carried::Request, Carried::Request) | (Carried::Response, Carried::Response) => true,
-        _ => false,
-    }
-}
-
-fn fits_data(pattern: &Option<Pattern>, row: &[u8]) -> bool
-    ensures { result ≡ fits_data pattern.now row.now }
-{
-    match pattern {
-        Some(pattern) => fits(pattern, row),
-        None => true,
-    }
-}
-
-/// The data bytes of a response: all but its checksum.
-fn data_of(answer: &[u8]) -> &[u8]
-    ensures { result.now ≡ data_of answer.now }
-{
-    match answer {
-        [] => answer,
-        [row @ .., _] => row,
-    }
-}
-
-/// What a slot that was seen good carried, with these data bytes.
-fn good(
-    alloc: Global,
-    frame: Carried,
-    pattern: &Option<Pattern>,
-    row: &[u8],
-    last: Option<Carried>,
-) -> Result<Option<Got>, AllocError>
-    ensures { IfOk result (λ v. v ≡ good_verdict frame pattern.now row.now last) }
-{
-    match last {
-        None => Ok(Some(Got::Seen(Look::Good))),
-        Some(last) => if same_frame(last, frame) && fits_data(pattern, row) {
-            Ok(None)
-        } else {
-            Ok(Some(Got::Frame {
-                frame: last,
-                bytes: Payload::copied(alloc, row)?,
-            }))
-        },
-    }
-}
-
-fn frame_seen(
-    alloc: Global,
-    event: Option<&Event>,
-    frame: Carried,
-    pattern: &Option<Pattern>,
-    last: Option<Carried>,
-) -> Result<Option<Got>, AllocError>
-    ensures { IfOk result
-        (λ v. v ≡ frame_verdict frame pattern.now last (option_map (λ e. e.now) event.entry)) }
-{
-    match event {
-        Some(Event::Seen(Seen::Good(answer))) => {
-            good(alloc, frame, pattern, data_of(answer.as_slice()), last)
-        }
-        Some(Event::Seen(how)) => Ok(Some(Got::Seen(how.look()))),
-        _ => Ok(Some(Got::NoSlot)),
-    }
-}
-
-fn slot(event: Option<&Event>, table: u16, entry: u16) -> Option<Got>
-    ensures { result ≡ slot_verdict table entry (option_map (λ e. e.now) event.entry) }
-{
-    match event {
-        Some(
-            Event::Slot {
-                table: t,
-                entry: e,
-                ..
-            },
-        ) => {
-            if *t == table && *e == entry {
-                None
-            } else {
-                Some(Got::Slot {
-                    table: *t,
-                    entry: *e,
-                })
-            }
-        }
-        _ => Some(Got::NoSlot),
     }
 }
 
@@ -592,24 +398,8 @@ pub(crate) fn verdict(
 {
     let core = ruled.core();
     match expected {
-        Expected::Signal {
-            node,
-            signal: number,
-            value,
-        } => Ok(signal(value_seen(core, *node, *number), value)),
-        Expected::SignalWithin {
-            node,
-            signal,
-            low,
-            high,
-        } => Ok(signal_within(value_seen(core, *node, *signal), *low, *high)),
-        Expected::SignalMeans {
-            node,
-            signal,
-            text: _,
-            values,
-        } => Ok(signal_means(value_seen(core, *node, *signal), values)),
-        Expected::Waiting { host, count } => Ok(waiting(core, *host, *count)),
+        Expected::Is(what) => Ok(judged(found(alloc, core, taken, what)?, true)),
+        Expected::Not(what) => Ok(judged(found(alloc, core, taken, what)?, false)),
         Expected::Message { from, to, pattern } => {
             let kind = EventKind::Messages {
                 from: *from,
@@ -644,18 +434,6 @@ pub(crate) fn verdict(
             };
             no_message(alloc, look_for(core, taken, kind)?)
         }
-        Expected::Messages {
-            from,
-            to,
-            low,
-            high,
-        } => {
-            let kind = EventKind::Messages {
-                from: *from,
-                to: *to,
-            };
-            Ok(messages(count_left(core.log(), taken, kind), *low, *high))
-        }
         Expected::NoLost { host } => Ok(no_lost(first_loss(core.log(), taken, *host))),
         Expected::Sent { host } => {
             let event = take_next(core, taken, EventKind::Fates { host: *host })?;
@@ -664,16 +442,6 @@ pub(crate) fn verdict(
         Expected::Lost { host, cause } => {
             let event = take_next(core, taken, EventKind::Fates { host: *host })?;
             Ok(lost(event, *cause))
-        }
-        Expected::Seen(how) => Ok(seen(last_event(core.log(), EventKind::Ends), *how)),
-        Expected::Frame { frame, pattern } => {
-            let last = last_carried(alloc, core.cluster(), core.log())?;
-            let event = last_event(core.log(), EventKind::Ends);
-            frame_seen(alloc, event, *frame, pattern, last)
-        }
-        Expected::Slot { table, entry } => {
-            let event = last_event(core.log(), EventKind::Begins);
-            Ok(slot(event, *table, *entry))
         }
         Expected::Table(number) => Ok(table(running_table(alloc, core)?, *number)),
         Expected::Done => Ok(done(newest_reply(core))),

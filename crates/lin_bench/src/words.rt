@@ -7,13 +7,13 @@ ghost use Rattle.lin_bench.specs.Fields.{line_fields, field_texts};
 ghost use Rattle.lin_bench.specs.Lines.{read_line};
 ghost use Rattle.lin_bench.specs.Parts.{worded_line_of};
 ghost use Rattle.lin_bench.specs.Read.{Gives};
-ghost use Rattle.lin_bench.specs.Words.{expected_line, from_end, in_numbers, is_expect, is_value_mark};
+ghost use Rattle.lin_bench.specs.Words.{expected_line, from_end, in_numbers, is_expect, is_expectation_word, is_value_mark};
 ghost use Rattle.lin_bench.specs.Words.{by_wish, nearest_line, worded_by, written_line};
-ghost use Rattle.lin_bench.specs.Words.{is_write, meant_by, meant_line, read_worded_line, wish_of};
+ghost use Rattle.lin_bench.specs.Words.{is_write, meant_by, meant_condition, meant_line, read_worded_line, wish_of};
 ghost use Rattle.lin_bench.specs.Words.{line_with_signal, worded_signal};
 ghost use Rattle.lin_bench.specs.Words.{without_comment, worded, worded_line, worded_or_plain};
 
-use crate::expected::Expected;
+use crate::expected::{Condition, Expected};
 use crate::fault::LineFault;
 use crate::fields::{fields, signal_field, untabbed};
 use crate::hints::names_hash;
@@ -65,14 +65,21 @@ pub(crate) fn is_write(before: &[&[u8]]) -> bool
     is_from_end(before, 0, b"write") || is_from_end(before, 1, b"write")
 }
 
+/// Whether an expectation begins after a field, counted from the end.
+fn expects_after(fields: &[&[u8]], n: usize) -> bool
+    ensures { result ≡ is_expectation_word (from_end (field_texts fields.now) n) }
+{
+    is_from_end(fields, n, b"expect")
+        || is_from_end(fields, n, b"until")
+        || is_from_end(fields, n, b"while")
+}
+
 /// Whether fields are those of an expectation of a signal, before the signal.
 pub(crate) fn is_expect(before: &[&[u8]]) -> bool
     ensures { result ≡ is_expect (field_texts before.now) }
 {
     is_from_end(before, 1, b"signal")
-        && (is_from_end(before, 2, b"expect")
-            || is_from_end(before, 2, b"until")
-            || is_from_end(before, 2, b"while"))
+        && (expects_after(before, 2) || is_from_end(before, 2, b"not") && expects_after(before, 3))
 }
 
 /// What the fields before a signal and the mark behind it ask for.
@@ -155,21 +162,32 @@ pub(crate) fn in_numbers<'a>(
     joined(alloc, all.as_slice())
 }
 
-/// What is expected, with the values that words say in the place of the one of a line in numbers.
-fn meant_by(expected: Expected, text: Text, values: MeantValues) -> Expected
-    ensures { result ≡ meant_by expected text values }
+/// A condition, with the values that words say in the place of the one of a line in numbers.
+fn meant_condition(condition: Condition, text: Text, values: MeantValues) -> Condition
+    ensures { result ≡ meant_condition condition text values }
 {
-    match expected {
-        Expected::Signal {
+    match condition {
+        Condition::Signal {
             node,
             signal,
             value: _,
-        } => Expected::SignalMeans {
+        } => Condition::SignalMeans {
             node,
             signal,
             text,
             values,
         },
+        other => other,
+    }
+}
+
+/// What is expected, with the values that words say in the place of the one of a line in numbers.
+fn meant_by(expected: Expected, text: Text, values: MeantValues) -> Expected
+    ensures { result ≡ meant_by expected text values }
+{
+    match expected {
+        Expected::Is(what) => Expected::Is(meant_condition(what, text, values)),
+        Expected::Not(what) => Expected::Not(meant_condition(what, text, values)),
         other => other,
     }
 }

@@ -3,8 +3,8 @@
 use crate::clusters::{cluster_of, read_text};
 use crate::samples::{BUILT_IN, DOOR_ZONE, WINDOW};
 use lin_bench::{
-    Carried, Disturbance, Every, Expected, Extent, Look, Part, Pattern, Rule, RuleAnswer,
-    ScriptLine, Since, Slots, When, read,
+    Carried, Condition, Disturbance, Every, Expected, Extent, Look, Part, Pattern, Rule,
+    RuleAnswer, ScriptLine, Since, Slots, When, read,
 };
 use lin_core::{Cause, Direction, PortId, Refusal, Step};
 use lin_frame::Value;
@@ -151,7 +151,8 @@ fn name_of(line: &ScriptLine) -> &'static str {
             "slot with two left out"
         }
         ScriptLine::Expect(Expected::Refused(Refusal::Asleep)) => "refused as asleep",
-        ScriptLine::Expect(Expected::Seen(Look::NoAnswer)) => "seen none",
+        ScriptLine::Expect(Expected::Is(Condition::Seen(Look::NoAnswer))) => "seen none",
+        ScriptLine::Expect(Expected::Not(Condition::Seen(Look::NoAnswer))) => "not seen none",
         ScriptLine::Expect(
             Expected::Lost {
                 host: 1,
@@ -159,12 +160,14 @@ fn name_of(line: &ScriptLine) -> &'static str {
             },
         ) => "lost in time",
         ScriptLine::Expect(
-            Expected::SignalWithin {
-                node: 0,
-                signal: 7,
-                low: 690,
-                high: 710,
-            },
+            Expected::Is(
+                Condition::SignalWithin {
+                    node: 0,
+                    signal: 7,
+                    low: 690,
+                    high: 710,
+                },
+            ),
         ) => "signal in a range",
         ScriptLine::Expect(Expected::NoMessage { from: 0, to: 1 }) => "no message",
         ScriptLine::Expect(
@@ -175,12 +178,14 @@ fn name_of(line: &ScriptLine) -> &'static str {
             },
         ) if is_7e(pattern) => "the next message of all",
         ScriptLine::Expect(
-            Expected::Messages {
-                from: 1,
-                to: 0,
-                low: 2,
-                high: 1_000_000,
-            },
+            Expected::Is(
+                Condition::Messages {
+                    from: 1,
+                    to: 0,
+                    low: 2,
+                    high: 1_000_000,
+                },
+            ),
         ) => "two messages or more",
         ScriptLine::Expect(Expected::Table(2)) => "running table",
         ScriptLine::Forget => "forget",
@@ -206,10 +211,12 @@ fn name_of(line: &ScriptLine) -> &'static str {
             },
         ) if pattern.more => "message after the last one",
         ScriptLine::Expect(
-            Expected::Frame {
-                frame: Carried::Request,
-                pattern: Some(pattern),
-            },
+            Expected::Is(
+                Condition::Frame {
+                    frame: Carried::Request,
+                    pattern: Some(pattern),
+                },
+            ),
         ) if pattern.more => "frame with a pattern",
         ScriptLine::Until(slots, Expected::Asleep) => match name_of_slots(slots) {
             "slots of 200 ms" => "slots of 200 ms until asleep",
@@ -236,6 +243,7 @@ const ON_BUILT_IN: Lines<'static> = &[
     (b"expect refused Asleep", "refused as asleep"),
     (b"expect refused 10", "refused as asleep"),
     (b"expect seen none", "seen none"),
+    (b"expect not seen none", "not seen none"),
     (b"expect lost door timedout", "lost in time"),
     (b"expect no message cem 1", "no message"),
     (

@@ -71,6 +71,11 @@ const ON_LIGHTS: Rows<'static> = &[
         b"slot\nexpect seen none\nexpect slot Main 1\nexpect slot 0 0\nexpect asleep\nfinish\nexpect done\nexpect refused Asleep\nexpect refused NoSlot\nslot leave lsm rsm\nexpect seen none\nexpect slot Main 2\nsleep\nwake\nexpect refused Awake\n",
         b"script 2 expected seen none: silent\nscript 3 expected slot Main 1: Main 0\nscript 5 expected asleep: awake\nscript 7 expected done: refused NoSlot\nscript 8 expected refused Asleep: refused NoSlot\nscript 12 expected slot Main 2: Main 1\n",
     ),
+    // What isn't to hold, before the first slot and after it.
+    (
+        b"expect not seen good\nexpect not frame Light\nexpect not slot Main 0\nexpect not waiting lsm 1\nexpect not waiting lsm 0\nexpect not messages cem lsm 0\nexpect not signal lsm level 3\nexpect not signal lsm level 0..2\nslot\nexpect not seen silent\nexpect not seen good\nexpect not slot Main 0\nexpect not slot Main 1\nexpect not frame Light\n",
+        b"script 1 expected not seen good: no slot\nscript 2 expected not frame Light: no slot\nscript 3 expected not slot Main 0: no slot\nscript 5 expected not waiting lsm 0: 0\nscript 6 expected not messages cem lsm 0: 0\nscript 8 expected not signal lsm level 0..2: 2\nscript 10 expected not seen silent: silent\nscript 12 expected not slot Main 0: Main 0\n",
+    ),
     // The table of the next slot, and of the open one.
     (
         b"expect table Main\nexpect table Diag\nswitch Diag\nexpect table Diag\nopen\nswitch Main\nexpect table Main\n",
