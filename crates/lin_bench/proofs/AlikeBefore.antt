@@ -21,7 +21,7 @@ use Rattle.lin_core.specs.declared.step.Step.TheVariants.{Send, Write, Open, Ans
 use Rattle.lin_bench.specs.Added.{added_steps, arrived, rules_after, went_to_all}
 use Rattle.lin_bench.specs.FaultLaws.{IsAlikeBefore, IsBefore, with_faults}
 use Rattle.lin_bench.specs.Faults.{disturbed_steps, is_for, is_struck, slots_finished, struck, target}
-use Rattle.lin_bench.specs.Made.{BenchState, comes, course_of, expected_after, fails, bench_with_verdict, made, made_within, never_ends, rule_verdict, said, bench_after_steps}
+use Rattle.lin_bench.specs.Made.{BenchState, begun, bench_after_steps, bench_with_verdict, comes, course_of, expected_after, fails, made, made_within, never_ends, rule_verdict, said}
 use Rattle.lin_bench.specs.Rules.{after_event, after_events, reacted, rule_for, ruled, serving, state_of}
 use Rattle.lin_bench.specs.Slots.{Course, course_after, after_made, due_now, extent_steps, goes_on, is_opened, most, goes_on_until, past_after, slot_steps, ended_slot_count, slots_steps, with_entry, with_struck}
 use Rattle.lin_bench.specs.declared.expected.Expected.{Expected}
@@ -424,8 +424,8 @@ alike-before c o cap b (line.Slot how) fs h =
 alike-before c o cap b (line.Slots s) fs h =
     slots-line c o cap b fs (slot.Leave s.leave) s.extent never_ends (expected_after s.extent) (nat_lt b.left (ended_slot_count (of_slots c o cap (slot.Leave s.leave) s.extent never_ends (with_faults [] b) (most s.extent)))) (λ at. refl) refl h
 alike-before c o cap b (line.Until s what) fs h =
-    slots-line c o cap b fs (slot.Leave s.leave) s.extent (comes c o b.taken what) (Some what)
-    (nat_lt b.left (ended_slot_count (of_slots c o cap (slot.Leave s.leave) s.extent (comes c o b.taken what) (with_faults [] b) (most s.extent)))) (λ at. refl) refl h
+    slots-line c o cap b fs (slot.Leave s.leave) s.extent (comes c o b.taken (begun c b.past what)) (Some (begun c b.past what))
+    (nat_lt b.left (ended_slot_count (of_slots c o cap (slot.Leave s.leave) s.extent (comes c o b.taken (begun c b.past what)) (with_faults [] b) (most s.extent)))) (λ at. refl) refl h
 alike-before c o cap b (line.While s what) fs h =
-    slots-line c o cap b fs (slot.Leave s.leave) s.extent (fails c o b.taken (length b.past) what) (Some what)
-    (nat_lt b.left (ended_slot_count (of_slots c o cap (slot.Leave s.leave) s.extent (fails c o b.taken (length b.past) what) (with_faults [] b) (most s.extent)))) (λ at. refl) refl h
+    slots-line c o cap b fs (slot.Leave s.leave) s.extent (fails c o b.taken (length b.past) (begun c b.past what)) (Some (begun c b.past what))
+    (nat_lt b.left (ended_slot_count (of_slots c o cap (slot.Leave s.leave) s.extent (fails c o b.taken (length b.past) (begun c b.past what)) (with_faults [] b) (most s.extent)))) (λ at. refl) refl h

@@ -16,7 +16,7 @@ use Rattle.lin_core.specs.declared.reply.Refusal.{Refusal}
 use Rattle.lin_core.specs.declared.reply.Reply.TheVariants.{Done, Refused}
 use Rattle.lin_core.specs.declared.step.Step.{Step}
 use Rattle.lin_core.specs.declared.step.Step.TheVariants.{Open, Leave, Hurt, Finish}
-use Rattle.lin_bench.specs.Made.{BenchState, course_of, expects, bench_with_verdict, made, made_within, said, slots_made, bench_after_steps}
+use Rattle.lin_bench.specs.Made.{BenchState, course_of, expects_from, bench_with_verdict, made, made_within, said, slots_made, bench_after_steps}
 use Rattle.lin_bench.specs.Faults.{disturbed_steps, struck}
 use Rattle.lin_bench.specs.Played.{first_under, in_turn, next, line_result}
 use Rattle.lin_bench.specs.Plays.{EndsWithFullLog, OverfillsUnder, PlayFails, PlaysUnder, has_rule, is_rule}
@@ -225,11 +225,11 @@ within-few c o cap b count steps first what false none h all some =
     rw h (judged-few c o (bench_after_steps c o cap b count steps) what (still_to_come b + 2) (stepped-few c o cap b count steps none few all))
 
 steps-few : (c : Parts) (o cap : ℕ) (b : BenchState) (l : ScriptLine) → IsSmall c → IsUnruled b.rules
-    → IsFew (made_within c o cap b (slots_made l (said c o cap most b l)) (said c o cap most b l) (said c o cap (λ e. b.left) b l) (expects l)).0 (still_to_come b + 2)
+    → IsFew (made_within c o cap b (slots_made l (said c o cap most b l)) (said c o cap most b l) (said c o cap (λ e. b.left) b l) (expects_from c b.past l)).0 (still_to_come b + 2)
 steps-few c o cap b l few none =
     let all = said c o cap most b l in
     let some = said c o cap (λ e. b.left) b l in
-    within-few c o cap b (slots_made l all) all some (expects l) (nat_lt b.left (slots_made l all)) none refl
+    within-few c o cap b (slots_made l all) all some (expects_from c b.past l) (nat_lt b.left (slots_made l all)) none refl
     (said-few c o cap most b l few)
     (let e = said-few c o cap (λ e. b.left) b l few in omega (arith, e, first-few c o cap b.left b l))
 

@@ -1,5 +1,5 @@
 -- What a bench script expects.
-use Rattle.std.specs.Prelude.{ℕ, Bool, ◌&&◌, ◌||◌, if◌then◌else◌, List, [], ◌∷◌, Option, Some, None}
+use Rattle.std.specs.Prelude.{ℕ, Bool, false, ◌&&◌, ◌||◌, if◌then◌else◌, List, [], ◌∷◌, Option, Some, None}
 use Rattle.std.specs.Prelude.{Result, Ok, Err, codes, length, nat_lt, option_and_then, option_map, reverse}
 use Rattle.std.specs.Str.{bytes_eq}
 use Rattle.lin_parts.specs.Cluster.{frame_of, table_of}
@@ -212,6 +212,10 @@ no_form c all (word ∷ fs) =
     else if bytes_eq word (codes "lost") then no_lost_form c all fs
     else Err (UnknownExpectation all)
 
+abbrev pub changed_form : Parts → List (List ℕ) → List (List ℕ) → Result Condition Reason
+changed_form c all (n ∷ s ∷ []) = signal_fields c n s >>= (λ at. Ok (condition.Changed at.0 at.1 None))
+changed_form c all fs = Err (UnknownExpectation all)
+
 -- the condition that a word names, with the fields after it, if it names one
 abbrev pub condition_form : Parts → List (List ℕ) → List ℕ → List (List ℕ)
     → Result (Option Condition) Reason
@@ -222,6 +226,7 @@ condition_form c all word fs =
     else if bytes_eq word (codes "seen") then seen_form all fs >>= (λ what. Ok (Some what))
     else if bytes_eq word (codes "frame") then frame_form c all fs >>= (λ what. Ok (Some what))
     else if bytes_eq word (codes "slot") then slot_form c all fs >>= (λ what. Ok (Some what))
+    else if bytes_eq word (codes "changed") then changed_form c all fs >>= (λ what. Ok (Some what))
     else Ok None
 
 -- what isn't to hold
@@ -260,10 +265,21 @@ abbrev pub word_expectation : Parts → List (List ℕ) → List ℕ → List (L
 word_expectation c all word fs =
     condition_form c all word fs >>= is_or (other_expectation c all word fs)
 
+-- a signal changes from the beginning of a line of slots on
+abbrev pub begins_change : List (List ℕ) → Bool
+begins_change [] = false
+begins_change (word ∷ fs) = bytes_eq word (codes "changed")
+
+abbrev pub needs_slots : List ℕ → List (List ℕ) → Bool
+needs_slots word fs =
+    bytes_eq word (codes "changed") || (bytes_eq word (codes "not") && begins_change fs)
+
 -- what is expected, by the fields after `expect`
 unfoldable pub expectation : Parts → List (List ℕ) → Result Expected Reason
 expectation c [] = Err ExpectForm
-expectation c (word ∷ fs) = word_expectation c (word ∷ fs) word fs
+expectation c (word ∷ fs) =
+    if needs_slots word fs then Err (UnknownExpectation (word ∷ fs))
+    else word_expectation c (word ∷ fs) word fs
 
 -- what comes after a step alone, or stands for what doesn't come
 abbrev pub never_comes : List ℕ → Bool

@@ -9,9 +9,11 @@ use Rattle.lin_core.specs.declared.port.PortId.{PortId}
 use Rattle.lin_core.specs.declared.step.Step.{Step}
 use Rattle.lin_bench.specs.Rules.{has_rule, ruled}
 use Rattle.lin_bench.specs.Slots.{Course, course_after, extent_steps, most, ended_slot_count}
-use Rattle.lin_bench.specs.Verdicts.{all_taken, kind_taken, next_event, taking, verdict}
+use Rattle.lin_bench.specs.Verdicts.{all_taken, kind_taken, next_event, taking, value_seen, verdict}
+use Rattle.lin_bench.specs.declared.expected.Condition.{Condition}
+use Rattle.lin_bench.specs.declared.expected.Condition.TheVariants as condition
 use Rattle.lin_bench.specs.declared.expected.Expected.{Expected}
-use Rattle.lin_bench.specs.declared.expected.Expected.TheVariants.{HasRule, Idle as IsIdle}
+use Rattle.lin_bench.specs.declared.expected.Expected.TheVariants as expected
 use Rattle.lin_bench.specs.declared.got.Got.{Got}
 use Rattle.lin_bench.specs.declared.got.Got.TheVariants.{NoRule}
 use Rattle.lin_bench.specs.declared.got.Verdict.{Verdict}
@@ -38,6 +40,18 @@ pub record BenchState : Type 0 where
 abbrev pub course_of : BenchState → Course
 course_of b = record { past = b.past; rules = b.rules }
 
+-- what is expected of a line that begins in this history: a signal is to change from the value that it
+-- has now
+abbrev pub condition_begun : Parts → List LogEntry → Condition → Condition
+condition_begun c past (condition.Changed node signal first) =
+    condition.Changed node signal (value_seen c past node signal)
+condition_begun c past what = what
+
+abbrev pub begun : Parts → List LogEntry → Expected → Expected
+begun c past (expected.Is what) = expected.Is (condition_begun c past what)
+begun c past (expected.Not what) = expected.Not (condition_begun c past what)
+begun c past what = what
+
 -- what is waited for comes: where it speaks of messages or of what became of them, there is one that
 -- isn't taken, right or wrong; and otherwise it is so
 abbrev pub comes : Parts → ℕ → List EventKind → Expected → Course → Bool
@@ -62,11 +76,11 @@ said c opening capacity limit b (line.Slot how) =
 said c opening capacity limit b (line.Slots s) =
     extent_steps c opening capacity (Leave s.leave) s.extent never_ends (limit s.extent) (course_of b)
 said c opening capacity limit b (line.Until s what) =
-    extent_steps c opening capacity (Leave s.leave) s.extent (comes c opening b.taken what)
-    (limit s.extent) (course_of b)
+    extent_steps c opening capacity (Leave s.leave) s.extent
+    (comes c opening b.taken (begun c b.past what)) (limit s.extent) (course_of b)
 said c opening capacity limit b (line.While s what) =
     extent_steps c opening capacity (Leave s.leave) s.extent
-    (fails c opening b.taken (length b.past) what) (limit s.extent) (course_of b)
+    (fails c opening b.taken (length b.past) (begun c b.past what)) (limit s.extent) (course_of b)
 said c opening capacity limit b (line.Expect what) = []
 said c opening capacity limit b line.Forget = []
 said c opening capacity limit b (line.Rule r) = []
@@ -84,7 +98,7 @@ slots_made (line.Rule r) steps = 0
 
 -- what slots expect after them
 abbrev pub expected_after : Extent → Option Expected
-expected_after (Idle n) = Some IsIdle
+expected_after (Idle n) = Some expected.Idle
 expected_after extent = None
 
 -- what a line expects, of the history after its steps
@@ -94,6 +108,12 @@ expects (line.Until s what) = Some what
 expects (line.While s what) = Some what
 expects (line.Expect what) = Some what
 expects line = None
+
+-- likewise of a line that begins in this history
+abbrev pub expects_from : Parts → List LogEntry → ScriptLine → Option Expected
+expects_from c past (line.Until s what) = Some (begun c past what)
+expects_from c past (line.While s what) = Some (begun c past what)
+expects_from c past line = expects line
 
 abbrev pub met_or : Expected → Option Got → Verdict
 met_or what None = Met what
@@ -132,7 +152,7 @@ with_rule c b r = record b { rules = ruled (time c b.past) b.rules r }
 -- the end of rules is a check only where there is no such rule
 abbrev pub ended_verdict : Bool → RuleEnd → Verdict
 ended_verdict true e = Nothing
-ended_verdict false e = Unmet (HasRule e) NoRule
+ended_verdict false e = Unmet (expected.HasRule e) NoRule
 
 abbrev pub rule_verdict : Rules → Rule → Verdict
 rule_verdict rules (rule.End e) = ended_verdict (has_rule rules e) e
@@ -145,4 +165,4 @@ made c opening capacity b (line.Rule r) = (with_rule c b r, rule_verdict b.rules
 made c opening capacity b line =
     let steps = said c opening capacity most b line
     in made_within c opening capacity b (slots_made line steps) steps
-    (said c opening capacity (λ extent. b.left) b line) (expects line)
+    (said c opening capacity (λ extent. b.left) b line) (expects_from c b.past line)

@@ -214,6 +214,8 @@ condition_words wanted (condition.Frame frame (Some pattern)) =
     word_if wanted (codes "frame") (codes "not frame") ∷ Frame frame ∷ Matching pattern ∷ []
 condition_words wanted (condition.Slot table entry) =
     word_if wanted (codes "slot") (codes "not slot") ∷ Table table ∷ Number entry ∷ []
+condition_words wanted (condition.Changed node signal first) =
+    word_if wanted (codes "changed") (codes "not changed") ∷ Node node ∷ Signal signal ∷ []
 
 -- what is expected
 abbrev pub expected_words : Expected → List Word

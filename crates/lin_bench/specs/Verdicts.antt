@@ -277,6 +277,11 @@ slot_finding table entry (Some (event.Slot t e header)) =
     finding (t == table && e == entry) (got.Slot t e)
 slot_finding table entry other = unknown got.NoSlot
 
+-- a value isn't that at the beginning of the line
+abbrev pub changed_finding : Option Value → Option Value → Finding
+changed_finding None seen = unknown got.NoStep
+changed_finding (Some first) seen = value_finding (λ v. not (same_value v first)) seen
+
 unfoldable pub found : Parts → List LogEntry → List EventKind → Condition → Finding
 found c past taken (condition.Signal node signal value) =
     value_finding (λ v. same_value v value) (value_seen c past node signal)
@@ -291,6 +296,8 @@ found c past taken (condition.Seen how) = seen_finding how (last_event past Ends
 found c past taken (condition.Frame frame pattern) =
     frame_finding frame pattern (last_carried c past) (last_event past Ends)
 found c past taken (condition.Slot table entry) = slot_finding table entry (last_event past Begins)
+found c past taken (condition.Changed node signal first) =
+    changed_finding first (value_seen c past node signal)
 
 -- ---- verdicts: none where the expectation is met, otherwise what is so
 abbrev pub got_unless : Bool → Got → Option Got

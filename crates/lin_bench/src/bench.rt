@@ -14,6 +14,7 @@ ghost use Rattle.lin_bench.specs.declared.line.ScriptLine.{ScriptLine};
 ghost use Rattle.lin_bench.specs.declared.rules.Rule.{Rule};
 
 use crate::ended_rules::has_rule;
+use crate::conditions::begun;
 use crate::expected::Expected;
 use crate::fault::MakeFault;
 use crate::faults::ArmedFault;
@@ -353,9 +354,11 @@ impl Bench {
                 self.line_of_slots(alloc, slots, expected, Early::Never)
             }
             ScriptLine::Until(slots, expected) => {
+                let expected = begun(self.core(), expected);
                 self.line_of_slots(alloc, slots, Some(expected), Early::Until)
             }
             ScriptLine::While(slots, expected) => {
+                let expected = begun(self.core(), expected);
                 self.line_of_slots(alloc, slots, Some(expected), Early::While)
             }
             ScriptLine::Expect(expected) => self.judge(alloc, Some(expected)),

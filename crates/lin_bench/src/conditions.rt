@@ -2,9 +2,10 @@
 
 ghost use Rattle.std.specs.Prelude.{◌≡◌, ◌==◌, ◌<◌, ◌≤◌, ◌&&◌, IfOk, None, Some, option_map};
 ghost use Rattle.lin_core.specs.Core.{past_of};
+ghost use Rattle.lin_bench.specs.Made.{begun, condition_begun};
 ghost use Rattle.lin_bench.specs.Meant.{is_among_values};
 ghost use Rattle.lin_bench.specs.Searches.{IsSearchState, taken_by};
-ghost use Rattle.lin_bench.specs.Verdicts.{data_of, fits_data, found, frame_finding, good_finding};
+ghost use Rattle.lin_bench.specs.Verdicts.{changed_finding, data_of, fits_data, found, frame_finding, good_finding};
 ghost use Rattle.lin_bench.specs.Verdicts.{is_within, messages_finding, same_frame};
 ghost use Rattle.lin_bench.specs.Verdicts.{seen_finding, slot_finding, unknown, value_finding};
 ghost use Rattle.lin_bench.specs.Verdicts.{value_seen, waiting_finding};
@@ -12,7 +13,7 @@ ghost use Rattle.lin_bench.specs.Verdicts.{value_seen, waiting_finding};
 use crate::answers::fits;
 use crate::carried::last_carried;
 use crate::ended_rules::same_value;
-use crate::expected::Condition;
+use crate::expected::{Condition, Expected};
 use crate::got::Got;
 use crate::left_events::count_left;
 use crate::meant::MeantValues;
@@ -235,6 +236,51 @@ fn slot(event: Option<&Event>, table: u16, entry: u16) -> Finding
     }
 }
 
+/// Whether a value is another one than at the beginning of the line.
+fn changed(first: &Option<Value>, seen: Option<Value>) -> Finding
+    ensures { result ≡ changed_finding first.now seen }
+{
+    let Some(first) = first else {
+        return Finding::unknown(Got::NoStep);
+    };
+    match seen {
+        None => Finding::unknown(Got::NoNodeOrSignal),
+        Some(seen) => Finding {
+            holds: Some(!same_value(&seen, first)),
+            got: Got::Value(seen),
+        },
+    }
+}
+
+/// A condition of a line that begins now: a signal is to change from the value that it has now.
+fn condition_begun(core: &Core, condition: Condition) -> Condition
+    ensures { result ≡ condition_begun core.now.cluster (past_of core.now) condition }
+{
+    match condition {
+        Condition::Changed {
+            node,
+            signal,
+            first: _,
+        } => Condition::Changed {
+            node,
+            signal,
+            first: value_seen(core, node, signal),
+        },
+        other => other,
+    }
+}
+
+/// What is expected of a line that begins now.
+pub(crate) fn begun(core: &Core, expected: Expected) -> Expected
+    ensures { result ≡ begun core.now.cluster (past_of core.now) expected }
+{
+    match expected {
+        Expected::Is(what) => Expected::Is(condition_begun(core, what)),
+        Expected::Not(what) => Expected::Not(condition_begun(core, what)),
+        other => other,
+    }
+}
+
 /// What is found of a condition.
 #[tactic(auto, unfolding(crate::specs::Verdicts::found))]
 pub(crate) fn found(
@@ -288,5 +334,10 @@ pub(crate) fn found(
             let event = last_event(core.log(), EventKind::Begins);
             Ok(slot(event, *table, *entry))
         }
+        Condition::Changed {
+            node,
+            signal,
+            first,
+        } => Ok(changed(first, value_seen(core, *node, *signal))),
     }
 }

@@ -2,7 +2,7 @@
 
 ghost use Rattle.std.specs.Prelude.{◌≡◌, ◌<◌, ◌&&◌, IfOk, codes, length, option_map};
 ghost use Rattle.std.specs.Str.{bytes_eq};
-ghost use Rattle.lin_bench.specs.Expectations.{condition_form, not_form, other_expectation};
+ghost use Rattle.lin_bench.specs.Expectations.{begins_change, changed_form, condition_form, needs_slots, not_form, other_expectation};
 ghost use Rattle.lin_bench.specs.Expectations.{before_last, data_length, data_pattern, entry_field, expectation, frame_form, lone_form};
 ghost use Rattle.lin_bench.specs.Expectations.{loss_expectation, lost_form, pattern_form, rows_and_limit};
 ghost use Rattle.lin_bench.specs.Expectations.{message_form, messages_form, next_form, next_message_form, no_form, no_lost_form, no_message_form, signal_expectation};
@@ -533,6 +533,28 @@ fn lone(
     }
 }
 
+/// A signal that is to change, by the fields after `changed`.
+fn changed(
+    alloc: Global,
+    cluster: &Cluster,
+    all: &[u8],
+    parts: &[&[u8]],
+) -> Result<Condition, LineFault>
+    ensures { Gives (λ w. w) result (changed_form cluster.now (line_fields all.now) (field_texts parts.now)) }
+{
+    match parts {
+        [node, signal] => {
+            let (node, signal) = signal_fields(alloc, cluster, node, signal)?;
+            Ok(Condition::Changed {
+                node,
+                signal,
+                first: None,
+            })
+        }
+        _ => Err(no_form(alloc, cluster, all)?),
+    }
+}
+
 /// The condition that a word names, with the fields after it, if it names one; `all` are the line.
 fn condition(
     alloc: Global,
@@ -556,6 +578,8 @@ fn condition(
         Ok(Some(frame(alloc, cluster, all, parts)?))
     } else if word == b"slot".as_slice() {
         Ok(Some(slot(alloc, cluster, all, parts)?))
+    } else if word == b"changed".as_slice() {
+        Ok(Some(changed(alloc, cluster, all, parts)?))
     } else {
         Ok(None)
     }
@@ -683,6 +707,24 @@ pub(crate) fn holding(alloc: Global, cluster: &Cluster, line: &[u8]) -> Result<E
     }
 }
 
+/// Whether fields begin with `changed`.
+fn begins_change(cluster: &Cluster, line: &[u8]) -> bool
+    ensures { result ≡ begins_change (line_fields line.now) }
+{
+    match first_field(cluster, line) {
+        Some((word, _)) => word == b"changed".as_slice(),
+        None => false,
+    }
+}
+
+/// Whether a word and the fields after it are for slots alone: a signal changes from the beginning of its
+/// line on.
+fn needs_slots(cluster: &Cluster, word: &[u8], line: &[u8]) -> bool
+    ensures { result ≡ needs_slots word.now (line_fields line.now) }
+{
+    word == b"changed".as_slice() || word == b"not".as_slice() && begins_change(cluster, line)
+}
+
 /// What is expected, by the fields after `expect`.
 #[tactic(auto, unfolding(crate::specs::Expectations::expectation))]
 pub(crate) fn expectation(
@@ -694,6 +736,11 @@ pub(crate) fn expectation(
 {
     match first_field(cluster, line) {
         None => Err(LineFault::Bad(Reason::ExpectForm)),
-        Some((word, rest)) => of_word(alloc, cluster, line, word, rest),
+        Some((word, rest)) => {
+            if needs_slots(cluster, word, rest) {
+                return Err(no_form(alloc, cluster, line)?);
+            }
+            of_word(alloc, cluster, line, word, rest)
+        }
     }
 }

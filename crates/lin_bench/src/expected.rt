@@ -65,6 +65,13 @@ pub enum Condition {
         table: u16,
         entry: u16,
     },
+    /// A node sees another value of a signal than at the beginning of the line; the value then, once the
+    /// line has begun.
+    Changed {
+        node: u8,
+        signal: u16,
+        first: Option<Value>,
+    },
 }
 
 /// What a bench script expects of the steps before.

@@ -460,6 +460,17 @@ fn condition_line(condition: &Condition, wanted: bool) -> WordList<'_>
                 Word::Number(u64::from(*entry)),
             ]);
         }
+        Condition::Changed {
+            node,
+            signal,
+            first: _,
+        } => {
+            return WordList::of(&[
+                word_if(wanted, "changed", "not changed"),
+                Word::Node(*node),
+                Word::Signal(*signal),
+            ]);
+        }
     }
 }
 

@@ -11,7 +11,7 @@ use Rattle.lin_core.specs.declared.step.Step.{Step}
 use Rattle.lin_values.specs.Coded.{CodedData}
 use Rattle.lin_bench.specs.Fields.{line_fields}
 use Rattle.lin_bench.specs.Scripts.{Script, read_lines, with_read_line}
-use Rattle.lin_bench.specs.Made.{BenchState, expects, bench_with_verdict, made, made_within, said as steps_said, slots_made, bench_after_steps}
+use Rattle.lin_bench.specs.Made.{BenchState, expects_from, bench_with_verdict, made, made_within, said as steps_said, slots_made, bench_after_steps}
 use Rattle.lin_bench.specs.Played.{Run, come_to, initial_bench, in_turn, is_unmet as is_missed, judged_from, judgements, next, on_line, own, some_unmet, line_result as run_told, with_judgements}
 use Rattle.lin_bench.specs.Slots.{most, slot_limit}
 use Rattle.lin_bench.specs.Words.{read_worded_line}
@@ -62,12 +62,12 @@ alike-line : (c : Parts) (opening capacity : ℕ) (b : BenchState) (more : ℕ) 
     → let steps = steps_said c opening capacity most b l in
     let few = steps_said c opening capacity (λ extent. b.left) b l in
     let many = steps_said c opening capacity (λ extent. more) b l in
-    is_limit (made_within c opening capacity b (slots_made l steps) steps few (expects l)).1 ≡ false
-    → Alike (made_within c opening capacity b (slots_made l steps) steps few (expects l))
-    (made_within c opening capacity (record b { left = more }) (slots_made l steps) steps many (expects l))
+    is_limit (made_within c opening capacity b (slots_made l steps) steps few (expects_from c b.past l)).1 ≡ false
+    → Alike (made_within c opening capacity b (slots_made l steps) steps few (expects_from c b.past l))
+    (made_within c opening capacity (record b { left = more }) (slots_made l steps) steps many (expects_from c b.past l))
 alike-line c opening capacity b more l le =
     alike-within c opening capacity b more (slots_made l (steps_said c opening capacity most b l)) (steps_said c opening capacity most b l)
-    (steps_said c opening capacity (λ extent. b.left) b l) (steps_said c opening capacity (λ extent. more) b l) (expects l) le
+    (steps_said c opening capacity (λ extent. b.left) b l) (steps_said c opening capacity (λ extent. more) b l) (expects_from c b.past l) le
 
 alike-made : (c : Parts) (opening capacity : ℕ) (b : BenchState) (more : ℕ) (l : ScriptLine) → b.left ≤ more → AlikeLine c opening capacity b more l
 unfolding made steps_said
@@ -96,10 +96,10 @@ less-within c opening capacity b count steps few (Some what) =
 
 less-line : (c : Parts) (opening capacity : ℕ) (b : BenchState) (l : ScriptLine)
     → let steps = steps_said c opening capacity most b l in
-    (made_within c opening capacity b (slots_made l steps) steps (steps_said c opening capacity (λ extent. b.left) b l) (expects l)).0.left ≤ b.left
+    (made_within c opening capacity b (slots_made l steps) steps (steps_said c opening capacity (λ extent. b.left) b l) (expects_from c b.past l)).0.left ≤ b.left
 less-line c opening capacity b l =
     less-within c opening capacity b (slots_made l (steps_said c opening capacity most b l)) (steps_said c opening capacity most b l)
-    (steps_said c opening capacity (λ extent. b.left) b l) (expects l)
+    (steps_said c opening capacity (λ extent. b.left) b l) (expects_from c b.past l)
 
 less-made : (c : Parts) (opening capacity : ℕ) (b : BenchState) (l : ScriptLine) → (made c opening capacity b l).0.left ≤ b.left
 unfolding made

@@ -218,11 +218,16 @@ pub(crate) fn put_bad_bench_line(
                 "  expect takes {FORMS}, done, refused NAME, no message FROM TO, no lost (NODE)"
             )
         }
-        Reason::UntilForm | Reason::UnknownUntil(_) => writeln!(out, "  until takes {FORMS}"),
+        Reason::UntilForm | Reason::UnknownUntil(_) => {
+            writeln!(
+                out,
+                "  until takes {FORMS}, changed NODE SIGNAL, not changed NODE SIGNAL"
+            )
+        }
         Reason::WhileForm | Reason::UnknownWhile(_) => {
             writeln!(
                 out,
-                "  while takes {HOLDING}, no message FROM TO, no lost (NODE)"
+                "  while takes {HOLDING}, changed NODE SIGNAL, not changed NODE SIGNAL, no message FROM TO, no lost (NODE)"
             )
         }
         _ => Ok(()),

@@ -223,6 +223,16 @@ fn name_of(line: &ScriptLine) -> &'static str {
             "slots without two nodes" => "slots without two nodes until asleep",
             _ => "anything else",
         },
+        ScriptLine::Until(
+            _,
+            Expected::Not(
+                Condition::Changed {
+                    node: 1,
+                    signal: 0,
+                    first: None,
+                },
+            ),
+        ) => "slots until a signal is as before",
         ScriptLine::Until(_, Expected::Table(0)) => "slots until a table runs",
         ScriptLine::While(slots, Expected::NoLost { host: None }) => match name_of_slots(slots) {
             "slots of 200 ms" => "slots while nothing is lost",
@@ -289,6 +299,10 @@ const ON_DOOR_ZONE: Lines<'static> = &[
     (b"slot leave Panel 1", "slot with two left out"),
     (b"expect signal DCU WinTemp 690..0x2C6", "signal in a range"),
     (b"expect table Mixed", "running table"),
+    (
+        b"slots 4 until not changed WinMot WinCmd",
+        "slots until a signal is as before",
+    ),
 ];
 
 fn expect_lines(rt: &impl Abort, alloc: Global, ldf: &[u8], lines: Lines) -> Result<(), Fail> {
