@@ -6,7 +6,7 @@ const LDF_WORDS = new Set(`LIN_description_file LIN_protocol_version LIN_languag
 	bcd_value ascii_value kbps ms`.split(/\s+/));
 const STEP_WORDS = `slots slot write expect send switch sleep wake when every timeouts response_errors services state forget
 	open finish answer leave hurt close timeout`.split(/\s+/);
-const FORM_WORDS = 'signal message messages next frame seen sent lost no waiting slot table asleep awake not changed done refused'.split(' ');
+const FORM_WORDS = 'signal message messages next frame seen sent lost no waiting slot table cycle asleep awake not changed done refused'.split(' ');
 const NOT_WORDS = 'signal waiting messages seen frame slot changed'.split(' ');
 const SEEN_WORDS = 'good none silent damaged collided'.split(' '), CAUSE_WORDS = 'damaged timedout slept'.split(' ');
 const BENCH_WORDS = new Set([...STEP_WORDS, ...FORM_WORDS, ...SEEN_WORDS, ...CAUSE_WORDS,
@@ -93,7 +93,7 @@ function formWords(words, names) {
 	if (!count) return FORM_WORDS;
 	if (form === 'not') return count === 1 ? NOT_WORDS : formWords(words.slice(1), names);
 	if (form === 'signal' || form === 'changed') return count === 1 ? names('nodes') : count === 2 ? names('signals') : [];
-	if (form === 'frame') return count === 1 ? [...names('frames'), 'MasterReq', 'SlaveResp'] : [];
+	if (form === 'frame' || form === 'cycle') return count === 1 ? [...names('frames'), 'MasterReq', 'SlaveResp'] : [];
 	if (form === 'slot' || form === 'table') return count === 1 ? names('tables') : [];
 	if (form === 'seen') return count === 1 ? SEEN_WORDS : [];
 	if (form === 'no' && count === 1) return ['lost', 'message'];

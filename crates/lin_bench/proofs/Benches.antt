@@ -5,19 +5,22 @@ use Rattle.lin_core.specs.Core.{CoreData, past_of}
 use Rattle.lin_core.specs.History.{time}
 use Rattle.lin_core.specs.declared.port.PortId.{PortId}
 use Rattle.lin_core.specs.declared.step.Step.{Step}
-use Rattle.lin_bench.specs.Bench.{BenchData, MakeFails, GivesVerdict, MakesBench, MakesLine, made_on, made_slots, ruled_of, state_of}
-use Rattle.lin_bench.specs.Made.{BenchState, bench_with_verdict, made, said, bench_after_steps, rule_verdict}
+use Rattle.lin_bench.specs.Bench.{BenchData, MakeFails, GivesVerdict, MakesBench, MakesLine, made_early, made_on, made_slots, ruled_of, state_of}
+use Rattle.lin_bench.specs.Made.{BenchState, begun, bench_with_verdict, ended_verdict, made, said, bench_after_steps, rule_verdict}
 use Rattle.lin_bench.specs.Making.{IsGrown, AreExecuted, MakesSteps, RuledData, SlotsFail, StepsFail, extent_on}
-use Rattle.lin_bench.specs.Rules.{ruled}
+use Rattle.lin_bench.specs.Rules.{has_rule, ruled, without_rule}
 use Rattle.lin_bench.specs.Slots.{Course, ended_slot_count}
+use Rattle.lin_bench.specs.declared.bench.Early.TheVariants.{Until, While}
 use Rattle.lin_bench.specs.declared.expected.Expected.{Expected}
 use Rattle.lin_bench.specs.declared.fault.MakeFault.{MakeFault}
 use Rattle.lin_bench.specs.declared.fault.MakeFault.TheVariants.{LogFull, OutOfMemory}
 use Rattle.lin_bench.specs.declared.got.Verdict.{Verdict}
 use Rattle.lin_bench.specs.declared.got.Verdict.TheVariants.{Nothing}
 use Rattle.lin_bench.specs.declared.line.Disturbance.{Disturbance}
+use Rattle.lin_bench.specs.declared.line.Disturbance.TheVariants.{Leave}
 use Rattle.lin_bench.specs.declared.line.Extent.{Extent}
 use Rattle.lin_bench.specs.declared.line.ScriptLine.TheVariants as line
+use Rattle.lin_bench.specs.declared.line.Slots.{Slots}
 use Rattle.lin_bench.specs.declared.rules.Rule.{Rule}
 use Rattle.lin_bench.specs.declared.rules.Rule.TheVariants as rule
 use Rattle.lin_bench.specs.declared.rules.RuleEnd.{RuleEnd}
@@ -100,3 +103,20 @@ rule-made b new r core rules taken left = rw (core, rules, taken, left) (refl, (
 pub other-verdict : (rules : Rules) (r : Rule) → ((e : RuleEnd) → r ≡ rule.End e → ⊥) → rule_verdict rules r ≡ Nothing
 other-verdict rules (rule.End e) h = absurd (h e refl)
 other-verdict rules r h = refl
+
+-- slots were made that end early, by what was expected as the line began
+pub until-made : (b new : BenchData) (s : Slots) (what from : Expected) (core : CoreData) (r : Result Verdict MakeFault) → core ≡ b.core → from ≡ begun core.cluster (past_of core) what
+    → MakesBench (made_early b (Leave s.leave) s.extent Until (Some from)) b r new → MakesLine b (line.Until s what) r new
+unfolding made said
+until-made b new s what from core r same is h = rw (is, same) at h
+
+pub while-made : (b new : BenchData) (s : Slots) (what from : Expected) (core : CoreData) (r : Result Verdict MakeFault) → core ≡ b.core → from ≡ begun core.cluster (past_of core) what
+    → MakesBench (made_early b (Leave s.leave) s.extent While (Some from)) b r new → MakesLine b (line.While s what) r new
+unfolding made said
+while-made b new s what from core r same is h = rw (is, same) at h
+
+-- single rules were put out of force
+pub end-made : (b new : BenchData) (e : RuleEnd) (found : Bool) → found ≡ has_rule b.rules e → new.core ≡ b.core → new.rules ≡ without_rule b.rules e
+    → new.taken ≡ b.taken → new.left ≡ b.left → MakesLine b (line.Rule (rule.End e)) (Ok (ended_verdict found e)) new
+unfolding made ruled
+end-made b new e found is core rules taken left = rw (is, core, rules, taken, left) (refl, (refl, refl, refl))

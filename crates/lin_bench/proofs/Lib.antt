@@ -44,3 +44,4 @@ pub mod RuleOrder
 pub mod RuledFinish
 pub mod CountedSlots
 pub mod ToldErrors
+pub mod FrameCycles

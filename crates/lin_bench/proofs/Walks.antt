@@ -128,11 +128,11 @@ last-time c kind (e ∷ past) =
     let grows = slot-time c past e in
     last-before c kind past (list_any kind (events e)) e refl (last-time c kind past) (omega (arith, grows))
 
-by-done : (past : List LogEntry) (d : Option Step) → option_map_or is_finish d false ≡ true → option_map_or (λ step. cond (is_finish step) (open_slot past) None) d None ≡ open_slot past
+pub by-done : (past : List LogEntry) (d : Option Step) → option_map_or is_finish d false ≡ true → option_map_or (λ step. cond (is_finish step) (open_slot past) None) d None ≡ open_slot past
 by-done past None h = absurd (cc)
 by-done past (Some step) h = rw h refl
 
-not-done : (past : List LogEntry) (d : Option Step) → option_map_or is_finish d false ≡ false → option_map_or (λ step. cond (is_finish step) (open_slot past) None) d None ≡ None
+pub not-done : (past : List LogEntry) (d : Option Step) → option_map_or is_finish d false ≡ false → option_map_or (λ step. cond (is_finish step) (open_slot past) None) d None ≡ None
 not-done past None h = refl
 not-done past (Some step) h = rw h refl
 

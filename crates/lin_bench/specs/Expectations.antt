@@ -13,6 +13,7 @@ use Rattle.lin_bench.specs.Fields.{number_up_to, or_bad, pair_fields, present_no
 use Rattle.lin_bench.specs.Fields.{range_ends, range_field, rows_and_time, signal_fields}
 use Rattle.lin_bench.specs.Fields.{value_field}
 use Rattle.lin_bench.specs.RuleLines.{pattern_fields}
+use Rattle.lin_bench.specs.Times.{time_field}
 use Rattle.lin_bench.specs.Rules.{has_length}
 use Rattle.lin_bench.specs.declared.reason.Reason.{Reason}
 use Rattle.lin_bench.specs.declared.reason.Reason.TheVariants.{NoData, NoEntry, NoRefusal}
@@ -174,6 +175,31 @@ slot_form c all (t ∷ e ∷ []) = do
   Ok (condition.Slot table entry)
 slot_form c all fs = Err (UnknownExpectation all)
 
+-- the cycle of a frame: exactly, or within a tolerance
+abbrev pub exact_cycle : Parts → List ℕ → List ℕ → Result Expected Reason
+exact_cycle c f t = do
+  frame ← frame_field c f
+  time ← time_field t
+  Ok (expected.Cycle frame time None)
+
+abbrev pub near_cycle : Parts → List ℕ → List ℕ → List ℕ → Result Expected Reason
+near_cycle c f t d = do
+  frame ← frame_field c f
+  time ← time_field t
+  within ← time_field d
+  Ok (expected.Cycle frame time (Some within))
+
+abbrev pub cycle_within_form : Parts → List (List ℕ) → List (List ℕ) → Result Expected Reason
+cycle_within_form c all (f ∷ t ∷ sign ∷ d ∷ unit ∷ []) =
+    if bytes_eq sign (codes "+-") && bytes_eq unit (codes "ms") then near_cycle c f t d
+    else Err (UnknownExpectation all)
+cycle_within_form c all fs = Err (UnknownExpectation all)
+
+abbrev pub cycle_form : Parts → List (List ℕ) → List (List ℕ) → Result Expected Reason
+cycle_form c all (f ∷ t ∷ unit ∷ []) =
+    if bytes_eq unit (codes "ms") then exact_cycle c f t else Err (UnknownExpectation all)
+cycle_form c all fs = cycle_within_form c all fs
+
 abbrev pub table_form : Parts → List (List ℕ) → List (List ℕ) → Result Expected Reason
 table_form c all (t ∷ []) = present_table c t >>= (λ table. Ok (expected.Table table))
 table_form c all fs = Err (UnknownExpectation all)
@@ -248,6 +274,7 @@ other_expectation c all word fs =
     else if bytes_eq word (codes "no") then no_form c all fs
     else if bytes_eq word (codes "sent") then sent_form c all fs
     else if bytes_eq word (codes "lost") then lost_form c all fs
+    else if bytes_eq word (codes "cycle") then cycle_form c all fs
     else if bytes_eq word (codes "table") then table_form c all fs
     else if bytes_eq word (codes "done") then lone_form all expected.Done fs
     else if bytes_eq word (codes "refused") then refused_form all fs
@@ -260,7 +287,7 @@ abbrev pub is_or : Result Expected Reason → Option Condition → Result Expect
 is_or other None = other
 is_or other (Some what) = Ok (expected.Is what)
 
-abbrev pub word_expectation : Parts → List (List ℕ) → List ℕ → List (List ℕ)
+unfoldable pub word_expectation : Parts → List (List ℕ) → List ℕ → List (List ℕ)
     → Result Expected Reason
 word_expectation c all word fs =
     condition_form c all word fs >>= is_or (other_expectation c all word fs)

@@ -1,4 +1,5 @@
 pub mod Fields
+pub mod Times
 pub mod Errors
 pub mod Expectations
 pub mod Rules

@@ -116,16 +116,10 @@ abbrev pub forget_form : List (List ℕ) → Result ScriptLine Reason
 forget_form [] = Ok line.Forget
 forget_form fs = Err (Step (Takes (codes "forget") 0))
 
--- what a line says, by its first field and those after it. Where no port stands before a step, the
--- bus gives it
-unfoldable pub line_form : Parts → List ℕ → List (List ℕ) → Result ScriptLine Reason
-line_form c word fs =
-    if is_port word then of_step (port_step (named_language c) word fs) >>= (λ s. Ok (line.Step s.0 s.1))
-    else if bytes_eq word (codes "slots") then slots_form c fs
-    else if bytes_eq word (codes "slot") then slot_form c fs >>= (λ how. Ok (line.Slot how))
-    else if bytes_eq word (codes "expect") then expectation c fs >>= (λ what. Ok (line.Expect what))
-    else if bytes_eq word (codes "forget") then forget_form fs
-    else if bytes_eq word (codes "when") then when_form c fs >>= (λ rule. Ok (line.Rule rule))
+-- what a line of a rule says, or of a step before which no port stands: the bus gives it
+abbrev pub rule_or_step_form : Parts → List ℕ → List (List ℕ) → Result ScriptLine Reason
+rule_or_step_form c word fs =
+    if bytes_eq word (codes "when") then when_form c fs >>= (λ rule. Ok (line.Rule rule))
     else if bytes_eq word (codes "timeouts")
     then timeouts_form fs >>= (λ rule. Ok (line.Rule rule))
     else if bytes_eq word (codes "every") then every_form c fs >>= (λ rule. Ok (line.Rule rule))
@@ -135,6 +129,16 @@ line_form c word fs =
     then errors_form c fs >>= (λ rule. Ok (line.Rule rule))
     else if bytes_eq word (codes "state") then state_form c fs >>= (λ rule. Ok (line.Rule rule))
     else of_step (step_form (named_language c) word fs) >>= (λ step. Ok (line.Step Bus step))
+
+-- what a line says, by its first field and those after it
+unfoldable pub line_form : Parts → List ℕ → List (List ℕ) → Result ScriptLine Reason
+line_form c word fs =
+    if is_port word then of_step (port_step (named_language c) word fs) >>= (λ s. Ok (line.Step s.0 s.1))
+    else if bytes_eq word (codes "slots") then slots_form c fs
+    else if bytes_eq word (codes "slot") then slot_form c fs >>= (λ how. Ok (line.Slot how))
+    else if bytes_eq word (codes "expect") then expectation c fs >>= (λ what. Ok (line.Expect what))
+    else if bytes_eq word (codes "forget") then forget_form fs
+    else rule_or_step_form c word fs
 
 abbrev pub line_of_fields : Parts → List (List ℕ) → Result (Option ScriptLine) Reason
 line_of_fields c [] = Ok None

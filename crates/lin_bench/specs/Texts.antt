@@ -103,6 +103,8 @@ reason_words (reason.NoEntry table entries) =
     Said table ∷ Fixed (codes "has") ∷ Number entries ∷ Fixed (entries_word entries) ∷ []
 reason_words (reason.NoRange field) =
     Fixed (codes "expected a range LOW..HIGH, not") ∷ Said field ∷ []
+reason_words (reason.NoTime field) =
+    Said field ∷ Fixed (codes "isn't a time up to 1000000 ms") ∷ []
 reason_words reason.TooSmall = Fixed (codes "expected a number of at least 1, not 0") ∷ []
 reason_words reason.SlotsForm =
     Fixed (codes "usage: slots N, slots N ms, slots N leave NODE .., slots N until FORM, slots N while FORM or slots idle") ∷ []
@@ -235,6 +237,11 @@ expected_words (expected.NoLost (Some host)) = Fixed (codes "no lost") ∷ Node 
 expected_words (expected.Sent host) = Fixed (codes "sent") ∷ Node host ∷ []
 expected_words (expected.Lost host cause) =
     Fixed (codes "lost") ∷ Node host ∷ Fixed (cause_word cause) ∷ []
+expected_words (expected.Cycle frame t None) =
+    Fixed (codes "cycle") ∷ Frame frame ∷ Said t.text ∷ Fixed (codes "ms") ∷ []
+expected_words (expected.Cycle frame t (Some within)) =
+    Fixed (codes "cycle") ∷ Frame frame ∷ Said t.text ∷ Fixed (codes "+-") ∷ Said within.text
+    ∷ Fixed (codes "ms") ∷ []
 expected_words (expected.Table table) = Fixed (codes "table") ∷ Table table ∷ []
 expected_words expected.Done = Fixed (codes "done") ∷ []
 expected_words (expected.Refused why) = Fixed (codes "refused") ∷ Fixed (refusal_word why) ∷ []

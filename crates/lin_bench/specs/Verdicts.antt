@@ -2,7 +2,7 @@
 -- newest first.
 use Rattle.std.specs.Prelude.{ℕ, ◌==◌, ◌&&◌, ◌||◌, Bool, true, false, not, nat_le, nat_lt, if◌then◌else◌, List, []}
 use Rattle.std.specs.Prelude.{◌∷◌, ◌++◌, filter, length, slice_get, Option, Some, None, count_by}
-use Rattle.std.specs.Prelude.{find, map, option_and_then, option_map, reverse, take, slice_index, ◌*◌, ◌-◌}
+use Rattle.std.specs.Prelude.{find, map, option_and_then, option_map, reverse, take, slice_index, ◌*◌, ◌+◌, ◌-◌}
 use Rattle.std.specs.List.{filter_map, list_any}
 use Rattle.std.specs.Option.{option_map_or}
 use Rattle.lin_frame.specs.declared.value.Value.{Value}
@@ -11,7 +11,7 @@ use Rattle.lin_parts.specs.Cluster.{line_of, nodes}
 use Rattle.lin_parts.specs.declared.parts.Entry.{Entry}
 use Rattle.lin_parts.specs.declared.parts.Entry.TheVariants.{MasterReq, SlaveResp, Fixed}
 use Rattle.lin_parts.specs.declared.parts.Parts.{Parts}
-use Rattle.lin_core.specs.History.{Slot, asleep, events, open_slot, time}
+use Rattle.lin_core.specs.History.{Slot, asleep, events, finished_slot, open_slot, time}
 use Rattle.lin_core.specs.Links.{waiting}
 use Rattle.lin_core.specs.Signals.{carried_by, value_at}
 use Rattle.lin_core.specs.Slots.{next_due}
@@ -39,6 +39,7 @@ use Rattle.lin_bench.specs.declared.expected.Condition.{Condition}
 use Rattle.lin_bench.specs.declared.expected.Condition.TheVariants as condition
 use Rattle.lin_bench.specs.declared.expected.Expected.{Expected}
 use Rattle.lin_bench.specs.declared.expected.Expected.TheVariants as expected
+use Rattle.lin_bench.specs.declared.expected.SaidTime.{SaidTime}
 use Rattle.lin_bench.specs.declared.expected.Since.{Since}
 use Rattle.lin_bench.specs.declared.expected.Since.TheVariants.{Request, Last}
 use Rattle.lin_bench.specs.declared.got.Got.{Got}
@@ -348,6 +349,52 @@ lost_verdict cause (Some (event.Lost host number why)) =
     got_unless (cause_number why == cause_number cause) (got.Lost number why)
 lost_verdict cause other = Some got.NoEvent
 
+-- ---- the cycle of a frame
+abbrev pub is_good : Event → Bool
+is_good (event.Seen (Good answer)) = true
+is_good event = false
+
+-- whether an entry ends a slot that was seen good with a frame
+abbrev pub carries : Parts → Carried → LogEntry → List LogEntry → Bool
+carries c frame e past =
+    list_any is_good (events e)
+    && option_map_or
+    (λ s. option_map_or (λ f. same_frame f frame) (carried_by_slot c s) false)
+    (finished_slot e past) false
+
+-- the delay of the slot that an entry ends
+abbrev pub ended_delay : Parts → LogEntry → List LogEntry → ℕ
+ended_delay c e past =
+    option_map_or (λ (s : Slot). (line_of c s.table s.entry).delay_us) (finished_slot e past) 0
+
+-- a slot whose end no `forget` has consumed: no expectation consumes one
+abbrev pub is_after_forget : List EventKind → List LogEntry → Bool
+is_after_forget taken past =
+    nat_le (count_by (same_kind Ends) taken) (count_by (is_of_kind Ends) (all_events past))
+
+-- when these slots began, the oldest first: the time of a history is that of the slots that ended in it
+abbrev pub begins_with : Parts → Carried → List EventKind → List LogEntry → List ℕ
+begins_with c frame taken [] = []
+begins_with c frame taken (e ∷ past) =
+    begins_with c frame taken past
+    ++ (if is_after_forget taken past && carries c frame e past then time c past ∷ [] else [])
+
+-- how far apart they began
+abbrev pub distances : List ℕ → List ℕ
+distances (a ∷ b ∷ ts) = (b - a) ∷ distances (b ∷ ts)
+distances ts = []
+
+abbrev pub is_near : ℕ → ℕ → ℕ → Bool
+is_near t tolerance distance = nat_le (t - tolerance) distance && nat_le distance (t + tolerance)
+
+abbrev pub cycle_verdict : ℕ → ℕ → List ℕ → Option Got
+cycle_verdict t tolerance [] = Some got.NoEvent
+cycle_verdict t tolerance (d ∷ ds) =
+    option_map got.Took (find (λ x. not (is_near t tolerance x)) (d ∷ ds))
+
+abbrev pub tolerance : Option SaidTime → ℕ
+tolerance within = option_map_or (λ (t : SaidTime). t.us) within 0
+
 abbrev pub table_verdict : ℕ → ℕ → Option Got
 table_verdict table running = got_unless (running == table) (got.Table running)
 
@@ -390,6 +437,8 @@ verdict c opening past noted taken (expected.NoLost host) =
 verdict c opening past noted taken (expected.Sent host) = sent_verdict (next_event past taken (Fates host))
 verdict c opening past noted taken (expected.Lost host cause) =
     lost_verdict cause (next_event past taken (Fates host))
+verdict c opening past noted taken (expected.Cycle frame t within) =
+    cycle_verdict t.us (tolerance within) (distances (begins_with c frame taken past))
 verdict c opening past noted taken (expected.Table table) = table_verdict table (running_table c opening past)
 verdict c opening past noted taken expected.Done = done_verdict (newest_reply past)
 verdict c opening past noted taken (expected.Refused why) = refused_verdict why (newest_reply past)

@@ -14,7 +14,6 @@ ghost use Rattle.lin_bench.specs.declared.line.ScriptLine.{ScriptLine};
 ghost use Rattle.lin_bench.specs.declared.rules.Rule.{Rule};
 
 use crate::ended_rules::has_rule;
-use crate::conditions::begun;
 use crate::expected::Expected;
 use crate::fault::MakeFault;
 use crate::faults::ArmedFault;
@@ -354,11 +353,11 @@ impl Bench {
                 self.line_of_slots(alloc, slots, expected, Early::Never)
             }
             ScriptLine::Until(slots, expected) => {
-                let expected = begun(self.core(), expected);
+                let expected = expected.begun(self.core());
                 self.line_of_slots(alloc, slots, Some(expected), Early::Until)
             }
             ScriptLine::While(slots, expected) => {
-                let expected = begun(self.core(), expected);
+                let expected = expected.begun(self.core());
                 self.line_of_slots(alloc, slots, Some(expected), Early::While)
             }
             ScriptLine::Expect(expected) => self.judge(alloc, Some(expected)),

@@ -92,7 +92,7 @@ fn told_more(slot: OpenSlot, events: &[Event]) -> Result<OpenSlot, AllocError>
 }
 
 /// The slot that is open after one entry more.
-fn follow(
+pub(crate) fn follow(
     alloc: Global,
     slot: Option<OpenSlot>,
     entry: &LogEntry,
@@ -227,7 +227,7 @@ pub(crate) fn signals_in(cluster: &Cluster, slot: &OpenSlot, entry: Entry) -> Op
 }
 
 /// The frame that a slot carries.
-fn carried(cluster: &Cluster, slot: &OpenSlot) -> Option<Carried>
+pub(crate) fn carried(cluster: &Cluster, slot: &OpenSlot) -> Option<Carried>
     ensures { (s : Slot) → shape_in slot.now ≡ shape s → result ≡ carried_by_slot cluster.now s }
 {
     match entry_at(cluster, slot.table, slot.entry) {

@@ -2,18 +2,17 @@
 
 ghost use Rattle.std.specs.Prelude.{◌≡◌, ◌==◌, ◌<◌, ◌≤◌, ◌&&◌, IfOk, None, Some, option_map};
 ghost use Rattle.lin_core.specs.Core.{past_of};
-ghost use Rattle.lin_bench.specs.Made.{begun, condition_begun};
 ghost use Rattle.lin_bench.specs.Meant.{is_among_values};
 ghost use Rattle.lin_bench.specs.Searches.{IsSearchState, taken_by};
 ghost use Rattle.lin_bench.specs.Verdicts.{changed_finding, data_of, fits_data, found, frame_finding, good_finding};
-ghost use Rattle.lin_bench.specs.Verdicts.{is_within, messages_finding, same_frame};
+ghost use Rattle.lin_bench.specs.Verdicts.{is_within, messages_finding, same_frame, same_value};
 ghost use Rattle.lin_bench.specs.Verdicts.{seen_finding, slot_finding, unknown, value_finding};
 ghost use Rattle.lin_bench.specs.Verdicts.{value_seen, waiting_finding};
 
 use crate::answers::fits;
 use crate::carried::last_carried;
 use crate::ended_rules::same_value;
-use crate::expected::{Condition, Expected};
+use crate::expected::Condition;
 use crate::got::Got;
 use crate::left_events::count_left;
 use crate::meant::MeantValues;
@@ -42,7 +41,7 @@ impl Finding {
 }
 
 /// What a node sees of a signal; none where there is no such node or signal.
-fn value_seen(core: &Core, node: u8, signal: u16) -> Option<Value>
+pub(crate) fn value_seen(core: &Core, node: u8, signal: u16) -> Option<Value>
     ensures { result ≡ value_seen core.now.cluster (past_of core.now) node signal }
 {
     let cluster = core.cluster();
@@ -139,7 +138,7 @@ fn seen(event: Option<&Event>, how: Look) -> Finding
     }
 }
 
-fn same_frame(a: Carried, b: Carried) -> bool
+pub(crate) fn same_frame(a: Carried, b: Carried) -> bool
     ensures { result ≡ same_frame a b }
 {
     match (a, b) {
@@ -249,35 +248,6 @@ fn changed(first: &Option<Value>, seen: Option<Value>) -> Finding
             holds: Some(!same_value(&seen, first)),
             got: Got::Value(seen),
         },
-    }
-}
-
-/// A condition of a line that begins now: a signal is to change from the value that it has now.
-fn condition_begun(core: &Core, condition: Condition) -> Condition
-    ensures { result ≡ condition_begun core.now.cluster (past_of core.now) condition }
-{
-    match condition {
-        Condition::Changed {
-            node,
-            signal,
-            first: _,
-        } => Condition::Changed {
-            node,
-            signal,
-            first: value_seen(core, node, signal),
-        },
-        other => other,
-    }
-}
-
-/// What is expected of a line that begins now.
-pub(crate) fn begun(core: &Core, expected: Expected) -> Expected
-    ensures { result ≡ begun core.now.cluster (past_of core.now) expected }
-{
-    match expected {
-        Expected::Is(what) => Expected::Is(condition_begun(core, what)),
-        Expected::Not(what) => Expected::Not(condition_begun(core, what)),
-        other => other,
     }
 }
 

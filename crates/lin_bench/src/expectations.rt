@@ -2,7 +2,7 @@
 
 ghost use Rattle.std.specs.Prelude.{◌≡◌, ◌<◌, ◌&&◌, IfOk, codes, length, option_map};
 ghost use Rattle.std.specs.Str.{bytes_eq};
-ghost use Rattle.lin_bench.specs.Expectations.{begins_change, changed_form, condition_form, needs_slots, not_form, other_expectation};
+ghost use Rattle.lin_bench.specs.Expectations.{begins_change, changed_form, condition_form, cycle_form, cycle_within_form, exact_cycle, near_cycle, needs_slots, not_form, other_expectation};
 ghost use Rattle.lin_bench.specs.Expectations.{before_last, data_length, data_pattern, entry_field, expectation, frame_form, lone_form};
 ghost use Rattle.lin_bench.specs.Expectations.{loss_expectation, lost_form, pattern_form, rows_and_limit};
 ghost use Rattle.lin_bench.specs.Expectations.{message_form, messages_form, next_form, next_message_form, no_form, no_lost_form, no_message_form, signal_expectation};
@@ -24,6 +24,7 @@ use crate::fields::{
 };
 use crate::reason::Reason;
 use crate::rule_lines::pattern;
+use crate::times::time_field;
 use lin_core::{Refusal, named, numbered};
 use lin_log::{Carried, Pattern, copied, first_field, is_number, is_over, number};
 use lin_parts::Cluster;
@@ -426,6 +427,91 @@ fn table(
     }
 }
 
+/// A frame in a cycle of exactly this time.
+fn exact_cycle(
+    alloc: Global,
+    cluster: &Cluster,
+    frame: &[u8],
+    time: &[u8],
+) -> Result<Expected, LineFault>
+    ensures { Gives (λ e. e) result (exact_cycle cluster.now frame.now time.now) }
+{
+    Ok(Expected::Cycle {
+        frame: frame_field(alloc, cluster, frame)?,
+        time: time_field(alloc, time)?,
+        within: None,
+    })
+}
+
+/// A frame in a cycle of this time, within a tolerance.
+fn near_cycle(
+    alloc: Global,
+    cluster: &Cluster,
+    frame: &[u8],
+    time: &[u8],
+    within: &[u8],
+) -> Result<Expected, LineFault>
+    ensures { Gives (λ e. e) result (near_cycle cluster.now frame.now time.now within.now) }
+{
+    let frame = frame_field(alloc, cluster, frame)?;
+    let time = time_field(alloc, time)?;
+    let within = time_field(alloc, within)?;
+    Ok(Expected::Cycle {
+        frame,
+        time,
+        within: Some(within),
+    })
+}
+
+fn is_unit(unit: &[u8]) -> bool
+    ensures { result ≡ bytes_eq unit.now (codes "ms") }
+{
+    unit == b"ms".as_slice()
+}
+
+fn is_tolerance(sign: &[u8], unit: &[u8]) -> bool
+    ensures { result ≡ (bytes_eq sign.now (codes "+-") && bytes_eq unit.now (codes "ms")) }
+{
+    sign == b"+-".as_slice() && unit == b"ms".as_slice()
+}
+
+/// The cycle of a frame with a tolerance, by the fields after `cycle`.
+fn cycle_within(
+    alloc: Global,
+    cluster: &Cluster,
+    all: &[u8],
+    parts: &[&[u8]],
+) -> Result<Expected, LineFault>
+    ensures { Gives
+        (λ e. e) result (cycle_within_form cluster.now (line_fields all.now) (field_texts parts.now)) }
+{
+    let [frame, time, sign, within, unit] = parts else {
+        return Err(no_form(alloc, cluster, all)?);
+    };
+    if !is_tolerance(sign, unit) {
+        return Err(no_form(alloc, cluster, all)?);
+    }
+    near_cycle(alloc, cluster, frame, time, within)
+}
+
+/// The cycle of a frame, by the fields after `cycle`.
+fn cycle(
+    alloc: Global,
+    cluster: &Cluster,
+    all: &[u8],
+    parts: &[&[u8]],
+) -> Result<Expected, LineFault>
+    ensures { Gives (λ e. e) result (cycle_form cluster.now (line_fields all.now) (field_texts parts.now)) }
+{
+    let [frame, time, unit] = parts else {
+        return cycle_within(alloc, cluster, all, parts);
+    };
+    if !is_unit(unit) {
+        return Err(no_form(alloc, cluster, all)?);
+    }
+    exact_cycle(alloc, cluster, frame, time)
+}
+
 fn refused(
     alloc: Global,
     cluster: &Cluster,
@@ -624,6 +710,8 @@ fn other(
         sent(alloc, cluster, all, parts)
     } else if word == b"lost".as_slice() {
         lost(alloc, cluster, all, line)
+    } else if word == b"cycle".as_slice() {
+        cycle(alloc, cluster, all, parts)
     } else if word == b"table".as_slice() {
         table(alloc, cluster, all, parts)
     } else if word == b"done".as_slice() {
@@ -640,6 +728,7 @@ fn other(
 }
 
 /// The expectation that a word names, with the fields after it; `all` are the line of the word and these.
+#[tactic(auto, unfolding(crate::specs::Expectations::word_expectation))]
 fn of_word(
     alloc: Global,
     cluster: &Cluster,

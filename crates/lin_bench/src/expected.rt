@@ -1,8 +1,14 @@
 //! What is expected.
 
+ghost use Rattle.std.specs.Prelude.{◌≡◌};
+ghost use Rattle.lin_core.specs.Core.{past_of};
+ghost use Rattle.lin_bench.specs.Made.{begun, condition_begun};
+ghost use Rattle.lin_bench.specs.Words.{meant_by, meant_condition};
+
+use crate::conditions::value_seen;
 use crate::meant::MeantValues;
 use crate::rules::RuleEnd;
-use lin_core::{Cause, Look, Refusal};
+use lin_core::{Cause, Core, Look, Refusal};
 use lin_frame::Value;
 use lin_log::{Carried, Pattern};
 use lin_text::Text;
@@ -16,8 +22,14 @@ pub enum Since {
     Last,
 }
 
-/// What holds after some steps, and may not hold after others.
+/// A time, at most 1,000,000 milliseconds, in microseconds, and its text in milliseconds.
 #[derive(Drop)]
+pub struct SaidTime {
+    pub us: u32,
+    pub text: Text,
+}
+
+/// What holds after some steps, and may not hold after others.
 pub enum Condition {
     /// A node sees this value of a signal (ISO 17987-3, signals).
     Signal {
@@ -74,8 +86,89 @@ pub enum Condition {
     },
 }
 
+// Written out, as that of what is expected, so that what owns one lets it go in one step of its proof.
+impl Drop for Condition {
+    fn drop(self) {
+        match self {
+            Condition::Signal {
+                node: _,
+                signal: _,
+                value: _value,
+            } => {}
+            Condition::SignalWithin {
+                node: _,
+                signal: _,
+                low: _,
+                high: _,
+            } => {}
+            Condition::SignalMeans {
+                node: _,
+                signal: _,
+                text: _text,
+                values: _values,
+            } => {}
+            Condition::Waiting { host: _, count: _ } => {}
+            Condition::Messages {
+                from: _,
+                to: _,
+                low: _,
+                high: _,
+            } => {}
+            Condition::Seen(_) => {}
+            Condition::Frame {
+                frame: _,
+                pattern: _pattern,
+            } => {}
+            Condition::Slot { table: _, entry: _ } => {}
+            Condition::Changed {
+                node: _,
+                signal: _,
+                first: _first,
+            } => {}
+        }
+    }
+}
+
+impl Condition {
+    /// The condition of a line that begins now: a signal is to change from the value that it has now.
+    fn begun(self, core: &Core) -> Condition
+        ensures { result ≡ condition_begun core.now.cluster (past_of core.now) self }
+    {
+        match self {
+            Condition::Changed {
+                node,
+                signal,
+                first: _first,
+            } => Condition::Changed {
+                node,
+                signal,
+                first: value_seen(core, node, signal),
+            },
+            other => other,
+        }
+    }
+
+    /// The condition, with the values that words say in the place of the one of a line in numbers.
+    fn meant(self, text: Text, values: MeantValues) -> Condition
+        ensures { result ≡ meant_condition self text values }
+    {
+        match self {
+            Condition::Signal {
+                node,
+                signal,
+                value: _value,
+            } => Condition::SignalMeans {
+                node,
+                signal,
+                text,
+                values,
+            },
+            other => other,
+        }
+    }
+}
+
 /// What a bench script expects of the steps before.
-#[derive(Drop)]
 pub enum Expected {
     /// This holds.
     Is(Condition),
@@ -120,6 +213,13 @@ pub enum Expected {
         host: u8,
         cause: Cause,
     },
+    /// Of the slots that ended since the last `forget`, two or more were seen good with this frame, and each
+    /// of them began this time after the one before, within this tolerance if there is one.
+    Cycle {
+        frame: Carried,
+        time: SaidTime,
+        within: Option<SaidTime>,
+    },
     /// The running schedule table is this one: the table of the open slot or, if no slot is open, of the
     /// next slot.
     Table(u16),
@@ -133,4 +233,70 @@ pub enum Expected {
     Idle,
     /// A rule is in force that a line ends. The line judges it, and only that there is none is told.
     HasRule(RuleEnd),
+}
+
+impl Drop for Expected {
+    fn drop(self) {
+        match self {
+            Expected::Is(_condition) => {}
+            Expected::Not(_condition) => {}
+            Expected::Message {
+                from: _,
+                to: _,
+                pattern: _pattern,
+            } => {}
+            Expected::MessageWithin {
+                from: _,
+                to: _,
+                pattern: _pattern,
+                most_ms: _,
+                since: _,
+            } => {}
+            Expected::NextMessage {
+                from: _,
+                to: _,
+                pattern: _pattern,
+            } => {}
+            Expected::NoMessage { from: _, to: _ } => {}
+            Expected::NoLost { host: _ } => {}
+            Expected::Sent { host: _ } => {}
+            Expected::Lost { host: _, cause: _ } => {}
+            Expected::Cycle {
+                frame: _,
+                time: _time,
+                within: _within,
+            } => {}
+            Expected::Table(_) => {}
+            Expected::Done => {}
+            Expected::Refused(_) => {}
+            Expected::Asleep => {}
+            Expected::Awake => {}
+            Expected::Idle => {}
+            Expected::HasRule(_end) => {}
+        }
+    }
+}
+
+impl Expected {
+    /// What is expected of a line that begins now.
+    pub(crate) fn begun(self, core: &Core) -> Expected
+        ensures { result ≡ begun core.now.cluster (past_of core.now) self }
+    {
+        match self {
+            Expected::Is(what) => Expected::Is(what.begun(core)),
+            Expected::Not(what) => Expected::Not(what.begun(core)),
+            other => other,
+        }
+    }
+
+    /// What is expected, with the values that words say in the place of the one of a line in numbers.
+    pub(crate) fn meant(self, text: Text, values: MeantValues) -> Expected
+        ensures { result ≡ meant_by self text values }
+    {
+        match self {
+            Expected::Is(what) => Expected::Is(what.meant(text, values)),
+            Expected::Not(what) => Expected::Not(what.meant(text, values)),
+            other => other,
+        }
+    }
 }

@@ -3,11 +3,11 @@
 ghost use Rattle.std.specs.Prelude.{◌≡◌, ◌≤◌, ◌+◌, count_by, flat_map, length, option_map, reverse, take};
 ghost use Rattle.lin_core.specs.History.{events};
 ghost use Rattle.lin_bench.specs.LeftEvents.{TellsFirst, TellsIfLeft, TellsIfSo, is_sought};
-ghost use Rattle.lin_bench.specs.Searches.{IsSearchState, taken_by};
+ghost use Rattle.lin_bench.specs.Searches.{IsSearchState, before, taken_by};
 ghost use Rattle.lin_bench.specs.Verdicts.{first_message, is_host, is_loss_left, is_message_left};
 ghost use Rattle.lin_bench.specs.Verdicts.{is_of_kind, left_count};
 
-use crate::taken::{EventKind, TakenEvents, events_of, last_end};
+use crate::taken::{EventKind, LogPlace, TakenEvents, events_of, last_end};
 use lin_core::{Event, Log};
 
 /// Events that a search is for.
@@ -20,7 +20,7 @@ pub(crate) enum Sought {
 }
 
 /// How many events of a kind there are.
-fn count_of(told: &[Event], kind: EventKind) -> usize
+pub(crate) fn count_of(told: &[Event], kind: EventKind) -> usize
     ensures { result ≡ count_by (is_of_kind kind) told.now }
 {
     told.iter().filter(|event| kind.has(event)).count()
@@ -34,6 +34,18 @@ fn count_from(log: &Log, kind: EventKind, first: usize) -> u128
 {
     let mut count: u128 = 0;
     for index in first..log.len() {
+        count += count_of(events_of(log.entry(index)), kind) as u128;
+    }
+    count
+}
+
+/// How many events of a kind stand before a place.
+pub(crate) fn count_before(log: &Log, kind: EventKind, place: LogPlace) -> u128
+    requires { place.entry ≤ length log.now.entries }
+    ensures { result ≡ before log.now.entries kind place }
+{
+    let mut count = place.events as u128;
+    for index in 0..place.entry {
         count += count_of(events_of(log.entry(index)), kind) as u128;
     }
     count

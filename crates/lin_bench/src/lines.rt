@@ -5,7 +5,7 @@ ghost use Rattle.lin_bench.specs.Fields.{line_fields};
 ghost use Rattle.lin_bench.specs.Lines.{after_count, all_answer, count_form, early_form, ends_early};
 ghost use Rattle.lin_bench.specs.Lines.{extent_of, forget_form, idle_form, leave_form, left_form};
 ghost use Rattle.lin_bench.specs.Lines.{line_form, node_fields, nodes_and_early, nodes_read, read_line};
-ghost use Rattle.lin_bench.specs.Lines.{slot_form, slots_form, BeginsNodes};
+ghost use Rattle.lin_bench.specs.Lines.{rule_or_step_form, slot_form, slots_form, BeginsNodes};
 ghost use Rattle.lin_bench.specs.Read.{Gives};
 
 use crate::expectations::{expectation, holding, until};
@@ -247,6 +247,32 @@ fn slot(alloc: Global, cluster: &Cluster, line: &[u8]) -> Result<Disturbance, Li
     }
 }
 
+/// What a line of a rule says, or of a step by the bus, by its first field and the rest of it.
+fn rule_or_step(
+    alloc: Global,
+    cluster: &Cluster,
+    word: &[u8],
+    rest: &[u8],
+) -> Result<ScriptLine, LineFault>
+    ensures { Gives (λ l. l) result (rule_or_step_form cluster.now word.now (line_fields rest.now)) }
+{
+    if word == b"when".as_slice() {
+        Ok(ScriptLine::Rule(when(alloc, cluster, rest)?))
+    } else if word == b"timeouts".as_slice() {
+        Ok(ScriptLine::Rule(timeouts(alloc, cluster, rest)?))
+    } else if word == b"every".as_slice() {
+        Ok(ScriptLine::Rule(every(alloc, cluster, rest)?))
+    } else if word == b"services".as_slice() {
+        Ok(ScriptLine::Rule(services(alloc, cluster, rest)?))
+    } else if word == b"response_errors".as_slice() {
+        Ok(ScriptLine::Rule(response_errors(alloc, cluster, rest)?))
+    } else if word == b"state".as_slice() {
+        Ok(ScriptLine::Rule(state(alloc, cluster, rest)?))
+    } else {
+        Ok(ScriptLine::Step(PortId::Bus, step(alloc, cluster, word, rest)?))
+    }
+}
+
 /// What a line says, by its first field and the rest of it.
 #[tactic(auto, unfolding(crate::specs::Lines::line_form))]
 fn of_word(
@@ -268,20 +294,8 @@ fn of_word(
         Ok(ScriptLine::Expect(expectation(alloc, cluster, rest)?))
     } else if word == b"forget".as_slice() {
         forget(alloc, cluster, rest)
-    } else if word == b"when".as_slice() {
-        Ok(ScriptLine::Rule(when(alloc, cluster, rest)?))
-    } else if word == b"timeouts".as_slice() {
-        Ok(ScriptLine::Rule(timeouts(alloc, cluster, rest)?))
-    } else if word == b"every".as_slice() {
-        Ok(ScriptLine::Rule(every(alloc, cluster, rest)?))
-    } else if word == b"services".as_slice() {
-        Ok(ScriptLine::Rule(services(alloc, cluster, rest)?))
-    } else if word == b"response_errors".as_slice() {
-        Ok(ScriptLine::Rule(response_errors(alloc, cluster, rest)?))
-    } else if word == b"state".as_slice() {
-        Ok(ScriptLine::Rule(state(alloc, cluster, rest)?))
     } else {
-        Ok(ScriptLine::Step(PortId::Bus, step(alloc, cluster, word, rest)?))
+        rule_or_step(alloc, cluster, word, rest)
     }
 }
 

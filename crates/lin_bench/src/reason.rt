@@ -39,6 +39,8 @@ pub enum Reason {
     },
     /// A field of two numbers of which the first is above the second, or that aren't both numbers.
     NoRange(Text),
+    /// A field that is no time in milliseconds, of at most 1,000,000, with at most three decimal places.
+    NoTime(Text),
     /// A 0 where a number from 1 on is wanted.
     TooSmall,
     /// `slots` takes a number, a number and `ms`, or `idle`, and after a number `leave`, `until` or `while`.

@@ -9,7 +9,7 @@ ghost use Rattle.lin_bench.specs.Fields.{line_fields, field_texts};
 ghost use Rattle.lin_bench.specs.Read.{Gives};
 ghost use Rattle.lin_bench.specs.RuleLines.{AddsRow, answer_form, answer_parts, answers_form, answers_of, copied_part};
 ghost use Rattle.lin_bench.specs.RuleLines.{after_state, before_enter, errors_form, errors_on, every_off, is_digit, is_letter};
-ghost use Rattle.lin_bench.specs.RuleLines.{ends_rule, is_name, is_name_sign, is_only, maybe_name, name_field, state_form, unanswered};
+ghost use Rattle.lin_bench.specs.RuleLines.{ends_rule, is_name, is_name_sign, is_only, maybe_name, name_field, state_form, state_of_node, unanswered};
 ghost use Rattle.lin_bench.specs.RuleLines.{when_end, when_in, whens_end};
 ghost use Rattle.lin_bench.specs.RuleLines.{services_form, services_on, has_several_bits, every_fields, every_form, has_star, hex_byte, hex_part};
 ghost use Rattle.lin_bench.specs.RuleLines.{all_parts, last_field, parts_field, parts_fields, pattern_byte};
@@ -700,18 +700,35 @@ pub(crate) fn response_errors(
     }
 }
 
-/// A responder that enters a state, by the fields after `state`.
+/// A responder that enters a state.
+fn state_of_node(
+    alloc: Global,
+    cluster: &Cluster,
+    node: &[u8],
+    field: &[u8],
+) -> Result<Rule, LineFault>
+    ensures { Gives (λ r. r) result (state_of_node cluster.now node.now field.now) }
+{
+    let node = responder(alloc, cluster, node)?;
+    let name = name(alloc, field)?;
+    Ok(Rule::State { node, name })
+}
+
+/// The state of a responder, by the fields of both.
 #[tactic(auto, unfolding(crate::specs::RuleLines::state_form))]
+fn state_by(alloc: Global, cluster: &Cluster, all: &[&[u8]]) -> Result<Rule, LineFault>
+    ensures { Gives (λ r. r) result (state_form cluster.now (field_texts all.now)) }
+{
+    match all {
+        [node, field] => state_of_node(alloc, cluster, *node, *field),
+        _ => Err(LineFault::Bad(Reason::StateForm)),
+    }
+}
+
+/// A responder that enters a state, by the fields after `state`.
 pub(crate) fn state(alloc: Global, cluster: &Cluster, line: &[u8]) -> Result<Rule, LineFault>
     ensures { Gives (λ r. r) result (state_form cluster.now (line_fields line.now)) }
 {
     let all = fields(alloc, cluster, line)?;
-    match all.as_slice() {
-        [node, field] => {
-            let node = responder(alloc, cluster, *node)?;
-            let name = name(alloc, *field)?;
-            Ok(Rule::State { node, name })
-        }
-        _ => Err(LineFault::Bad(Reason::StateForm)),
-    }
+    state_by(alloc, cluster, all.as_slice())
 }

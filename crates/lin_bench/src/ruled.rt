@@ -169,6 +169,7 @@ fn count_noted(noted: &[Noted], node: u8) -> usize
 }
 
 /// Puts a rule in force, or out of it, at a time in microseconds. An error means out of memory.
+#[tactic(auto, unfolding(crate::specs::Rules::ruled))]
 fn put_rule(alloc: Global, rules: &mut Rules, time: u64, rule: Rule) -> Result<(), AllocError>
     ensures { OnOk result (rules.new ≡ ruled time rules.old rule) }
 {
@@ -280,7 +281,6 @@ impl RuledCore {
     }
 
     /// Puts a rule in force, or out of it. An error means out of memory.
-    #[tactic(auto, unfolding(crate::specs::Rules::ruled))]
     pub(crate) fn rule(&mut self, alloc: Global, rule: Rule) -> Result<(), AllocError>
         ensures rules { OnOk result (self.new.rules
             ≡ ruled (time self.old.core.cluster (past_of self.old.core)) self.old.rules rule) }

@@ -47,7 +47,6 @@ pub struct Every {
 }
 
 /// Single rules that a line ends.
-#[derive(Drop)]
 pub enum RuleEnd {
     /// What a responder answers in this state, or in every state, to messages that match this pattern.
     When {
@@ -62,6 +61,21 @@ pub enum RuleEnd {
         by: PortId,
         step: Step,
     },
+}
+
+// Written out, so that what owns an end of rules lets it go in one step of its proof.
+impl Drop for RuleEnd {
+    fn drop(self) {
+        match self {
+            RuleEnd::When {
+                node: _,
+                state: _state,
+                pattern: _pattern,
+            } => {}
+            RuleEnd::WhensOf(_) => {}
+            RuleEnd::Every { by: _, step: _step } => {}
+        }
+    }
 }
 
 /// What a line of a rule says.

@@ -173,6 +173,10 @@ pub fn reason_line(reason: &Reason) -> WordList<'_>
             Word::Fixed("expected a range LOW..HIGH, not"),
             Word::Said(field.as_slice()),
         ]),
+        Reason::NoTime(field) => return WordList::of(&[
+            Word::Said(field.as_slice()),
+            Word::Fixed("isn't a time up to 1000000 ms"),
+        ]),
         Reason::TooSmall => return WordList::of(&[Word::Fixed(
             "expected a number of at least 1, not 0",
         )]),
@@ -360,7 +364,6 @@ fn counts_word(low: u32, high: u32) -> Word<'static>
 
 /// The word of a condition that is to hold, or of one that isn't.
 fn word_if(wanted: bool, plain: &'static str, negated: &'static str) -> Word<'static>
-    requires { (end : RuleEnd) → expected.now ≡ HasRule end → ⊥ }
     ensures { as_word result ≡ word_if wanted plain.now negated.now }
 {
     if wanted {
@@ -476,6 +479,7 @@ fn condition_line(condition: &Condition, wanted: bool) -> WordList<'_>
 
 /// What is expected.
 fn expected_line(expected: &Expected) -> WordList<'_>
+    requires { (end : RuleEnd) → expected.now ≡ HasRule end → ⊥ }
     ensures { result ≡ expected_words expected.now }
 {
     match expected {
@@ -531,6 +535,32 @@ fn expected_line(expected: &Expected) -> WordList<'_>
                 Word::Fixed("lost"),
                 Word::Node(*host),
                 Word::Fixed(cause.word()),
+            ]);
+        }
+        Expected::Cycle {
+            frame,
+            time,
+            within: None,
+        } => {
+            return WordList::of(&[
+                Word::Fixed("cycle"),
+                Word::Frame(*frame),
+                Word::Said(time.text.as_slice()),
+                Word::Fixed("ms"),
+            ]);
+        }
+        Expected::Cycle {
+            frame,
+            time,
+            within: Some(within),
+        } => {
+            return WordList::of(&[
+                Word::Fixed("cycle"),
+                Word::Frame(*frame),
+                Word::Said(time.text.as_slice()),
+                Word::Fixed("+-"),
+                Word::Said(within.text.as_slice()),
+                Word::Fixed("ms"),
             ]);
         }
         Expected::Table(table) => {

@@ -10,13 +10,14 @@ ghost use Rattle.lin_bench.specs.Verdicts.{bytes_verdict, done_verdict, first_me
 ghost use Rattle.lin_bench.specs.Verdicts.{kind_taken, lost_verdict, message_kind, message_verdict, newest_reply};
 ghost use Rattle.lin_bench.specs.Verdicts.{next_event, next_message_verdict, no_lost_verdict, no_message_verdict};
 ghost use Rattle.lin_bench.specs.Verdicts.{refused_verdict, running_table, sent_verdict, table_verdict, taking};
-ghost use Rattle.lin_bench.specs.Verdicts.{time_taken, verdict, with_taken, within_verdict};
+ghost use Rattle.lin_bench.specs.Verdicts.{time_taken, tolerance, verdict, with_taken, within_verdict};
 
 use crate::answers::fits;
 use crate::arrivals::{self, EarlierMessages};
 use crate::carried::open_after;
 use crate::conditions::{Finding, found};
-use crate::expected::{Expected, Since};
+use crate::cycles::cycle;
+use crate::expected::{Expected, SaidTime, Since};
 use crate::got::Got;
 use crate::left_events::first_message;
 use crate::losses::first_loss;
@@ -26,6 +27,16 @@ use lin_core::{Cause, Core, Event, Payload, Refusal, Reply};
 use lin_log::Pattern;
 use lin_text::Many;
 use std::alloc::{AllocError, Global};
+
+/// A tolerance in microseconds; 0 if there is none.
+fn tolerance(within: &Option<SaidTime>) -> u32
+    ensures { result ≡ tolerance within.now }
+{
+    match within {
+        Some(time) => time.us,
+        None => 0,
+    }
+}
 
 /// The verdict on a condition that is to hold, or not to hold, by what is found of it.
 fn judged(finding: Finding, wanted: bool) -> Option<Got>
@@ -443,6 +454,11 @@ pub(crate) fn verdict(
             let event = take_next(core, taken, EventKind::Fates { host: *host })?;
             Ok(lost(event, *cause))
         }
+        Expected::Cycle {
+            frame,
+            time,
+            within,
+        } => cycle(alloc, core, taken, *frame, time.us, tolerance(within)),
         Expected::Table(number) => Ok(table(running_table(alloc, core)?, *number)),
         Expected::Done => Ok(done(newest_reply(core))),
         Expected::Refused(why) => Ok(refused(newest_reply(core), *why)),

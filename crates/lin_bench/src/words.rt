@@ -162,49 +162,19 @@ pub(crate) fn in_numbers<'a>(
     joined(alloc, all.as_slice())
 }
 
-/// A condition, with the values that words say in the place of the one of a line in numbers.
-fn meant_condition(condition: Condition, text: Text, values: MeantValues) -> Condition
-    ensures { result ≡ meant_condition condition text values }
-{
-    match condition {
-        Condition::Signal {
-            node,
-            signal,
-            value: _,
-        } => Condition::SignalMeans {
-            node,
-            signal,
-            text,
-            values,
-        },
-        other => other,
-    }
-}
-
-/// What is expected, with the values that words say in the place of the one of a line in numbers.
-fn meant_by(expected: Expected, text: Text, values: MeantValues) -> Expected
-    ensures { result ≡ meant_by expected text values }
-{
-    match expected {
-        Expected::Is(what) => Expected::Is(meant_condition(what, text, values)),
-        Expected::Not(what) => Expected::Not(meant_condition(what, text, values)),
-        other => other,
-    }
-}
-
 /// A line that expects a value, with the values that words say in the place of this one.
 fn meant_line(said: Option<ScriptLine>, text: Text, values: MeantValues) -> Option<ScriptLine>
     ensures { result ≡ meant_line text values said }
 {
     match said {
-        Some(ScriptLine::Expect(expected)) => Some(ScriptLine::Expect(meant_by(
-            expected, text, values,
-        ))),
+        Some(ScriptLine::Expect(expected)) => {
+            Some(ScriptLine::Expect(expected.meant(text, values)))
+        }
         Some(ScriptLine::Until(slots, expected)) => {
-            Some(ScriptLine::Until(slots, meant_by(expected, text, values)))
+            Some(ScriptLine::Until(slots, expected.meant(text, values)))
         }
         Some(ScriptLine::While(slots, expected)) => {
-            Some(ScriptLine::While(slots, meant_by(expected, text, values)))
+            Some(ScriptLine::While(slots, expected.meant(text, values)))
         }
         other => other,
     }

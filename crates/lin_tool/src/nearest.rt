@@ -46,13 +46,13 @@ static MESSAGE_FRAMES: [&str; 2] = ["MasterReq", "SlaveResp"];
 const FORMS: &str =
     "signal NODE SIGNAL VALUE (LOW..HIGH, = TEXT), waiting NODE K, message FROM TO PATTERN \
                      (within N ms (of last)), next message FROM TO PATTERN, messages FROM TO K (LOW..HIGH), \
-                     sent NODE, lost NODE damaged (timedout, slept), seen silent (none, good, damaged, collided), frame NAME (PATTERN), slot TABLE ENTRY, table TABLE, asleep, awake, not signal .. (waiting, \
+                     sent NODE, lost NODE damaged (timedout, slept), seen silent (none, good, damaged, collided), frame NAME (PATTERN), slot TABLE ENTRY, table TABLE, cycle FRAME T (+- D) ms, asleep, awake, not signal .. (waiting, \
                      messages, seen, frame, slot)";
 
 /// What `while` takes of these.
 const HOLDING: &str =
     "signal NODE SIGNAL VALUE (LOW..HIGH, = TEXT), waiting NODE K, messages FROM TO K (LOW..HIGH), seen silent \
-                       (none, good, damaged, collided), frame NAME (PATTERN), slot TABLE ENTRY, table TABLE, asleep, awake, not signal .. (waiting, \
+                       (none, good, damaged, collided), frame NAME (PATTERN), slot TABLE ENTRY, table TABLE, cycle FRAME T (+- D) ms, asleep, awake, not signal .. (waiting, \
                        messages, seen, frame, slot)";
 
 /// The forms of faults.

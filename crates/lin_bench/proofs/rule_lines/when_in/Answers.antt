@@ -6,7 +6,7 @@ use Rattle.std.specs.Str.{bytes_eq}
 use Rattle.std.proofs.lemmas.List.{length-drop, take_all}
 use Rattle.lin_parts.specs.declared.parts.Parts.{Parts}
 use Rattle.lin_bench.specs.Fields.{field_texts}
-use Rattle.lin_bench.specs.RuleLines.{answers_of, cut_at_answer, unanswered, when_by, when_entering, when_of}
+use Rattle.lin_bench.specs.RuleLines.{answers_of, before_enter, cut_at_answer, unanswered, when_by, when_entering, when_in, when_of}
 use Rattle.lin_bench.proofs.Appending.{head-and-rest}
 use Rattle.lin_bench.proofs.Places.{cut-at, cut-nowhere, is-answer}
 use Rattle.lin_bench.proofs.rule_lines.when_in.Goals as goal
@@ -45,3 +45,28 @@ not-answered c n s next fields d k e =
     let rest = rest-of fields in
     by-fields c n s next fields d k ∙ ap (when_by c n s f.now (field_texts rest) next) (cut-nowhere rest d e)
     ∙ ap (λ l. unanswered c n s (field_texts l) next) (sym (head-and-rest fields d k))
+
+-- the fields before a state that is entered
+entering : (c : Parts) (n : List ℕ) (s next : Option (List ℕ)) (all fields : List (Bor (List ℕ))) → (field_texts fields, next) ≡ before_enter (field_texts all)
+    → when_in c n (s, field_texts all) ≡ when_entering c n s (field_texts fields, next)
+entering c n s next all fields e = ap (when_entering c n s) (sym e)
+
+pub returns-in-Some : goal.returns-in-Some
+returns-in-Some c =
+    let fields = c.before_enter.result.0.now in
+    let s : Option (List ℕ) = option_map (λ f. f.now) c.args.whose.state in
+    let next : Option (List ℕ) = option_map (λ f. f.now) c.before_enter.result.1 in
+    let e = as-answer (Some c.in-Some.end) c.as_slice.result.now (rest-of fields) c.as_slice.ensures c.in-Some.ensures.first in
+    rw (entering c.args.cluster.now c.args.whose.node.now s next c.args.fields.now fields c.before_enter.ensures
+    ∙ answered c.args.cluster.now c.args.whose.node.now s next fields none c.in-Some.end c.in-len1-up.len_at_least e)
+    c.when_with.ensures
+
+pub returns : goal.returns
+returns c =
+    let fields = c.before_enter.result.0.now in
+    let s : Option (List ℕ) = option_map (λ f. f.now) c.args.whose.state in
+    let next : Option (List ℕ) = option_map (λ f. f.now) c.before_enter.result.1 in
+    let e = as-answer None c.as_slice.result.now (rest-of fields) c.as_slice.ensures c.in_default-word_at.ensures.first in
+    rw (entering c.args.cluster.now c.args.whose.node.now s next c.args.fields.now fields c.before_enter.ensures
+    ∙ not-answered c.args.cluster.now c.args.whose.node.now s next fields none c.in-len1-up.len_at_least e)
+    c.unanswered.ensures

@@ -13,4 +13,4 @@ returns-in_default g c =
 
 pub returns-in-Messages : goal.returns-in-Messages
 returns-in-Messages g c =
-    rw c.in-Messages.is (same-growth (sym (append-nil (decimal c.in-Messages.count.now))) c.put_number.ensures)
+    rw c.in-Messages.is (same-growth (sym (append-nil (decimal c.in-Messages.count))) c.put_number.ensures)
