@@ -15,7 +15,7 @@ use Rattle.lin_export.proofs.Slots.{some-same}
 use Rattle.lin_tool.specs.Placing.{past_at}
 use Rattle.lin_tool.specs.campaign.Jsonl.{seen_letter, slot_letters}
 use Rattle.lin_tool.specs.campaign.Slots.{kept_of_slot, slots_of}
-use Rattle.lin_tool.specs.declared.campaign.slots.KeptSlot.{KeptSlot}
+use Rattle.lin_tool.specs.declared.campaign.finished_slots.KeptSlot.{KeptSlot}
 
 -- what holds of the slot that is kept holds of the one that was finished
 pub of-slot : (o : Option Slot) (k : KeptSlot) (P : Option Slot → Type 0) → Some k ≡ option_map kept_of_slot o → ((s : Slot) → k ≡ kept_of_slot s → P (Some s)) → P o

@@ -16,7 +16,7 @@ use Rattle.lin_tool.specs.campaign.Singles.{AreSinglesOf, absent_from, fault_of_
 use Rattle.lin_tool.specs.campaign.Slots.{has_responded, kept_of_slot, responders}
 use Rattle.lin_tool.specs.declared.campaign.singles.Kinds.{Kinds}
 use Rattle.lin_tool.specs.declared.campaign.singles.Single.{Single}
-use Rattle.lin_tool.specs.declared.campaign.slots.KeptSlot.{KeptSlot}
+use Rattle.lin_tool.specs.declared.campaign.finished_slots.KeptSlot.{KeptSlot}
 use Rattle.lin_tool.proofs.CampaignRows.{length-numbers}
 use Rattle.lin_tool.proofs.CampaignSlots.{at-number}
 

@@ -14,7 +14,7 @@ use Rattle.lin_core.specs.declared.log.LogEntry.{LogEntry}
 use Rattle.lin_core.specs.declared.reply.Reply.TheVariants.{Done}
 use Rattle.lin_core.specs.declared.step.Step.TheVariants.{Answer, Hurt}
 use Rattle.lin_tool.specs.campaign.Slots.{has_responded, kept_of_slot}
-use Rattle.lin_tool.specs.declared.campaign.slots.KeptSlot.{KeptSlot}
+use Rattle.lin_tool.specs.declared.campaign.finished_slots.KeptSlot.{KeptSlot}
 use Rattle.lin_tool.proofs.CampaignRows.{length-numbers, number-at}
 
 -- ---- one response more

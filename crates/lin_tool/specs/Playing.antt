@@ -35,7 +35,7 @@ use Rattle.lin_tool.specs.declared.formats.Format.{Format}
 use Rattle.lin_tool.specs.declared.formats.Format.TheVariants.{Log}
 use Rattle.lin_tool.specs.declared.formats.Shown.{Shown}
 use Rattle.lin_tool.specs.declared.opening.Opened.{Opened}
-use Rattle.lin_tool.specs.declared.playing.Script.{Script as PlayedScript}
+use Rattle.lin_tool.specs.declared.play_command.Script.{Script as PlayedScript}
 
 -- the program's fault for one of playing
 abbrev pub play_fault : PlayFault → Fault

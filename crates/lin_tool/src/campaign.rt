@@ -11,10 +11,12 @@ ghost use Rattle.lin_tool.specs.campaign.Steps.{PlaysAndWritesRow, PlaysAndWrite
 ghost use Rattle.lin_tool.specs.campaign.Steps.{calm_row, head_with_calm, shows_calm, worst_places};
 ghost use Rattle.lin_tool.specs.campaign.Written.{WritesOpened, name_or};
 
-mod csv;
+mod csv_rows;
 mod fault_names;
-mod jsonl;
+mod finished_slots;
+mod jsonl_rows;
 mod junit;
+mod output;
 mod page;
 mod pieces;
 mod plan;
@@ -24,10 +26,8 @@ mod row_source;
 mod rows;
 mod shown;
 mod singles;
-mod slots;
 mod summary;
 mod text;
-mod writing;
 
 use crate::campaign::plan::{is_denied, is_page};
 use crate::campaign::row::Row;
@@ -39,7 +39,7 @@ use crate::campaign::summary::{JudgedScript, RowCounts};
 use crate::fault::Fault;
 use crate::notes::Notes;
 use crate::opening::{Opened, Settings, begin, within_limits};
-use crate::playing::{Script, bench_lines, judge};
+use crate::play_command::{Script, bench_lines, judge};
 use lin_bench::{Judgement, SlotFault, some_unmet};
 use lin_core::Core;
 use lin_export::ExportFault;

@@ -1,10 +1,10 @@
 //! `linsim check`: lists what a cluster has.
 
+use crate::cluster_lists::{Lists, write_lists};
 use crate::coding::{Described, Extras};
 use crate::describing::{Reading, cluster_at, read_text};
 use crate::fault::Fault;
 use crate::field::write_field;
-use crate::listing::{Lists, write_lists};
 use crate::notes::Notes;
 use lin_export::write_timing;
 use std::fs::{self, Files};

@@ -15,7 +15,7 @@ use crate::coding::{
 };
 use crate::fault::Fault;
 use crate::field::field_of_reader;
-use crate::findings::Findings;
+use crate::finding_lines::Findings;
 use crate::notes::Notes;
 use lin_cluster::{CheckFault, check};
 use lin_field::Checked;

@@ -15,7 +15,7 @@ use crate::checking::text_at;
 use crate::describing::{Reading, description_of, is_old};
 use crate::fault::Fault;
 use crate::field::{check_settled, settled_of};
-use crate::findings::Findings;
+use crate::finding_lines::Findings;
 use crate::levels::{Levels, NumberRange};
 use crate::notes::Notes;
 use lin_cluster::{Examined, cluster_of, examine};

@@ -9,7 +9,7 @@ ghost use Rattle.lin_tool.specs.Running.{run_fault, split_fault};
 ghost use Rattle.lin_tool.specs.Statuses.{end_status, exit_status};
 ghost use Rattle.lin_tool.specs.declared.fault.Fault.TheVariants.{OutOfMemory, WriteFailed as NotWritten};
 
-use crate::findings::{Findings, Remarks};
+use crate::finding_lines::{Findings, Remarks};
 use lin_bench::PlayFault;
 use lin_export::ExportFault;
 use lin_ldf::LdfFault;

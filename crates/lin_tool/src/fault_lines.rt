@@ -6,7 +6,7 @@ ghost use Rattle.lin_text.specs.Written.{Grows, WritesText};
 ghost use Rattle.lin_tool.specs.Telling.{fault_text, ldf_line, ldf_text};
 
 use crate::fault::Fault;
-use crate::findings::{put_findings, put_place, put_remarks};
+use crate::finding_lines::{put_findings, put_place, put_remarks};
 use lin_ldf::{LdfFault, Location};
 use lin_text::{TextBuffer, TextWriter, WriteFailed};
 use std::io::Write;

@@ -11,7 +11,7 @@ use crate::coding::{
 };
 use crate::describing::{Reading, fault_of, let_go, read_text};
 use crate::fault::Fault;
-use crate::findings::Remarks;
+use crate::finding_lines::Remarks;
 use crate::notes::Notes;
 use crate::page::data::lines_of;
 use lin_field::{

@@ -12,7 +12,9 @@
 
 mod campaign;
 mod causes;
+mod check_json;
 mod checking;
+mod cluster_lists;
 mod coding;
 mod comparing;
 mod describing;
@@ -22,27 +24,25 @@ mod fault;
 mod fault_lines;
 mod fault_text;
 mod field;
-mod findings;
+mod finding_lines;
 mod formats;
 mod junit;
 mod kinds;
 mod law;
 mod levels;
-mod listing;
 mod living;
 mod locating;
 mod meanings;
 mod misspelled;
 mod nearest;
 mod notes;
-mod object;
 mod objects;
 mod opening;
 mod page;
 mod parties;
 mod placing;
-mod playing;
-mod replaying;
+mod play_command;
+mod replay_command;
 mod running;
 mod scripts;
 mod tally;
@@ -52,7 +52,9 @@ pub use campaign::{
     CampaignPart, CampaignPlan, Kinds, PlannedCampaign, RandomSets, RowFormat, campaign_script,
     parts_are_the_whole, run_campaign,
 };
+pub use check_json::check_object;
 pub use checking::{check, check_plain};
+pub use cluster_lists::{Lists, write_lists};
 pub use coding::{Described, Encodings, Extras};
 pub use comparing::{compare, compare_script, first_difference};
 pub use describing::{
@@ -63,7 +65,7 @@ pub use diffing::{ReadLdf, diff, read_ldf, write_compared};
 pub use fault::{Fault, exit_status};
 pub use fault_lines::write_fault;
 pub use field::field_of_reader;
-pub use findings::{Findings, Remarks};
+pub use finding_lines::{Findings, Remarks};
 pub use formats::{Format, Shown, write_shown};
 pub use kinds::{BadKinds, KindsFault, read_levels};
 pub use law::{
@@ -73,11 +75,9 @@ pub use law::{
 pub use levels::{Levels, NumberRange};
 pub use lin_export::write_list;
 pub use lin_sections::Classes;
-pub use listing::{Lists, write_lists};
 pub use living::{answer_lines, bench_in_hand, live};
 pub use notes::{Notes, Wanted};
-pub use object::check_object;
 pub use opening::{Opened, Settings, opening_table};
-pub use playing::{DisturbedPlay, play, play_script, play_under_faults};
-pub use replaying::{replay, replay_script};
+pub use play_command::{DisturbedPlay, play, play_script, play_under_faults};
+pub use replay_command::{replay, replay_script};
 pub use running::run;

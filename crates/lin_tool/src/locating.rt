@@ -3,7 +3,7 @@
 
 use crate::explaining::{place_of, put_shown};
 use crate::fault::Fault;
-use crate::findings::remark_word;
+use crate::finding_lines::remark_word;
 use crate::meanings::FAULTS;
 use lin_cluster::Finding;
 use lin_export::{Problem, put_problem_line};

@@ -15,7 +15,7 @@ use crate::fault::{Fault, exit_status};
 use crate::fault_lines::{put_fault, write_fault};
 use crate::fault_text::FaultReason;
 use crate::field::is_read_otherwise;
-use crate::findings::put_reported_remarks;
+use crate::finding_lines::put_reported_remarks;
 use crate::levels::Levels;
 use crate::locating::{problems_of_fault, problems_of_remarks, put_places};
 use crate::misspelled::count_if_similar;

@@ -21,7 +21,7 @@ use Rattle.lin_tool.specs.campaign.FaultNames.{fault_text}
 use Rattle.lin_tool.specs.campaign.Shown.{RowData}
 use Rattle.lin_tool.specs.campaign.Slots.{finished_slots}
 use Rattle.lin_tool.specs.campaign.Text.{frame_of_single}
-use Rattle.lin_tool.specs.declared.campaign.jsonl.CampaignSize.{CampaignSize}
+use Rattle.lin_tool.specs.declared.campaign.jsonl_rows.CampaignSize.{CampaignSize}
 use Rattle.lin_tool.specs.declared.campaign.row.LostMessage.{LostMessage}
 use Rattle.lin_tool.specs.declared.campaign.row.RefusedStep.{RefusedStep}
 use Rattle.lin_tool.specs.declared.campaign.row.Row.{Row}

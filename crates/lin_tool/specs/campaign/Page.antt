@@ -1,4 +1,4 @@
--- The data of the page of a campaign: lines of words, and then the objects of `jsonl`.
+-- The data of the page of a campaign: lines of words, and then the objects of `jsonl_rows`.
 use Rattle.std.specs.Prelude.{◌≡◌, ℕ, ◌==◌, Bool, true, if◌then◌else◌, List, [], ◌∷◌, ◌++◌, codes, flat_map}
 use Rattle.std.specs.Fmt.{decimal}
 use Rattle.std.specs.List.{slice_split}

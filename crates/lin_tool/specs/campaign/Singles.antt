@@ -15,7 +15,7 @@ use Rattle.lin_bench.specs.declared.faults.SlotFault.{SlotFault}
 use Rattle.lin_tool.specs.campaign.Slots.{finished_slots, frame_shown, kept_of_slot, responders}
 use Rattle.lin_tool.specs.declared.campaign.singles.Kinds.{Kinds}
 use Rattle.lin_tool.specs.declared.campaign.singles.Single.{Single}
-use Rattle.lin_tool.specs.declared.campaign.slots.KeptSlot.{KeptSlot}
+use Rattle.lin_tool.specs.declared.campaign.finished_slots.KeptSlot.{KeptSlot}
 
 -- the fault of one slot, or from that slot on
 abbrev pub fault_of_single : Single → SlotFault

@@ -9,8 +9,8 @@ use Rattle.lin_parts.specs.declared.parts.Parts.{Parts}
 use Rattle.lin_core.specs.History.{Slot, finished_slot, first_node, open_slot}
 use Rattle.lin_core.specs.declared.log.LogEntry.{LogEntry}
 use Rattle.lin_export.specs.Shown.{slot_frame}
-use Rattle.lin_tool.specs.declared.campaign.slots.KeptSlot.{KeptSlot}
-use Rattle.lin_tool.specs.declared.campaign.slots.SlotReader.{SlotReader}
+use Rattle.lin_tool.specs.declared.campaign.finished_slots.KeptSlot.{KeptSlot}
+use Rattle.lin_tool.specs.declared.campaign.finished_slots.SlotReader.{SlotReader}
 
 -- the slots of a history, in order
 abbrev pub slots_of : List LogEntry → List Slot

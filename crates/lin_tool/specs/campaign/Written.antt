@@ -30,7 +30,7 @@ use Rattle.lin_tool.specs.campaign.Shown.{RowData}
 use Rattle.lin_tool.specs.campaign.Singles.{faults_at, only_single, singles}
 use Rattle.lin_tool.specs.campaign.Summary.{NumberedRow, is_denied, lines_text, numbers_text, rows_of}
 use Rattle.lin_tool.specs.campaign.Text.{row_text}
-use Rattle.lin_tool.specs.declared.campaign.csv.TheConstants.{HEAD}
+use Rattle.lin_tool.specs.declared.campaign.csv_rows.TheConstants.{HEAD}
 use Rattle.lin_tool.specs.declared.campaign.pieces.TheConstants.{HEAD as PAGE, TAIL as PAGE_END}
 use Rattle.lin_tool.specs.declared.fault.Fault.{Fault}
 use Rattle.lin_tool.specs.declared.fault.Fault.TheVariants.{BadBenchLine, Denied, LogFull, OutOfMemory}

@@ -8,7 +8,7 @@ ghost use Rattle.lin_tool.specs.campaign.Page.{data_head, next_page_slot, object
 ghost use Rattle.lin_tool.specs.campaign.Page.{page_lines, page_slot, without_empty_last};
 ghost use Rattle.lin_tool.specs.campaign.Slots.{HasRead, finished_slots, kept_of_slot};
 
-use crate::campaign::slots::{KeptSlot, SlotReader, slot_name, table_name};
+use crate::campaign::finished_slots::{KeptSlot, SlotReader, slot_name, table_name};
 use crate::page::field::{put_field, put_guarded};
 use lin_bench::without_mark;
 use lin_core::{Core, Listed, Log, LogEntry};

@@ -11,7 +11,7 @@ use crate::campaign::row::row_of;
 use crate::campaign::{Campaign, Play};
 use crate::fault::Fault;
 use crate::notes::Notes;
-use crate::playing::in_words;
+use crate::play_command::in_words;
 use lin_bench::{PlayedUnder, ReadFault, ScriptLine, SlotFault, play_under, read};
 use lin_parts::Cluster;
 

@@ -6,7 +6,7 @@ ghost use Rattle.lin_tool.specs.campaign.Singles.{AddsSinglesOf, absent_from, fa
 ghost use Rattle.lin_tool.specs.campaign.Singles.{singles, singles_of};
 ghost use Rattle.lin_tool.specs.campaign.Slots.{kept_of_slot};
 
-use crate::campaign::slots::{KeptSlot, SlotReader};
+use crate::campaign::finished_slots::{KeptSlot, SlotReader};
 use crate::fault_text::LAST_SLOT;
 use lin_bench::{FaultKind, SlotFault};
 use lin_core::{Log, NODES};

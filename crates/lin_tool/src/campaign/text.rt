@@ -9,10 +9,10 @@ ghost use Rattle.lin_tool.specs.campaign.Text.{refusal_text, refusals_text, rest
 ghost use Rattle.lin_tool.specs.campaign.Text.{failed_lines, outcome_text};
 
 use crate::campaign::fault_names::{put_faults, put_node_name};
+use crate::campaign::finished_slots::{slot_name, table_name};
 use crate::campaign::row::{LostMessage, RefusedStep, Row, RowVerdict, has_lost, has_refused};
 use crate::campaign::shown::ShownRow;
 use crate::campaign::singles::Single;
-use crate::campaign::slots::{slot_name, table_name};
 use lin_core::Listed;
 use lin_parts::Cluster;
 use lin_text::TextWriter;

@@ -2,7 +2,7 @@ use Rattle.std.proofs.Common.{◌≡◌, ◌∙◌, ◌++◌, ◌∷◌, [], Boo
 use Rattle.lin_bench.specs.declared.faults.FaultKind.TheVariants.{Damage}
 use Rattle.lin_tool.specs.campaign.Singles.{single_fault}
 use Rattle.lin_tool.specs.declared.campaign.singles.Single.{Single}
-use Rattle.lin_tool.specs.declared.campaign.slots.KeptSlot.{KeptSlot}
+use Rattle.lin_tool.specs.declared.campaign.finished_slots.KeptSlot.{KeptSlot}
 use Rattle.lin_tool.proofs.CampaignSingles.{of-slot}
 use Rattle.lin_tool.proofs.campaign.singles.add_of_slot.Goals.{then-kinds, else-kinds}
 use Rattle.lin_tool.proofs.campaign.singles.add_of_slot.Goals as goal

@@ -1,0 +1,12 @@
+use Rattle.std.proofs.Common.{drop, map}
+use Rattle.std.specs.Prelude.{codes}
+use Rattle.lin_tool.specs.campaign.Csv.{items}
+use Rattle.lin_tool.specs.campaign.Shown.{with_separators}
+use Rattle.lin_tool.specs.campaign.Text.{loss_text}
+use Rattle.lin_tool.proofs.Remaining.{PutsUpTo}
+use Rattle.lin_tool.proofs.campaign.csv_rows.put_losses.Given as goal
+
+abbrev pub invariant-loop-one : goal.invariant-loop-one
+invariant-loop-one g l =
+    PutsUpTo g.W.Write.contents l.initial.out l.out (items (map (loss_text l.cluster) l.lost))
+    (with_separators l.mark (codes ";") (map (loss_text l.cluster) (drop l.one-index l.lost)))

@@ -1,0 +1,11 @@
+use Rattle.std.proofs.Common.{drop, map}
+use Rattle.std.specs.Prelude.{codes}
+use Rattle.lin_export.specs.Json.{with_commas}
+use Rattle.lin_tool.specs.campaign.Jsonl.{loss_object}
+use Rattle.lin_tool.specs.campaign.Shown.{with_separators}
+use Rattle.lin_tool.proofs.Remaining.{PutsUpTo}
+use Rattle.lin_tool.proofs.campaign.jsonl_rows.put_losses.Given as goal
+
+abbrev pub invariant-loop-one : goal.invariant-loop-one
+invariant-loop-one g l =
+    PutsUpTo g.W.Write.contents l.initial.out l.out (with_commas (map (loss_object l.cluster) l.lost)) (with_separators l.mark (codes ",") (map (loss_object l.cluster) (drop l.one-index l.lost)))

@@ -1,0 +1,10 @@
+use Rattle.std.proofs.Common.{[], take, flat_map}
+use Rattle.std.specs.Prelude.{if◌then◌else◌}
+use Rattle.lin_text.specs.Written.{Grows}
+use Rattle.lin_tool.specs.Levels.{is_reported}
+use Rattle.lin_tool.specs.Telling.{remark_line}
+use Rattle.lin_tool.proofs.finding_lines.put_reported_remarks.Given as goal
+
+abbrev pub invariant-loop-remark : goal.invariant-loop-remark
+invariant-loop-remark g l =
+    Grows g.W.Write.contents l.initial.out l.out (flat_map (λ r. if is_reported l.levels.allowed r then remark_line r else []) (take l.remark-index l.remarks))

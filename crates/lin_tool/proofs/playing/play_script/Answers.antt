@@ -1,4 +1,0 @@
-use Rattle.lin_tool.proofs.playing.play_script.Goals as goal
-
-pub returns : goal.returns
-returns g c = c.play_under_faults.ensures
