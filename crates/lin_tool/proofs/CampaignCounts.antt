@@ -1,5 +1,5 @@
 -- What is counted over the rows of a campaign, one row more, and the lines that are counted.
-use Rattle.std.proofs.Common.{◌≡◌, ◌≢◌, ◌⊎◌, ◌∙◌, ℕ, zero, suc, Bool, true, false, ◌==◌, ◌||◌, ◌&&◌, not, cond, if◌then◌else◌, ◌+◌, ◌<◌, ◌≤◌, List, [], ◌∷◌, ◌++◌, refl, sym, ap, ap₂, add-zero, append-nil, arith, drop, eqb, flat_map, get_or, get_or-set_other, get_or-set_same, inl, inr, is_some, leb, length, length-append, length-take, ltb, map, max, set, subst, take}
+use Rattle.std.proofs.Common.{◌≡◌, ◌≢◌, ◌⊎◌, ◌∙◌, ℕ, zero, suc, Bool, true, false, ◌==◌, ◌||◌, ◌&&◌, not, cond, if◌then◌else◌, ◌+◌, ◌<◌, ◌≤◌, List, [], ◌∷◌, ◌++◌, refl, sym, ap, ap₂, add-zero, append-nil, arith, eqb, flat_map, get_or, get_or-set_other, get_or-set_same, inl, inr, is_some, leb, length, length-append, length-take, ltb, max, set, subst, take}
 use Rattle.std.proofs.lemmas.Bool.Decides.{eqb_tells, leb_tells}
 use Rattle.std.proofs.lemmas.Grind.{flat_map-append}
 use Rattle.std.proofs.lemmas.List.{take_more}
@@ -8,7 +8,7 @@ use Rattle.std.proofs.lemmas.List.Folds.{list_any-append}
 use Rattle.std.proofs.lemmas.List.Sums.{sum_by-append, sum_by-cons}
 use Rattle.std.specs.Prelude.{All, Option, Some, None, count_by, filter, find, fold, option_map}
 use Rattle.std.specs.List.{list_all, list_any}
-use Rattle.std.specs.Option.{option_map_or, option_or}
+use Rattle.std.specs.Option.{option_or}
 use Rattle.lin_frame.specs.Words.{numbers}
 use Rattle.lin_core.specs.History.{is_in}
 use Rattle.lin_bench.specs.declared.got.Judgement.{Judgement}
@@ -17,7 +17,6 @@ use Rattle.lin_tool.specs.declared.campaign.row.Row.{Row}
 use Rattle.lin_tool.specs.declared.campaign.row.RowVerdict.{RowVerdict}
 use Rattle.lin_tool.specs.declared.campaign.row.RowVerdict.TheVariants.{Tolerated, Broken, Limit}
 use Rattle.lin_tool.specs.declared.campaign.summary.LineCount.{LineCount}
-use Rattle.lin_tool.specs.declared.campaign.summary.Worst.{Worst}
 
 -- ---- counts of lines
 abbrev pub no_count : LineCount

@@ -14,7 +14,6 @@ use Rattle.lin_bench.specs.Scripts.{without_mark}
 use Rattle.lin_tool.specs.PageFields.{field, guarded_text, is_inert, no_less}
 use Rattle.lin_tool.specs.campaign.Jsonl.{head_object, row_object}
 use Rattle.lin_tool.specs.campaign.Page.{CampaignDataAreInert, data_head, object_byte, object_text, page_line, page_lines, page_slot, without_empty_last}
-use Rattle.lin_tool.specs.campaign.Shown.{RowData}
 use Rattle.lin_tool.specs.campaign.Slots.{finished_slots, frame_shown, frame_or_entry_name}
 use Rattle.lin_tool.proofs.Inert.{each, field-inert, guarded-inert, more, number-inert}
 

@@ -1,5 +1,5 @@
 -- The lines of a script, one at a time.
-use Rattle.std.proofs.Common.{◌≡◌, Bool, true, false, not, ◌∙◌, ◌==◌, ◌≤◌, ◌+◌, ℕ, List, [], ◌∷◌, ◌++◌, if◌then◌else◌, refl, sym, ap, append-nil, arith, flat_map, length}
+use Rattle.std.proofs.Common.{◌≡◌, Bool, true, false, not, ◌==◌, ◌≤◌, ◌+◌, ℕ, List, [], ◌∷◌, ◌++◌, if◌then◌else◌, refl, sym, ap, append-nil, arith, flat_map, length}
 use Rattle.std.specs.Prelude.{Option, Some, None}
 use Rattle.std.specs.Borrow.{Bor}
 use Rattle.std.specs.List.{slice_split}

@@ -1,5 +1,5 @@
 -- What is put of the slots of a log, an entry at a time.
-use Rattle.std.proofs.Common.{◌≡◌, ◌∙◌, ◌+◌, ◌-◌, ◌<◌, ◌≤◌, ℕ, zero, suc, Bool, true, false, nat_lt, if◌then◌else◌, List, [], ◌∷◌, ◌++◌, refl, sym, ap, arith, append-nil, flat_map, get_or, length, length-append, map, take}
+use Rattle.std.proofs.Common.{◌≡◌, ◌∙◌, ◌+◌, ◌-◌, ◌<◌, ◌≤◌, ℕ, zero, suc, Bool, true, false, nat_lt, if◌then◌else◌, List, [], ◌∷◌, ◌++◌, refl, sym, ap, arith, flat_map, get_or, length, length-append, take}
 use Rattle.std.specs.Prelude.{Option, Some, None, option_map}
 use Rattle.std.specs.Option.{option_to_list}
 use Rattle.std.proofs.lemmas.Grind.{common_steps}
@@ -7,9 +7,6 @@ use Rattle.std.proofs.lemmas.List.{map-append}
 use Rattle.lin_core.specs.History.{Slot, finished_slot, seen_of}
 use Rattle.lin_core.specs.declared.log.LogEntry.{LogEntry}
 use Rattle.lin_log.proofs.LastFinish.{newest-first}
-use Rattle.lin_text.specs.Written.{Grows}
-use Rattle.lin_text.specs.declared.buffered.TextWriter.{TextWriter}
-use Rattle.lin_text.proofs.Growing.{grows-nothing, same-growth}
 use Rattle.lin_export.proofs.Rows.{flat-append}
 use Rattle.lin_export.proofs.Slots.{some-same}
 use Rattle.lin_tool.specs.Placing.{past_at}

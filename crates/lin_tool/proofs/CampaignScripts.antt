@@ -1,5 +1,5 @@
 -- What a campaign of a bench script answers.
-use Rattle.std.proofs.Common.{◌≡◌, ◌∙◌, ◌≤◌, ℕ, Bool, true, false, List, [], Option, Some, None, IfSome, Result, Ok, Err, refl, sym, ap, ap₂, inl, inr, length, reverse, subst}
+use Rattle.std.proofs.Common.{◌≡◌, ◌∙◌, ◌≤◌, ℕ, Bool, true, false, List, [], Option, None, IfSome, Result, Ok, Err, refl, sym, ap, ap₂, inl, inr, length, reverse, subst}
 use Rattle.std.specs.Prelude.{codes, IfErr, IfOk}
 use Rattle.std.specs.Borrow.{Bor}
 use Rattle.std.specs.Io.KnownBytes.{Keeps}
@@ -9,7 +9,6 @@ use Rattle.lin_text.specs.Written.{WritesText}
 use Rattle.lin_values.specs.Coded.{CodedData}
 use Rattle.lin_bench.specs.Played.{Run, played_under, some_unmet}
 use Rattle.lin_bench.specs.Plays.{ComesUnder, OverfillsUnder, PlaysUnder, run_or_limit}
-use Rattle.lin_bench.specs.Scripts.{Script, read}
 use Rattle.lin_bench.specs.declared.fault.PlayFault.{PlayFault}
 use Rattle.lin_bench.specs.declared.fault.PlayFault.TheVariants as play
 use Rattle.lin_bench.specs.declared.faults.SlotFault.{SlotFault}
@@ -17,10 +16,10 @@ use Rattle.lin_bench.specs.declared.got.Judgement.{Judgement}
 use Rattle.lin_bench.specs.declared.line.ScriptLine.{ScriptLine}
 use Rattle.lin_bench.specs.declared.playing.PlayedUnder.{PlayedUnder}
 use Rattle.lin_export.specs.WhereTold.{given_coding}
-use Rattle.lin_tool.specs.Playing.{IsUnread, ReportsJudgements, Says, WritesTextOrPart, play_fails, judgements_with_meanings, play_fault, told_text}
+use Rattle.lin_tool.specs.Playing.{IsUnread, ReportsJudgements, Says, play_fails, judgements_with_meanings, play_fault, told_text}
 use Rattle.lin_tool.specs.campaign.Played.{IsMemoryFault, IsPlayOf, IsUndisturbedPlay, IsUnfinished, PlaysRow, PlaysUndisturbed}
 use Rattle.lin_tool.specs.campaign.Steps.{IsCampaignBegun, SaysLines, row_of_play, stage_of}
-use Rattle.lin_tool.specs.campaign.Written.{Ends, IsRowOf, PlaySetup, WritesCampaign, WritesPlays, WritesPlaysOfScript, counts, denies, name_or, campaign_output}
+use Rattle.lin_tool.specs.campaign.Written.{Ends, IsRowOf, WritesCampaign, WritesPlays, WritesPlaysOfScript, counts, denies, name_or, campaign_output}
 use Rattle.lin_tool.specs.declared.campaign.Campaign.{Campaign}
 use Rattle.lin_tool.specs.declared.campaign.plan.CampaignPlan.{CampaignPlan}
 use Rattle.lin_tool.specs.declared.campaign.Play.{Play}

@@ -1,10 +1,9 @@
 -- What a reader of a log keeps of a slot, and the slots that it read.
-use Rattle.std.proofs.Common.{◌≡◌, ◌≢◌, ◌⊎◌, ◌∙◌, ℕ, zero, suc, Bool, true, false, ◌==◌, ◌||◌, ◌&&◌, not, cond, ◌+◌, ◌<◌, ◌≤◌, min, List, [], ◌∷◌, ◌++◌, refl, sym, ap, arith, drop, get_or, get_or-set_other, get_or-set_same, inl, inr, length, length-append, length-set, map, set, eqb, if◌then◌else◌, leb, ltb}
+use Rattle.std.proofs.Common.{◌≡◌, ◌≢◌, ◌⊎◌, ◌∙◌, ℕ, suc, Bool, true, false, ◌==◌, ◌||◌, ◌+◌, ◌<◌, ◌≤◌, min, List, [], ◌∷◌, ◌++◌, refl, sym, ap, arith, get_or, get_or-set_other, get_or-set_same, inl, inr, length, length-append, length-set, map, set, eqb, if◌then◌else◌, leb, ltb}
 use Rattle.std.proofs.lemmas.Bool.Decides.{eqb_tells, leb_tells}
 use Rattle.std.proofs.lemmas.List.{get_or-map, length-map, same_lists}
 use Rattle.std.proofs.lemmas.List.Folds.{list_any-append}
 use Rattle.std.specs.Prelude.{Option, Some, None, find, option_map, slice_get}
-use Rattle.std.specs.List.{list_any}
 use Rattle.std.specs.Option.{option_or}
 use Rattle.lin_frame.specs.Words.{numbers}
 use Rattle.lin_core.specs.History.{Slot, first_node, open_slot, slot_after_event, slot_after_events, slot_after_hurt}

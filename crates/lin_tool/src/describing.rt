@@ -1,7 +1,7 @@
 //! Clusters from LDF texts: that of a reader or a file is read, and that of the built-in cluster
 //! stands here.
 
-ghost use Rattle.std.specs.Prelude.{◌≡◌, List, ℕ, IfOk, IsSome, true};
+ghost use Rattle.std.specs.Prelude.{◌≡◌, List, ℕ, IfOk, IsSome};
 ghost use Rattle.lin_ldf.specs.Describes.{Describes};
 ghost use Rattle.lin_cluster.specs.SlotTimes.{NoSlotIsShort};
 ghost use Rattle.lin_tool.specs.Clusters.{AnswersParse, AnswersText, IsSaidBy, IsParseFault};

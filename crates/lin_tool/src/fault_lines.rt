@@ -1,6 +1,6 @@
 //! What the program says of a fault, as lines.
 
-ghost use Rattle.std.specs.Prelude.{◌∷◌, ◌++◌};
+ghost use Rattle.std.specs.Prelude.{◌++◌};
 ghost use Rattle.std.specs.Fmt.{decimal};
 ghost use Rattle.lin_text.specs.Written.{Grows, WritesText};
 ghost use Rattle.lin_tool.specs.Telling.{fault_text, ldf_line, ldf_text};

@@ -11,7 +11,7 @@ use crate::page::summary::{messages_lost, steps_refused};
 use crate::placing::within;
 use crate::tally::{unmet_in, waiting_in};
 use lin_bench::{Judgement, is_unmet};
-use lin_core::{Core, Log};
+use lin_core::Core;
 use lin_export::{Counts, ExportFault, ObjectTrack, Opening, Unmet, put_run};
 use lin_live::{found_text, what_text, without_space};
 use lin_parts::Cluster;

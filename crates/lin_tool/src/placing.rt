@@ -1,9 +1,8 @@
 //! Bad lines of a bench script, and judgements that aren't met, after the name of its file; and the
 //! moments of a log.
 
-ghost use Rattle.std.specs.Prelude.{◌≡◌, ◌≤◌, ◌+◌, ◌*◌, ◌<◌, ◌^◌, ◌∷◌, ◌++◌, ℕ, [], List};
-ghost use Rattle.std.specs.Prelude.{codes, flat_map, length, min, IfOk};
-ghost use Rattle.std.specs.Fmt.{decimal};
+ghost use Rattle.std.specs.Prelude.{◌≡◌, ◌≤◌, ◌+◌, ◌*◌, ◌<◌, ◌^◌, ◌∷◌, [], List};
+ghost use Rattle.std.specs.Prelude.{flat_map, length, min, IfOk};
 ghost use Rattle.lin_parts.specs.declared.parts.Parts.{Parts};
 ghost use Rattle.lin_core.specs.History.{Slot, slot_after_event, slot_after_events};
 ghost use Rattle.lin_core.specs.declared.log.LogEntry.{LogEntry};

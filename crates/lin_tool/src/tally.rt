@@ -1,6 +1,6 @@
 //! A play in numbers, as the last line of a strict one says them.
 
-ghost use Rattle.std.specs.Prelude.{◌≡◌, ◌≤◌, length, sum_by};
+ghost use Rattle.std.specs.Prelude.{◌≡◌};
 ghost use Rattle.std.specs.List.{count_by};
 ghost use Rattle.lin_bench.specs.declared.got.Judgement.{Judgement};
 ghost use Rattle.lin_bench.specs.Played.{is_unmet};

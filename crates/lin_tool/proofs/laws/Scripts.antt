@@ -1,6 +1,5 @@
 -- A text says what it says without its lines that begin with `#`; so a transcript says its log's steps.
 use Rattle.std.proofs.Common.{◌≡◌, ◌∙◌, ℕ, ◌+◌, ◌==◌, ◌-◌, Bool, true, false, not, List, [], ◌∷◌, ◌++◌, refl, sym, ap, append-nil, append_assoc, arith, filter, flat_map, length, slice_index, subst, suc, take, Option, Some, None, Result, Ok, Err, if◌then◌else◌}
-use Rattle.std.specs.Prelude.{IfSome}
 use Rattle.std.specs.List.{All, AllByRecursion}
 use Rattle.std.specs.Str.Lines.{strip_carriage_return}
 use Rattle.std.proofs.lemmas.Grind.{common_steps}

@@ -1,5 +1,5 @@
 -- The cluster of an LDF text has names that a bench script reads.
-use Rattle.std.proofs.Common.{◌≡◌, ◌∙◌, ◌+◌, ℕ, zero, suc, List, [], ◌∷◌, refl, sym, ap, arith, true, length, get_or, map, None}
+use Rattle.std.proofs.Common.{◌≡◌, ◌∙◌, ◌+◌, ℕ, zero, suc, List, [], ◌∷◌, refl, sym, ap, arith, length, get_or, map, None}
 use Rattle.std.specs.List.{enumerate_from}
 use Rattle.std.proofs.lemmas.List.{length-map}
 use Rattle.std.proofs.lemmas.List.FromFn.{length-enumerate_from}
@@ -8,7 +8,6 @@ use Rattle.lin_parts.specs.declared.description.Description.{Description}
 use Rattle.lin_parts.specs.declared.description.Name.{Name}
 use Rattle.lin_parts.specs.Cluster.{node_of, nodes}
 use Rattle.lin_parts.specs.declared.parts.Node.{Node}
-use Rattle.lin_parts.specs.declared.parts.Parts.{Parts}
 use Rattle.lin_parts.specs.declared.parts.Signal.{Signal}
 use Rattle.lin_parts.specs.declared.parts.Table.{Table}
 use Rattle.lin_cluster.specs.Described.{described_signal, described_table, parts_of, responder}

@@ -1,5 +1,5 @@
 -- The rows of a campaign as objects (JSON, RFC 8259), one a line.
-use Rattle.std.specs.Prelude.{ℕ, suc, zero, ◌-◌, ◌==◌, Bool, if◌then◌else◌, List, [], ◌∷◌, ◌++◌, codes, filter}
+use Rattle.std.specs.Prelude.{ℕ, suc, zero, ◌-◌, List, [], ◌∷◌, ◌++◌, codes, filter}
 use Rattle.std.specs.Prelude.{flat_map, map, take, Option, Some, None}
 use Rattle.std.specs.Fmt.{decimal}
 use Rattle.std.specs.Option.{option_map_or, option_to_list}
@@ -24,7 +24,6 @@ use Rattle.lin_tool.specs.campaign.Text.{frame_of_single}
 use Rattle.lin_tool.specs.declared.campaign.jsonl_rows.CampaignSize.{CampaignSize}
 use Rattle.lin_tool.specs.declared.campaign.row.LostMessage.{LostMessage}
 use Rattle.lin_tool.specs.declared.campaign.row.RefusedStep.{RefusedStep}
-use Rattle.lin_tool.specs.declared.campaign.row.Row.{Row}
 use Rattle.lin_tool.specs.declared.campaign.row.RowVerdict.{RowVerdict}
 use Rattle.lin_tool.specs.declared.campaign.row.RowVerdict.TheVariants.{Tolerated, Broken, Limit}
 use Rattle.lin_tool.specs.declared.campaign.singles.Single.{Single}

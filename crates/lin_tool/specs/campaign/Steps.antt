@@ -27,7 +27,7 @@ use Rattle.lin_tool.specs.declared.campaign.Campaign.{Campaign}
 use Rattle.lin_tool.specs.declared.campaign.plan.CampaignPlan.{CampaignPlan}
 use Rattle.lin_tool.specs.declared.campaign.Play.{Play}
 use Rattle.lin_tool.specs.declared.campaign.plan.RowFormat.{RowFormat}
-use Rattle.lin_tool.specs.declared.campaign.plan.RowFormat.TheVariants.{Text, Csv, Jsonl, Junit, Html}
+use Rattle.lin_tool.specs.declared.campaign.plan.RowFormat.TheVariants.{Html}
 use Rattle.lin_tool.specs.declared.campaign.row_source.RowSource.{RowSource}
 use Rattle.lin_tool.specs.declared.campaign.row.Row.{Row}
 use Rattle.lin_tool.specs.declared.campaign.rows.Rows.{Rows}

@@ -1,6 +1,6 @@
 //! Which rows a campaign has, and which faults are theirs.
 
-ghost use Rattle.std.specs.Prelude.{◌≡◌, ◌<◌, ◌≤◌, ◌∷◌, ◌*◌, ◌-◌, ◌^◌, [], IfOk, length, map, slice_index_or};
+ghost use Rattle.std.specs.Prelude.{◌≡◌, ◌<◌, ◌≤◌, ◌∷◌, ◌*◌, ◌-◌, ◌^◌, [], IfOk, length, slice_index_or};
 ghost use Rattle.std.specs.Option.{option_map_or};
 ghost use Rattle.lin_tool.specs.campaign.Rows.{ArePartsJoined, IsPart, bound, drawn, pairs_of_places, pairs_in, places_of};
 ghost use Rattle.lin_tool.specs.campaign.Rows.{random_set, random_sets, rows};

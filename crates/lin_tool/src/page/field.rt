@@ -1,6 +1,6 @@
 //! Texts as one field of a line.
 
-ghost use Rattle.std.specs.Prelude.{◌≡◌, ◌∷◌, flat_map};
+ghost use Rattle.std.specs.Prelude.{◌≡◌};
 ghost use Rattle.lin_text.specs.Written.{Grows};
 ghost use Rattle.lin_tool.specs.PageFields.{page_byte, field, guarded_text, guarded_byte, is_unescaped};
 

@@ -1,6 +1,6 @@
 //! What a reader without scripts sees first: what stands in a log, in numbers.
 
-ghost use Rattle.std.specs.Prelude.{◌≡◌, ◌≤◌, flat_map, length};
+ghost use Rattle.std.specs.Prelude.{◌≡◌, flat_map};
 ghost use Rattle.std.specs.List.{count_by};
 ghost use Rattle.lin_core.specs.History.{reply_events};
 ghost use Rattle.lin_core.specs.Tables.{looks};

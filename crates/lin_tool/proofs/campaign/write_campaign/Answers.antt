@@ -1,4 +1,4 @@
-use Rattle.std.proofs.Common.{◌≡◌, ◌∙◌, Bool, Option, ap, ap₂, arith, length, refl, sym, ℕ}
+use Rattle.std.proofs.Common.{◌≡◌, ◌∙◌, Bool, Option, ap, ap₂, arith, length, refl, ℕ}
 use Rattle.std.proofs.lemmas.Result.{err_from_is_err_and}
 use Rattle.lin_tool.specs.campaign.Singles.{singles}
 use Rattle.lin_tool.specs.declared.campaign.rows.RandomSets.{RandomSets}

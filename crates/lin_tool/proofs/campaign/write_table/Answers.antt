@@ -1,4 +1,4 @@
-use Rattle.std.proofs.Common.{◌≡◌, ◌∙◌, Err, Ok, refl, subst, sym}
+use Rattle.std.proofs.Common.{◌∙◌, Err, Ok, refl, subst, sym}
 use Rattle.std.proofs.lemmas.Result.{err_from_is_err_and}
 use Rattle.lin_tool.specs.Formats.{export_fault}
 use Rattle.lin_tool.specs.Playing.{WritesTextOrPart}

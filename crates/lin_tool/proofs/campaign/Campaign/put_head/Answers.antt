@@ -1,5 +1,5 @@
 use Rattle.std.proofs.Common.{refl}
-use Rattle.lin_text.proofs.Growing.{grows-more, grows-nothing}
+use Rattle.lin_text.proofs.Growing.{grows-nothing}
 use Rattle.lin_export.proofs.Puttings.{puts-all}
 use Rattle.lin_tool.proofs.CampaignTexts.{puts-behind}
 use Rattle.lin_tool.proofs.campaign.Campaign.put_head.Goals as goal

@@ -1,5 +1,4 @@
-use Rattle.std.proofs.lemmas.Result.{err_from_is_err_and}
-use Rattle.lin_tool.proofs.CampaignScripts.{judged-undisturbed, undisturbed-fault}
+use Rattle.lin_tool.proofs.CampaignScripts.{judged-undisturbed}
 use Rattle.lin_tool.proofs.campaign.Campaign.undisturbed.Goals as goal
 
 pub returns-in-None : goal.returns-in-None

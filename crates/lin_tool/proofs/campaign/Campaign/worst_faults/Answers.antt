@@ -1,4 +1,4 @@
-use Rattle.std.proofs.Common.{◌∙◌, ap, Vec, Global}
+use Rattle.std.proofs.Common.{Vec, Global}
 use Rattle.lin_bench.specs.declared.faults.SlotFault.{SlotFault}
 use Rattle.lin_tool.proofs.CampaignEnds.{worst-faults-by}
 use Rattle.lin_tool.proofs.campaign.Campaign.worst_faults.Goals as goal

@@ -1,7 +1,6 @@
-use Rattle.std.proofs.Common.{◌≡◌, ◌∙◌, [], false, if◌then◌else◌, true, refl, sym, append-nil}
+use Rattle.std.proofs.Common.{◌≡◌, ◌∙◌, false, true, refl, sym, append-nil}
 use Rattle.lin_export.proofs.Puttings.{writes-more, written-all, written-short}
-use Rattle.lin_tool.specs.campaign.Steps.{calm_row, shows_calm}
-use Rattle.lin_tool.specs.campaign.Written.{row_as}
+use Rattle.lin_tool.specs.campaign.Steps.{shows_calm}
 use Rattle.lin_tool.proofs.campaign.Campaign.write_first.Goals as goal
 
 pub returns-in_err-write_head : goal.returns-in_err-write_head

@@ -1,7 +1,6 @@
-use Rattle.std.proofs.Common.{◌+◌, ◌++◌, arith, drop, map, sym}
+use Rattle.std.proofs.Common.{◌+◌, arith, drop, map, sym}
 use Rattle.std.specs.Prelude.{codes}
 use Rattle.lin_bench.specs.declared.faults.SlotFault.{SlotFault}
-use Rattle.lin_export.proofs.Slots.{drop-next}
 use Rattle.lin_export.specs.Json.{quoted_text}
 use Rattle.lin_tool.specs.campaign.FaultNames.{fault_text}
 use Rattle.lin_tool.specs.campaign.Shown.{with_separators}

@@ -1,4 +1,4 @@
-use Rattle.std.proofs.Common.{◌∙◌, ◌∷◌, ◌++◌, [], ap, map}
+use Rattle.std.proofs.Common.{◌∷◌, ◌++◌, [], ap, map}
 use Rattle.std.specs.Prelude.{codes}
 use Rattle.lin_export.specs.Csv.{after_comma}
 use Rattle.lin_export.specs.Json.{member, quoted_text}

@@ -1,10 +1,6 @@
-use Rattle.std.proofs.Common.{◌∙◌, ◌∷◌, ◌++◌, [], ap, append_assoc, sym}
 use Rattle.std.specs.Prelude.{codes}
-use Rattle.std.specs.Fmt.{decimal}
-use Rattle.lin_export.specs.Csv.{after_comma}
-use Rattle.lin_export.specs.Json.{with_commas}
 use Rattle.lin_log.proofs.Ends.{grows-last}
-use Rattle.lin_text.proofs.Growing.{grows-more, same-growth}
+use Rattle.lin_text.proofs.Growing.{grows-more}
 use Rattle.lin_export.proofs.Objects.{grows-list, grows-member}
 use Rattle.lin_tool.proofs.campaign.jsonl_rows.put_ended.Goals as goal
 

@@ -1,12 +1,10 @@
-use Rattle.std.proofs.Common.{◌≡◌, ◌∙◌, ap, drop, refl}
+use Rattle.std.proofs.Common.{◌∙◌, ap, drop, refl}
 use Rattle.std.specs.Prelude.{codes}
 use Rattle.lin_bench.specs.Texts.{what_text}
 use Rattle.lin_export.specs.Csv.{after_comma}
-use Rattle.lin_export.specs.Track.{finished_slot_count}
 use Rattle.lin_text.proofs.Growing.{grows-nothing, same-growth}
 use Rattle.lin_export.proofs.Objects.{grows-member, grows-values, puts-more, puts-one}
 use Rattle.lin_export.proofs.Puttings.{puts-all, puts-some}
-use Rattle.lin_tool.specs.Placing.{past_at}
 use Rattle.lin_tool.specs.campaign.Jsonl.{expectation, last_of, decimal_member, printable_member}
 use Rattle.lin_tool.specs.declared.placing.Moment.{Moment}
 use Rattle.lin_tool.proofs.campaign.jsonl_rows.put_expectation.Goals as goal

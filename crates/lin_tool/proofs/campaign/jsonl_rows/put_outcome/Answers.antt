@@ -1,4 +1,4 @@
-use Rattle.std.proofs.Common.{◌∙◌, ◌∷◌, ◌++◌, [], ap, append-nil, flat_map, sym}
+use Rattle.std.proofs.Common.{◌∙◌, ◌∷◌, ◌++◌, [], ap, append-nil, flat_map}
 use Rattle.std.specs.Prelude.{codes}
 use Rattle.lin_export.specs.Csv.{after_comma}
 use Rattle.lin_log.proofs.Ends.{grows-last}

@@ -3,7 +3,7 @@ use Rattle.std.specs.Prelude.{codes}
 use Rattle.lin_export.specs.Csv.{after_comma}
 use Rattle.lin_log.proofs.Ends.{grows-last}
 use Rattle.lin_text.proofs.Growing.{grows-more, same-growth}
-use Rattle.lin_tool.specs.campaign.Jsonl.{decimal_member, word_member}
+use Rattle.lin_tool.specs.campaign.Jsonl.{word_member}
 use Rattle.lin_tool.proofs.campaign.jsonl_rows.put_place.Goals as goal
 
 pub returns-in-Some : goal.returns-in-Some

@@ -1,4 +1,4 @@
-use Rattle.std.proofs.Common.{◌+◌, ◌++◌, ◌∙◌, arith, drop, map, sym}
+use Rattle.std.proofs.Common.{◌+◌, arith, drop, map, sym}
 use Rattle.std.specs.Prelude.{codes}
 use Rattle.lin_tool.specs.campaign.Jsonl.{refusal_object}
 use Rattle.lin_tool.specs.campaign.Shown.{with_separators}

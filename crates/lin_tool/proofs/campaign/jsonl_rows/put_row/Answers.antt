@@ -1,4 +1,4 @@
-use Rattle.std.proofs.Common.{◌∙◌, ◌∷◌, ◌++◌, [], ap, map}
+use Rattle.std.proofs.Common.{◌∷◌, ◌++◌, ap, map}
 use Rattle.std.specs.Prelude.{codes}
 use Rattle.lin_export.specs.Json.{json_array, member, quoted_text}
 use Rattle.lin_text.proofs.Growing.{grows-more, same-growth}

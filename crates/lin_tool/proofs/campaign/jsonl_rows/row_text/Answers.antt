@@ -1,4 +1,4 @@
-use Rattle.std.proofs.Common.{◌∙◌, rules}
+use Rattle.std.proofs.Common.{rules}
 use Rattle.lin_text.proofs.Growing.{text-written}
 use Rattle.lin_export.proofs.Puttings.{written-same}
 use Rattle.lin_tool.proofs.campaign.jsonl_rows.row_text.Goals as goal

@@ -3,7 +3,7 @@ use Rattle.std.specs.List.{slice_split}
 use Rattle.lin_log.specs.Judged.{lines_left}
 use Rattle.lin_tool.specs.campaign.Page.{page_line, page_lines, without_empty_last}
 use Rattle.lin_tool.proofs.CampaignLines.{none-is, script-next}
-use Rattle.lin_tool.proofs.Remaining.{PutsUpTo, none-put, put-more, put-whole, same-rest}
+use Rattle.lin_tool.proofs.Remaining.{PutsUpTo, none-put, put-more, same-rest}
 use Rattle.lin_tool.proofs.campaign.page.put_script.Goals as goal
 
 pub loop-left-init : goal.loop-left-init

@@ -1,7 +1,4 @@
-use Rattle.std.proofs.Common.{◌∙◌, ap}
-use Rattle.lin_core.specs.Tables.{look_word}
-use Rattle.lin_text.proofs.Growing.{grows-more, same-growth}
-use Rattle.lin_tool.specs.PageFields.{guarded_text}
+use Rattle.lin_text.proofs.Growing.{grows-more}
 use Rattle.lin_tool.proofs.campaign.page.put_slot.Goals as goal
 
 pub returns : goal.returns

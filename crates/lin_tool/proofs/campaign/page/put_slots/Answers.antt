@@ -1,4 +1,4 @@
-use Rattle.std.proofs.Common.{◌+◌, ◌∙◌, ◌<◌, ap, arith, flat_map, length, reverse, subst, sym}
+use Rattle.std.proofs.Common.{◌<◌, ap, arith, flat_map, length, reverse, subst, sym}
 use Rattle.std.proofs.lemmas.List.{take_all}
 use Rattle.lin_log.proofs.LastFinish.{newest-first}
 use Rattle.lin_text.proofs.Growing.{grows-more, grows-nothing, same-growth}

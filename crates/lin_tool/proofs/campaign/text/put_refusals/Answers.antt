@@ -1,4 +1,4 @@
-use Rattle.std.proofs.Common.{◌+◌, ◌++◌, ◌∙◌, ap, arith, drop, filter, map, not, sym}
+use Rattle.std.proofs.Common.{◌+◌, ◌∙◌, ap, arith, drop, filter, map, not, sym}
 use Rattle.std.specs.Prelude.{codes}
 use Rattle.std.specs.List.{list_any}
 use Rattle.lin_tool.specs.campaign.Row.{is_same_refusal}

@@ -1,4 +1,4 @@
-use Rattle.std.proofs.Common.{◌≡◌, ◌∙◌, ◌||◌, [], ap, arith, if◌then◌else◌, length, ltb, subst, sym}
+use Rattle.std.proofs.Common.{◌∙◌, ◌||◌, [], ap, arith, if◌then◌else◌, length, ltb, subst, sym}
 use Rattle.lin_text.proofs.Growing.{grows-nothing, same-growth}
 use Rattle.lin_tool.specs.campaign.Summary.{RowCountsData, IsCountOf, line_count_text, rows_of}
 use Rattle.lin_tool.proofs.CampaignCounts.{counted-is, line-there}
