@@ -16,7 +16,7 @@ use Rattle.lin_bench.specs.declared.got.Judgement.{Judgement}
 use Rattle.lin_bench.specs.declared.line.ScriptLine.{ScriptLine}
 use Rattle.lin_bench.specs.declared.playing.PlayedUnder.{PlayedUnder}
 use Rattle.lin_export.specs.WhereTold.{given_coding}
-use Rattle.lin_tool.specs.Playing.{IsUnread, ReportsJudgements, Says, play_fails, judgements_with_meanings, play_fault, told_text}
+use Rattle.lin_tool.specs.Playing.{IsUnread, ReportsJudgements, Says, play_fails, judgements_with_meanings, play_fault, unmet_with_counts}
 use Rattle.lin_tool.specs.campaign.Played.{IsMemoryFault, IsPlayOf, IsUndisturbedPlay, IsUnfinished, PlaysRow, PlaysUndisturbed}
 use Rattle.lin_tool.specs.campaign.Steps.{IsCampaignBegun, SaysLines, row_of_play, stage_of}
 use Rattle.lin_tool.specs.campaign.Written.{Ends, IsRowOf, WritesCampaign, WritesPlays, WritesPlaysOfScript, counts, denies, name_or, campaign_output}
@@ -71,7 +71,7 @@ never-both false h k = absurd (cc)
 pub campaign-unmet : (plan : CampaignPlan) (k : Option CodedData) (file named : Option (Bor (List ℕ))) (on : Campaign) (strict : Bool) (c : Parts) (opening capacity : ℕ) (calm : Play)
     (result : Result Unit Fault) (told old silent mid heard : Option (List ℕ)) (ls : List (ℕ × ScriptLine)) → IsCampaign on k file named strict opening capacity → Says c k told (Ok ls)
     → IsUndisturbedPlay on c ls calm → Keeps silent mid → some_unmet calm.judgements ≡ true
-    → ReportsJudgements result (play_fails 0 0 calm.judgements) (told_text named strict 0 0 calm.core.cluster calm.core.log calm.judgements) mid heard
+    → ReportsJudgements result (play_fails 0 0 calm.judgements) (unmet_with_counts named strict 0 0 calm.core.cluster calm.core.log calm.judgements) mid heard
     → WritesCampaign plan k file named strict c opening capacity result told old old silent heard
 campaign-unmet plan k file named on strict c opening capacity calm (Ok done) told old silent mid heard ls is says h kept unmet (met, text) =
     never-both (play_fails 0 0 calm.judgements) (fails-unmet 0 0 calm.judgements unmet) met
@@ -81,8 +81,8 @@ campaign-unmet plan k file named on strict c opening capacity calm (Err (Unmet o
     let judged : calm.judgements ≡ judgements_with_meanings k run.judgements = h.is.judgements ∙ ap (λ x. judgements_with_meanings x run.judgements) is.coded in
     let cluster : calm.core.cluster ≡ c = ap (λ x. x.cluster) h.is.core ∙ h.comes.cluster in
     let log : calm.core.log ≡ reverse run.bench.past = ap (λ x. x.log) h.is.core ∙ h.comes.log in
-    let same : told_text named strict 0 0 calm.core.cluster calm.core.log calm.judgements ≡ told_text named strict 0 0 c (reverse run.bench.past) (judgements_with_meanings k run.judgements) =
-    ap (λ x. told_text named strict 0 0 x calm.core.log calm.judgements) cluster ∙ ap₂ (λ x y. told_text named strict 0 0 c x y) log judged in (
+    let same : unmet_with_counts named strict 0 0 calm.core.cluster calm.core.log calm.judgements ≡ unmet_with_counts named strict 0 0 c (reverse run.bench.past) (judgements_with_meanings k run.judgements) =
+    ap (λ x. unmet_with_counts named strict 0 0 x calm.core.log calm.judgements) cluster ∙ ap₂ (λ x y. unmet_with_counts named strict 0 0 c x y) log judged in (
       run,
       (ls, says, came),
       ap some_unmet (sym judged) ∙ unmet,

@@ -13,7 +13,7 @@ use Rattle.lin_bench.specs.declared.fault.PlayFault.TheVariants as play
 use Rattle.lin_parts.specs.declared.parts.Parts.{Parts}
 use Rattle.lin_bench.specs.declared.line.ScriptLine.{ScriptLine}
 use Rattle.lin_values.specs.Coded.{CodedData}
-use Rattle.lin_tool.specs.Playing.{IsUnread, PlaysScriptUnder, Says, WritesPlayed, judgements_with_meanings, missed_in, play_fault, run_as, told_text}
+use Rattle.lin_tool.specs.Playing.{IsUnread, PlaysScriptUnder, Says, WritesPlayed, judgements_with_meanings, missed_in, play_fault, run_as, unmet_with_counts}
 use Rattle.lin_tool.specs.Playing.{play_fails as is_failed}
 use Rattle.lin_tool.specs.declared.fault.Fault.{Fault}
 use Rattle.lin_tool.specs.declared.fault.Fault.TheVariants.{BadBenchLine, OutOfMemory, SlotLimit, Unmet, WriteFailed}
@@ -90,7 +90,7 @@ pub plays : (fs : List SlotFault) (format : Format) (k : Option CodedData) (show
     (told old new silent mid heard : Option (List ℕ)) (ls : List (ℕ × ScriptLine)) (run : Run) → Says c k told (Ok ls) → played_under strict c opening capacity fs ls ≡ Ok run
     → Keeps silent mid
     → WritesPlayed format (run_as format k shows named c opening capacity run) (is_failed (length fs) (missed_in run) (judgements_with_meanings k run.judgements))
-    (told_text named strict (length fs) (missed_in run) c (reverse run.bench.past) (judgements_with_meanings k run.judgements)) result old new mid heard
+    (unmet_with_counts named strict (length fs) (missed_in run) c (reverse run.bench.past) (judgements_with_meanings k run.judgements)) result old new mid heard
     → PlaysScriptUnder fs format k shows named strict c opening capacity result told old new silent heard
 plays fs format k shows named strict c opening capacity (Ok done) told old new silent mid heard ls run says comes kept (shown, met, (outcome, said)) =
     (run, (ls, says, comes), (shown, met, (outcome, writes-after kept said)))

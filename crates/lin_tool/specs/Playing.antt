@@ -85,8 +85,8 @@ counts_text strict faults missed c log js =
     missed_faults faults missed ++ (if strict then tally_text c log js else [])
 
 -- what is told of a play with this log: a line for each judgement that isn't met, and then counts
-abbrev pub told_text : Option (Bor (List ℕ)) → Bool → ℕ → ℕ → Parts → List LogEntry → List Judgement → List ℕ
-told_text named strict faults missed c log js =
+abbrev pub unmet_with_counts : Option (Bor (List ℕ)) → Bool → ℕ → ℕ → Parts → List LogEntry → List Judgement → List ℕ
+unmet_with_counts named strict faults missed c log js =
     missed_text named c log js ++ counts_text strict faults missed c log js
 
 abbrev pub script_counts : PlayedScript → CoreData → List Judgement → List ℕ
@@ -96,7 +96,7 @@ script_counts script core js =
 -- what is told of a play of this script
 abbrev pub script_verdict : PlayedScript → CoreData → List Judgement → List ℕ
 script_verdict script core js =
-    told_text script.name script.is_strict script.faults script.missed core.cluster core.log js
+    unmet_with_counts script.name script.is_strict script.faults script.missed core.cluster core.log js
 
 -- A play fails where a judgement isn't met, or where it has faults and none of them changed a slot.
 abbrev pub play_fails : ℕ → ℕ → List Judgement → Bool
@@ -137,7 +137,7 @@ WritesRunOf fs format k shows named strict c opening capacity result told old ne
     (run : Run) × ComesTo fs strict k c opening capacity told (Ok run)
     × WritesPlayed format (run_as format k shows named c opening capacity run)
     (play_fails (length fs) (missed_in run) (judgements_with_meanings k run.judgements))
-    (told_text named strict (length fs) (missed_in run) c (reverse run.bench.past)
+    (unmet_with_counts named strict (length fs) (missed_in run) c (reverse run.bench.past)
     (judgements_with_meanings k run.judgements)) result old new silent heard
 
 -- What a play under faults answers in this format, what the writer took (from old to new), and what the writer

@@ -221,8 +221,8 @@ WhereWorst counts faults Holds =
     → worst_faults rows ≡ faults → Holds rows
 
 -- the line of a line of such a script, the same if it is counted, and all these lines
-abbrev pub script_line : JudgedScript → List Row → ℕ → List ℕ
-script_line s rows n = line_count_text s.name.now s.cluster.now s.judgements.now rows n
+abbrev pub script_count_line : JudgedScript → List Row → ℕ → List ℕ
+script_count_line s rows n = line_count_text s.name.now s.cluster.now s.judgements.now rows n
 
 abbrev pub script_line_if_counted : JudgedScript → List Row → ℕ → List ℕ
 script_line_if_counted s rows n = line_if_counted s.name.now s.cluster.now s.judgements.now rows n

@@ -16,7 +16,7 @@ use Rattle.lin_bench.specs.declared.reason.Reason.{Reason}
 use Rattle.lin_tool.specs.Formats.{Begins}
 use Rattle.lin_tool.specs.Opening.{room_for}
 use Rattle.lin_tool.specs.Placing.{bad_text}
-use Rattle.lin_tool.specs.Playing.{ComesTo, Says, WritesTextOrPart, judgements_with_meanings, told_text}
+use Rattle.lin_tool.specs.Playing.{ComesTo, Says, WritesTextOrPart, judgements_with_meanings, unmet_with_counts}
 use Rattle.lin_tool.specs.Replaying.{RefusesScript}
 use Rattle.lin_tool.specs.campaign.Csv.{row_text as csv_text}
 use Rattle.lin_tool.specs.campaign.Jsonl.{head_object, row_object}
@@ -235,7 +235,7 @@ WritesCampaign plan k file named strict c opening capacity
     (run : Run) × ComesTo [] strict k c opening capacity told (Ok run)
     × (some_unmet (judgements_with_meanings k run.judgements) ≡ true) × Keeps old new
     × WritesText silent heard outcome
-    (told_text named strict 0 0 c (reverse run.bench.past) (judgements_with_meanings k run.judgements))
+    (unmet_with_counts named strict 0 0 c (reverse run.bench.past) (judgements_with_meanings k run.judgements))
 WritesCampaign plan k file named strict c opening capacity
     (Err ScriptTooLong) told old new silent heard =
     RefusesScript script.TooLong told old new × Keeps silent heard

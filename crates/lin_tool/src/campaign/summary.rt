@@ -11,7 +11,7 @@ ghost use Rattle.lin_tool.specs.campaign.Summary.{AreChanged, AreCountsOf, Count
 ghost use Rattle.lin_tool.specs.campaign.Summary.{WhereCounted, WhereLineIs, WhereWorst, counted_by};
 ghost use Rattle.lin_tool.specs.campaign.Summary.{broken_lines, expectation, first_at, is_broken_verdict, line_or_lines};
 ghost use Rattle.lin_tool.specs.campaign.Summary.{is_limited, is_tolerated, broken_mark, one_if, place_from, worse_of, worst_lines};
-ghost use Rattle.lin_tool.specs.campaign.Summary.{line_at, numbers_text, rows_of, script_line};
+ghost use Rattle.lin_tool.specs.campaign.Summary.{line_at, numbers_text, rows_of, script_count_line};
 ghost use Rattle.lin_tool.specs.campaign.Summary.{script_line_if_counted, script_lines};
 ghost use Rattle.lin_tool.specs.campaign.Summary.{some_never_broken, some_not_tolerated};
 
@@ -381,7 +381,7 @@ impl RowCounts {
         one: LineCount,
     )
         ensures { WhereLineIs script.entry self.now line one (λ rows. Grows W.contents out.old out.new
-            (script_line script.entry rows line)) }
+            (script_count_line script.entry rows line)) }
     {
         out.put_text(script.name);
         out.put_numbered(b':', line);

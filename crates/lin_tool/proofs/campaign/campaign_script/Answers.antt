@@ -2,7 +2,7 @@ use Rattle.std.proofs.Common.{◌∙◌, Ok, ap, ap₂, refl, rules, subst, sym}
 use Rattle.lin_bench.specs.Played.{some_unmet}
 use Rattle.lin_bench.specs.Scripts.{read}
 use Rattle.lin_tool.specs.Opening.{room_for}
-use Rattle.lin_tool.specs.Playing.{ReportsJudgements, Says, play_fails, told_text}
+use Rattle.lin_tool.specs.Playing.{ReportsJudgements, Says, play_fails, unmet_with_counts}
 use Rattle.lin_tool.specs.declared.campaign.Campaign.{Campaign}
 use Rattle.lin_tool.proofs.CampaignScripts.{IsCampaign, begun, campaign-unmet, campaign-unplayable, campaign-unread, campaign-written, same-cluster}
 use Rattle.lin_tool.proofs.Plays.{says}
@@ -82,7 +82,7 @@ returns-then-some_unmet g c =
     let unmet = ap some_unmet (sym c.as_slice-3.ensures) ∙ sym c.some_unmet.ensures ∙ c.if-some_unmet.true in
     campaign-unmet c.args.planned.plan.now opened.coded how.file named on how.is_strict opened.cluster opened.table (room_for how.capacity) calm c.judge.result _ old _ mid heard
     c.in_ok-lines.lines.items is said c.in_ok-calm.ensures c.in_ok-lines.ensures.lines.1 unmet
-    (subst (λ js. ReportsJudgements c.judge.result (play_fails 0 0 js) (told_text named how.is_strict 0 0 calm.core.cluster calm.core.log js) mid heard) c.as_slice-then-some_unmet.ensures c.judge.ensures)
+    (subst (λ js. ReportsJudgements c.judge.result (play_fails 0 0 js) (unmet_with_counts named how.is_strict 0 0 calm.core.cluster calm.core.log js) mid heard) c.as_slice-then-some_unmet.ensures c.judge.ensures)
 
 pub returns : goal.returns
 returns g c =
