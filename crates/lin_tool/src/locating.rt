@@ -20,6 +20,10 @@ struct Tokens<'a> {
 }
 
 impl<'a> Tokens<'a> {
+    fn new(text: &'a [u8], tokens: &'a [Token]) -> Tokens<'a> {
+        Tokens { text, rest: tokens }
+    }
+
     /// The bytes of the token that begins at a place; no bytes where none does. Those before the
     /// place are left behind.
     fn token_at(&mut self, place: Location) -> &'a [u8] {
@@ -129,10 +133,7 @@ pub(crate) fn problems_of_remarks(
     remarks: &[Remark],
 ) -> Result<Vec<Problem>, AllocError> {
     let lexed = lexed(alloc, text)?;
-    let mut tokens = Tokens {
-        text,
-        rest: lexed.as_slice(),
-    };
+    let mut tokens = Tokens::new(text, lexed.as_slice());
     let mut problems = Vec::new(alloc);
     for remark in remarks {
         problems.push(problem_of_finding(
@@ -152,10 +153,7 @@ pub(crate) fn problems_of_fault(
     fault: &Fault,
 ) -> Result<Vec<Problem>, AllocError> {
     let lexed = lexed(alloc, text)?;
-    let mut tokens = Tokens {
-        text,
-        rest: lexed.as_slice(),
-    };
+    let mut tokens = Tokens::new(text, lexed.as_slice());
     let mut problems = Vec::new(alloc);
     match fault {
         Fault::Ldf(fault) => {
