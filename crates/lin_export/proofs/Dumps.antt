@@ -38,7 +38,7 @@ use Rattle.lin_export.specs.Dumped.{IsDigit, IsDumped, IsLine, Line, last_value,
 use Rattle.lin_export.specs.Dumped.Line.{Change, Real, Time, Unknown}
 use Rattle.lin_export.specs.Telling.{each_entry}
 use Rattle.lin_export.specs.Track.{finished_slot_count}
-use Rattle.lin_export.specs.Vcd.{Group, binary, code, declarations, digits, entry_changes, event_group, first_decimals, first_heard, first_physical, first_waiting, first_written, frame_changes, frame_decimals, header_change, heard_change, heard_changes, heard_group, heard_number, end_stamp, latest, number_change, physical_number, physical_change, real_change, real_value, shown_at, slot_changes, slot_groups, stamp, step_groups, text_line, timed_groups, unknown, waiting_change, waiting_number, waiting_count, written_change, written_number}
+use Rattle.lin_export.specs.Vcd.{Group, binary, code, declarations, digits, entry_changes, event_group, first_decimals, first_heard, first_physical, first_waiting, first_written, frame_changes, frame_decimals, header_change, heard_change, heard_changes, heard_group, heard_number, end_stamp, latest, number_change, physical_number, physical_change, real_change, real_value, shown_at, slot_changes, slot_groups, stamp, step_groups, text_line, timed_groups, unknown_change, waiting_change, waiting_number, waiting_count, written_change, written_number}
 use Rattle.lin_export.specs.WhereTold.{where_told}
 use Rattle.lin_values.specs.Coded.{CodedData, has_range}
 use Rattle.lin_values.specs.Meaning.{meaning}
@@ -256,7 +256,7 @@ quiet-change c k width n m other =
     line-told c k none (Change width (code n) (binary width m)) (binary-digits width m)
     (λ t s l. if-false (bytes_eq (code n) (code (number c t s))) (Some (binary width m)) None (other-code n (number c t s) (other t s (there-below c k t s l))))
 
-quiet-unknown : (c : Parts) (k : Option CodedData) (n : ℕ) → IsOther c n → Told c k none (unknown n)
+quiet-unknown : (c : Parts) (k : Option CodedData) (n : ℕ) → IsOther c n → Told c k none (unknown_change n)
 quiet-unknown c k n other =
     line-told c k none (Unknown (code n)) tt
     (λ t s l. if-false (bytes_eq (code n) (code (number c t s))) (Some (codes "x")) None (other-code n (number c t s) (other t s (there-below c k t s l))))
@@ -696,7 +696,7 @@ all-first f AsDecimal s = or-none (option_or (f s) None) ∙ or-none (f s)
 
 first-told : (c : Parts) (k : Option CodedData) (rules : IsCluster c)
     → Told c k (both (initial c) (initial c))
-    (flat_map unknown (numbers 5)
+    (flat_map unknown_change (numbers 5)
     ++ (number_change 1 5 0
     ++ (flat_map (first_heard c) (numbers (length c.signals))
     ++ (flat_map (first_written c) (numbers (length c.signals)) ++ (flat_map (first_waiting c) (numbers (nodes c)) ++ where_told k (first_decimals c))))))
@@ -707,7 +707,7 @@ first-told c k rules =
     let waiting : Told c k none (flat_map (first_waiting c) (numbers (nodes c))) = quiet-all c k (first_waiting c) (nodes c) (λ h l. quiet-change c k 11 _ 0 (waiting-other c h l)) in
     let others : Gives = λ t s. option_or (at_kind AsDecimal i t s) (at_kind AsWritten i t s) in
     let rest = told-more c k (at_kind AsWritten i) (at_kind AsDecimal i) others _ _ written (quiet-first c k (at_kind AsDecimal i) _ _ waiting (decimals-told c k)) (λ t s l. refl) in
-    quiet-first c k (both i i) (flat_map unknown (numbers 5)) _ (quiet-all c k unknown 5 (λ n l. quiet-unknown c k n (bus-other c n (omega arith))))
+    quiet-first c k (both i i) (flat_map unknown_change (numbers 5)) _ (quiet-all c k unknown_change 5 (λ n l. quiet-unknown c k n (bus-other c n (omega arith))))
     (quiet-first c k (both i i) (number_change 1 5 0) _ (quiet-change c k 1 5 0 (bus-other c 5 (omega arith)))
     (told-more c k (at_kind AsHeard i) others (both i i) _ _ heard rest (λ t s l. all-first i t s)))
 
@@ -733,7 +733,7 @@ history-dumped c rules k opening capacity steps =
       first = f.lines;
       lines = t.lines;
       bytes =
-          regroup (declarations c k) (text_line (codes "#0")) (text_line (codes "$dumpvars")) (flat_map unknown (numbers 5)) (number_change 1 5 0) (flat_map (first_heard c) (numbers (length c.signals)))
+          regroup (declarations c k) (text_line (codes "#0")) (text_line (codes "$dumpvars")) (flat_map unknown_change (numbers 5)) (number_change 1 5 0) (flat_map (first_heard c) (numbers (length c.signals)))
           (flat_map (first_written c) (numbers (length c.signals))) (flat_map (first_waiting c) (numbers (nodes c))) (where_told k (first_decimals c)) (text_line (codes "$end")) rest
           ∙ ap (λ l. declarations c k ++ (text_line (codes "#0") ++ (text_line (codes "$dumpvars") ++ (l ++ (text_line (codes "$end") ++ rest))))) f.same
           ∙ ap (λ l. declarations c k ++ (text_line (codes "#0") ++ (text_line (codes "$dumpvars") ++ (flat_map line_bytes f.lines ++ (text_line (codes "$end") ++ l))))) t.same;

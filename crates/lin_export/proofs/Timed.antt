@@ -9,9 +9,9 @@ use Rattle.lin_parts.specs.Cluster.{frames_with}
 use Rattle.lin_parts.specs.declared.parts.Parts.{Parts}
 use Rattle.lin_export.specs.Timings.{AreFrameTimings, AreTimings, AreTimingsFrom, IsFrameTiming, IsLatency, IsSignalLatency, IsTiming}
 use Rattle.lin_export.specs.Timings.{more, no_frame, none, occurs_by, occurs_in}
-use Rattle.lin_export.specs.declared.listing.timings.FrameTiming.{FrameTiming}
-use Rattle.lin_export.specs.declared.listing.timings.Latency.{Latency}
-use Rattle.lin_export.specs.declared.listing.timings.TableTiming.{TableTiming}
+use Rattle.lin_export.specs.declared.cluster_lists.timings.FrameTiming.{FrameTiming}
+use Rattle.lin_export.specs.declared.cluster_lists.timings.Latency.{Latency}
+use Rattle.lin_export.specs.declared.cluster_lists.timings.TableTiming.{TableTiming}
 
 -- what holds of each thing of a list, by its number, and of one more
 pub each-next : {X : Type 0} (P : ℕ → X → Type 0) (d : X) (all : List X) (n : ℕ) (x : X) → ((i : ℕ) → i < length all → P i (get_or all i d))

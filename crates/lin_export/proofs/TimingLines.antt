@@ -5,7 +5,7 @@ use Rattle.lin_parts.specs.declared.parts.Parts.{Parts}
 use Rattle.lin_text.specs.Written.{WritesText}
 use Rattle.lin_export.specs.ListedTiming.{timing_text, WritesTimings, some_lines}
 use Rattle.lin_export.specs.Timings.{AreTimings}
-use Rattle.lin_export.specs.declared.listing.timings.TableTiming.{TableTiming}
+use Rattle.lin_export.specs.declared.cluster_lists.timings.TableTiming.{TableTiming}
 use Rattle.lin_export.proofs.Puttings.{written-all, written-short}
 
 -- a beginning of the lines, at an error

@@ -12,9 +12,9 @@ use Rattle.lin_values.specs.Coded.{CodedData}
 use Rattle.lin_values.specs.declared.codings.CodingType.{CodingType}
 use Rattle.lin_export.specs.ClusterObject.{count_member, encoding_object, event_object, frame_object}
 use Rattle.lin_export.specs.ClusterObject.{node_object, signal_object, sporadic_object, table_object}
-use Rattle.lin_export.specs.declared.object.declaration_lists.Declarations.{Declarations}
-use Rattle.lin_export.specs.declared.object.declaration_lists.Declarations.TheVariants.{Nodes, Signals, Frames}
-use Rattle.lin_export.specs.declared.object.declaration_lists.Declarations.TheVariants.{Sporadics, Events, Tables}
+use Rattle.lin_export.specs.declared.check_object.declaration_lists.Declarations.{Declarations}
+use Rattle.lin_export.specs.declared.check_object.declaration_lists.Declarations.TheVariants.{Nodes, Signals, Frames}
+use Rattle.lin_export.specs.declared.check_object.declaration_lists.Declarations.TheVariants.{Sporadics, Events, Tables}
 use Rattle.lin_export.specs.Json.{json_array, escaped_text, member, null, object, quoted_text, text_value}
 
 -- ---- reported problems

@@ -5,8 +5,8 @@ use Rattle.lin_parts.specs.declared.place.Location.{Location}
 use Rattle.lin_values.specs.declared.codings.CodingType.{CodingType}
 use Rattle.lin_export.specs.CheckObject.{FoundData, ProblemData, check_object}
 use Rattle.lin_export.specs.WhereTold.{given_coding}
-use Rattle.lin_export.specs.declared.object.Found.{Found}
-use Rattle.lin_export.specs.declared.object.problems.Problem.{Problem}
+use Rattle.lin_export.specs.declared.check_object.Found.{Found}
+use Rattle.lin_export.specs.declared.check_object.problems.Problem.{Problem}
 
 abbrev pub found_data : Found → FoundData
 found_data f =

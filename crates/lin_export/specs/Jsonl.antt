@@ -396,5 +396,5 @@ pub record IsObjectTrackOf (c : Parts) (past : List LogEntry) (t : ObjectTrackDa
   pub last : AreCounts (settled_count past) t.last
 
 -- something holds for the entries that were read
-abbrev pub IfObjectTrackOf : Parts → ObjectTrackData → (List LogEntry → Type 0) → Type 0
-IfObjectTrackOf c t holds = (past : List LogEntry) → IsObjectTrackOf c past t → holds past
+abbrev pub IfObjectsOf : Parts → ObjectTrackData → (List LogEntry → Type 0) → Type 0
+IfObjectsOf c t holds = (past : List LogEntry) → IsObjectTrackOf c past t → holds past

@@ -50,14 +50,14 @@ abbrev pub text_or_number : ℕ → List ℕ → List ℕ
 text_or_number n [] = decimal n
 text_or_number n (c ∷ cs) = c ∷ cs
 
-abbrev pub value_line : ℕ → ℕ → List ℕ → List ℕ
-value_line s n text =
+abbrev pub value_text_line : ℕ → ℕ → List ℕ → List ℕ
+value_text_line s n text =
     line (codes "value" ∷ decimal s ∷ decimal n ∷ text_or_number n text ∷ [])
 
 -- the line of an item, if it says what some value of the signal means: values and ranges say it of
 -- numbers alone, and a range has no value if its first one is above its last, or if its values don't fit
 abbrev pub item_line : Bool → ℕ → Item → List ℕ
-item_line has_numbers s (Logical v text) = if has_numbers then value_line s v text else []
+item_line has_numbers s (Logical v text) = if has_numbers then value_text_line s v text else []
 item_line has_numbers s (Physical from to scale offset unit) =
     if has_numbers && (nat_le from to && fits to scale offset)
     then range_line s
@@ -70,8 +70,8 @@ item_lines has_numbers s None = []
 item_lines has_numbers s (Some t) = flat_map (λ p. item_line has_numbers s p.item) t.items
 
 -- whether the values of a signal are numbers: those of scalars and of wide signals
-abbrev pub has_numbers : Parts → CodedData → ℕ → Bool
-has_numbers c k s = is_some (raw_number (signal_at k s).is_wide (signal_of c s).initial)
+abbrev pub values_are_numbers : Parts → CodedData → ℕ → Bool
+values_are_numbers c k s = is_some (raw_number (signal_at k s).is_wide (signal_of c s).initial)
 
 -- ---- the initial value, and its text where it has one
 
@@ -93,7 +93,7 @@ initial_line c k s =
 abbrev pub signal_lines : Parts → CodedData → ℕ → List ℕ
 signal_lines c k s =
     coding_line c k s
-    ++ (item_lines (has_numbers c k s) s (encoding_of k s) ++ initial_line c k s)
+    ++ (item_lines (values_are_numbers c k s) s (encoding_of k s) ++ initial_line c k s)
 
 abbrev pub signal_list : Parts → CodedData → List ℕ
 signal_list c k = flat_map (signal_lines c k) (numbers (length c.signals))

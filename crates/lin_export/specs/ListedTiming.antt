@@ -17,9 +17,9 @@ use Rattle.lin_text.specs.Written.{WritesText}
 use Rattle.lin_export.specs.ListedSlots.{bits_of, permille, slack}
 use Rattle.lin_export.specs.Listing.{numbered_lines}
 use Rattle.lin_export.specs.Timings.{AreTimings, frames_of_message, occurs}
-use Rattle.lin_export.specs.declared.listing.timings.FrameTiming.{FrameTiming}
-use Rattle.lin_export.specs.declared.listing.timings.Latency.{Latency}
-use Rattle.lin_export.specs.declared.listing.timings.TableTiming.{TableTiming}
+use Rattle.lin_export.specs.declared.cluster_lists.timings.FrameTiming.{FrameTiming}
+use Rattle.lin_export.specs.declared.cluster_lists.timings.Latency.{Latency}
+use Rattle.lin_export.specs.declared.cluster_lists.timings.TableTiming.{TableTiming}
 
 -- a time, and `-` for none
 abbrev pub time_word : Option ℕ → List ℕ

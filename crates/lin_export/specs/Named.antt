@@ -177,6 +177,9 @@ named_words c words = flat_map spaced_word (map (word_text (named_language c)) w
 abbrev pub named_line : Parts → List Word → List ℕ
 named_line c words = reply_line (named_language c) words
 
+abbrev pub lines_with_names : Parts → List (List Word) → List ℕ
+lines_with_names c lines = flat_map (named_line c) lines
+
 -- entries with names, the oldest first, each on those before it, which stand the newest first
 abbrev pub named_entries : Parts → Option CodedData → List LogEntry → List LogEntry → List ℕ
 named_entries c k past entries = log_text (named_language c) (reply_lines c k) past entries

@@ -18,8 +18,8 @@ abbrev pub checksum_in : List ℕ → ℕ
 checksum_in answer = slice_index answer (length answer - 1)
 
 -- the values of signals that are heard after a slot, by those that are heard before it
-abbrev pub heard_after : Parts → Slot → (ℕ → Value) → ℕ → Value
-heard_after c slot before s = unwrap_or (value_in c slot s) (before s)
+abbrev pub value_after_slot : Parts → Slot → (ℕ → Value) → ℕ → Value
+value_after_slot c slot before s = unwrap_or (value_in c slot s) (before s)
 
 -- the frame of a slot: the entry's own; of a sporadic frame the member with the slot's header; of
 -- an event-triggered one that was seen good the member whose publisher put the response

@@ -12,9 +12,9 @@ use Rattle.lin_schedule.specs.Occurs.{own_entries, shared_entries}
 use Rattle.lin_schedule.specs.Once.{IsLeastBound}
 use Rattle.lin_schedule.specs.Spacing.{AreGaps, HasNoOwn}
 use Rattle.lin_schedule.specs.Walk.{IsWorst}
-use Rattle.lin_export.specs.declared.listing.timings.FrameTiming.{FrameTiming}
-use Rattle.lin_export.specs.declared.listing.timings.Latency.{Latency}
-use Rattle.lin_export.specs.declared.listing.timings.TableTiming.{TableTiming}
+use Rattle.lin_export.specs.declared.cluster_lists.timings.FrameTiming.{FrameTiming}
+use Rattle.lin_export.specs.declared.cluster_lists.timings.Latency.{Latency}
+use Rattle.lin_export.specs.declared.cluster_lists.timings.TableTiming.{TableTiming}
 
 -- ---- frames
 

@@ -17,6 +17,10 @@ IsAfter next past = next.track.now ≡ track_of next.cluster.now past
 abbrev pub IfAfter : TrackedEntry → (List LogEntry → Type 0) → Type 0
 IfAfter next holds = (past : List LogEntry) → IsAfter next past → holds past
 
+-- something holds for the entries before it, if this is kept of them
+abbrev pub IfKept : (Parts → List LogEntry → Type 0) → TrackedEntry → (List LogEntry → Type 0) → Type 0
+IfKept keeps next holds = IfAfter next (λ past. keeps next.cluster.now past → holds past)
+
 -- what it says in a format
 abbrev pub says_next : (Parts → LogFormat) → TrackedEntry → List LogEntry → List ℕ
 says_next format next past = (format next.cluster.now).says next.entry.now past

@@ -62,8 +62,8 @@ before_code width value = if width == 1 then value else 98 ∷ (value ++ 32 ∷ 
 abbrev pub change : ℕ → ℕ → List ℕ → List ℕ
 change width k value = before_code width value ++ (code k ++ 10 ∷ [])
 
-abbrev pub unknown : ℕ → List ℕ
-unknown k = codes "bx " ++ (code k ++ 10 ∷ [])
+abbrev pub unknown_change : ℕ → List ℕ
+unknown_change k = codes "bx " ++ (code k ++ 10 ∷ [])
 
 abbrev pub number_change : ℕ → ℕ → ℕ → List ℕ
 number_change width k n = change width k (binary width n)
@@ -173,7 +173,7 @@ abbrev pub first_values : Parts → Option CodedData → List ℕ
 first_values c k =
     text_line (codes "#0")
     ++ (text_line (codes "$dumpvars")
-    ++ (flat_map unknown (numbers 5)
+    ++ (flat_map unknown_change (numbers 5)
     ++ (number_change 1 5 0
     ++ (flat_map (first_heard c) (numbers (length c.signals))
     ++ (flat_map (first_written c) (numbers (length c.signals))
@@ -222,7 +222,7 @@ latest last [] = last
 latest last (g ∷ gs) = latest (later last g.at) gs
 
 abbrev pub header_change : Option ℕ → List ℕ
-header_change header = option_map_or (number_change 8 3) header (unknown 3)
+header_change header = option_map_or (number_change 8 3) header (unknown_change 3)
 
 -- a finished slot by its number: what the bus shows from its start
 abbrev pub slot_changes : ℕ → Slot → List ℕ

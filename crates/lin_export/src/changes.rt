@@ -4,7 +4,7 @@ ghost use Rattle.std.specs.Prelude.{◌≡◌, ◌≤◌, ◌<◌, ◌*◌, leng
 ghost use Rattle.lin_parts.specs.Cluster.{signal_of};
 ghost use Rattle.lin_text.specs.Written.{Grows};
 ghost use Rattle.lin_export.specs.Vcd.{before_code, binary, change, code, digits, heard_change};
-ghost use Rattle.lin_export.specs.Vcd.{heard_number, number_change, unknown, waiting_change};
+ghost use Rattle.lin_export.specs.Vcd.{heard_number, number_change, unknown_change, waiting_change};
 ghost use Rattle.lin_export.specs.Vcd.{waiting_number, written_change, written_number};
 ghost use Rattle.lin_export.specs.Vcd.{physical_change, physical_number, real_change, real_value};
 ghost use Rattle.lin_export.specs.Vcd.{real_word};
@@ -97,7 +97,7 @@ fn put_change<W: Write>(out: &mut TextWriter<'_, W>, width: u8, variable: u16, v
 /// A variable takes a value that isn't known.
 pub(crate) fn put_unknown<W: Write>(out: &mut TextWriter<'_, W>, variable: u16)
     requires { variable < 4096 }
-    ensures { Grows W.contents out.old out.new (unknown variable) }
+    ensures { Grows W.contents out.old out.new (unknown_change variable) }
 {
     out.put(b"bx ");
     put_code(out, variable);

@@ -20,9 +20,9 @@ use crate::format::{EntryFormat, write_as};
 use crate::hearing::hear_slot;
 use crate::kept_cells::{KeptCells, kept_cells};
 use crate::meaning_cells::put_coded_names;
-use crate::slot::{OpenSlot, SeenSlot, byte_at};
 use crate::slot_names::{node_name, slot_name, table_name};
 use crate::track::{Track, TrackedEntry};
+use crate::tracked_slot::{SeenSlot, TrackedSlot, byte_at};
 use lin_core::{Listed, Log, initial_values};
 use lin_frame::{Answer, Value};
 use lin_parts::Cluster;
@@ -99,8 +99,8 @@ fn put_plain_signal<W: Write>(out: &mut TextWriter<'_, W>, signal: u16, value: &
 
 fn put_plain_values<W: Write>(out: &mut TextWriter<'_, W>, cluster: &Cluster, values: &[Value])
     requires { length values.now ≡ length cluster.now.signals }
-    ensures { (g : ℕ → Value) → ArePointwise g values.now
-        → Grows W.contents out.old out.new (flat_map after_comma (column_cells cluster.now None g)) }
+    ensures { IfPointwise values.now (λ g. Grows W.contents out.old out.new
+        (flat_map after_comma (column_cells cluster.now None g))) }
 {
     for signal in 0..cluster.signals() as u16 {
         put_plain_signal(out, signal, &values[usize::from(signal)]);
@@ -135,9 +135,8 @@ fn put_coded_values<W: Write>(
     requires values { length values.now ≡ length cluster.now.signals }
     requires kept { AreKept coded.now (length cluster.now.signals) kept.old.items }
     ensures kept { AreKept coded.now (length cluster.now.signals) kept.new.items }
-    ensures text { (g : ℕ → Value) → ArePointwise g values.now
-        → Grows W.contents out.old out.new
-        (flat_map after_comma (column_cells cluster.now (Some coded.now) g)) }
+    ensures text { IfPointwise values.now (λ g. Grows W.contents out.old out.new
+        (flat_map after_comma (column_cells cluster.now (Some coded.now) g))) }
 {
     for signal in 0..cluster.signals() as u16 {
         let index = usize::from(signal);
@@ -207,7 +206,7 @@ fn put_schedule<'a, W: Write>(
     mark: &[u8],
     cluster: &'a Cluster,
     at: u64,
-    slot: &OpenSlot,
+    slot: &TrackedSlot,
 )
     ensures { Grows W.contents out.old out.new
         (flat_map (marked_cell mark.now) (schedule_cells cluster.now at (tracked_slot slot.now))) }
@@ -292,7 +291,7 @@ pub(crate) fn put_slot<'a, W: Write>(
     mark: &[u8],
     cluster: &'a Cluster,
     at: u64,
-    slot: &OpenSlot,
+    slot: &TrackedSlot,
 )
     ensures { Grows W.contents out.old out.new
         (flat_map (marked_cell mark.now) (slot_cells cluster.now at (tracked_slot slot.now))) }
@@ -307,7 +306,7 @@ fn put_first_cells<'a, W: Write>(
     out: &mut TextWriter<'_, W>,
     cluster: &'a Cluster,
     track: &Track,
-    slot: &OpenSlot,
+    slot: &TrackedSlot,
 )
     ensures { Grows W.contents out.old out.new
         (decimal track.now.slots

@@ -8,8 +8,8 @@ ghost use Rattle.lin_export.specs.Open.{tracked_slot};
 use crate::csv::{Cell, put_next, put_slot};
 use crate::fault::ExportFault;
 use crate::format::{EntryFormat, write_as};
-use crate::slot::OpenSlot;
 use crate::track::{Track, TrackedEntry};
+use crate::tracked_slot::TrackedSlot;
 use lin_core::Log;
 use lin_parts::Cluster;
 use lin_text::TextWriter;
@@ -24,7 +24,7 @@ fn put_row<'a, W: Write>(
     out: &mut TextWriter<'_, W>,
     cluster: &'a Cluster,
     track: &Track,
-    slot: &OpenSlot,
+    slot: &TrackedSlot,
 )
     ensures { Grows W.contents out.old out.new
         (slot_row cluster.now track.now.slots track.now.time (tracked_slot slot.now)) }
@@ -40,7 +40,7 @@ fn put_first<W: Write>(
     out: &mut TextWriter<'_, W>,
     cluster: &Cluster,
     track: &Track,
-    slot: &OpenSlot,
+    slot: &TrackedSlot,
 )
     ensures { Grows W.contents out.old out.new
         (first_slot_row cluster.now track.now.slots track.now.time (tracked_slot slot.now)) }

@@ -8,7 +8,7 @@ ghost use Rattle.lin_text.specs.Written.{Grows, WritesText};
 ghost use Rattle.lin_export.specs.Putting.{PutsAll};
 ghost use Rattle.lin_export.specs.Telling.{LogFormat, entries_as, entries_from, log_as};
 ghost use Rattle.lin_export.specs.Track.{IfTrackOf, track_of};
-ghost use Rattle.lin_export.specs.TrackedEntries.{IfAfter, says_next};
+ghost use Rattle.lin_export.specs.TrackedEntries.{IfKept, says_next};
 
 use crate::fault::ExportFault;
 use crate::track::{Track, TrackedEntry};
@@ -36,10 +36,10 @@ pub(crate) trait EntryFormat {
         requires fits { fits self.old next.now.cluster.now }
         ensures fits { fits self.new next.now.cluster.now }
         ensures same { text self.new ≡ text self.old }
-        ensures keeps { IfAfter next.now (λ past. keeps self.old next.now.cluster.now past
-            → keeps self.new next.now.cluster.now (next.now.entry.now ∷ past)) }
-        ensures text { IfAfter next.now (λ past. keeps self.old next.now.cluster.now past
-            → Grows W.contents out.old out.new (says_next (text self.old) next.now past)) };
+        ensures keeps { IfKept (keeps self.old) next.now (λ past.
+            keeps self.new next.now.cluster.now (next.now.entry.now ∷ past)) }
+        ensures text { IfKept (keeps self.old) next.now (λ past.
+            Grows W.contents out.old out.new (says_next (text self.old) next.now past)) };
 
     /// Puts what stands after the entries.
     fn put_end<W: Write>(&self, out: &mut TextWriter<'_, W>, cluster: &Cluster, track: &Track)

@@ -4,19 +4,19 @@ ghost use Rattle.std.specs.Prelude.{◌≡◌, ℕ, length};
 ghost use Rattle.lin_frame.specs.declared.value.Value.{Value};
 ghost use Rattle.lin_core.specs.Signals.{ArePointwise};
 ghost use Rattle.lin_export.specs.Open.{tracked_slot};
-ghost use Rattle.lin_export.specs.Shown.{heard_after};
+ghost use Rattle.lin_export.specs.Shown.{value_after_slot};
 
-use crate::slot::{OpenSlot, SeenSlot};
+use crate::tracked_slot::{SeenSlot, TrackedSlot};
 use lin_core::hear_frame;
 use lin_frame::Value;
 use lin_parts::Cluster;
 
 /// The nodes hear what a slot carries, where it is seen good.
-pub(crate) fn hear_slot(heard: &mut Vec<Value>, cluster: &Cluster, slot: &OpenSlot)
+pub(crate) fn hear_slot(heard: &mut Vec<Value>, cluster: &Cluster, slot: &TrackedSlot)
     requires { length heard.old.items ≡ length cluster.now.signals }
     ensures count { length heard.new.items ≡ length heard.old.items }
     ensures heard { (g : ℕ → Value) → ArePointwise g heard.old.items
-        → ArePointwise (heard_after cluster.now (tracked_slot slot.now) g) heard.new.items }
+        → ArePointwise (value_after_slot cluster.now (tracked_slot slot.now) g) heard.new.items }
 {
     let SeenSlot::Good(answer) = slot.look() else {
         return;

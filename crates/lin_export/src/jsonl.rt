@@ -10,7 +10,7 @@ ghost use Rattle.lin_frame.specs.Words.{numbers};
 ghost use Rattle.lin_text.specs.Written.{Grows, WritesText};
 ghost use Rattle.lin_export.specs.Csv.{after_comma};
 ghost use Rattle.lin_export.specs.Json.{member, with_commas};
-ghost use Rattle.lin_export.specs.Jsonl.{IfObjectTrackOf, IsObjectTrackOf, accepted_line, end_line, entry_objects, event_line};
+ghost use Rattle.lin_export.specs.Jsonl.{IfObjectsOf, IsObjectTrackOf, accepted_line, end_line, entry_objects, event_line};
 ghost use Rattle.lin_export.specs.Jsonl.{last_slot_number, lost_line, message_line, nad_value, node_text};
 ghost use Rattle.lin_export.specs.Jsonl.{objects_between, objects_from, receiver_member, refused_line, run_line, sending_members};
 ghost use Rattle.lin_export.specs.Jsonl.{sent_line, settled_after, settled_all, step_object};
@@ -468,7 +468,7 @@ impl ObjectTrack {
         coded: Option<&Coded>,
         step: &Step,
     )
-        ensures { IfObjectTrackOf cluster.now self.now (λ past. Grows W.contents out.old out.new
+        ensures { IfObjectsOf cluster.now self.now (λ past. Grows W.contents out.old out.new
             (step_object cluster.now (given_coding coded.entry) past step.now)) }
     {
         let track = &self.track;
@@ -500,7 +500,7 @@ impl ObjectTrack {
         entry: &LogEntry,
     )
         requires { self.now.track.time < 2 ^ 63 }
-        ensures { IfObjectTrackOf cluster.now self.now (λ past. Grows W.contents out.old out.new
+        ensures { IfObjectsOf cluster.now self.now (λ past. Grows W.contents out.old out.new
             (entry_objects cluster.now (given_coding coded.entry) entry.now past)) }
     {
         let track = &self.track;

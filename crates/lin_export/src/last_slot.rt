@@ -17,10 +17,10 @@ ghost use Rattle.lin_export.specs.Open.{tracked_slot};
 ghost use Rattle.lin_export.specs.Shown.{data_of};
 
 use crate::json::{Member, put_members};
-use crate::slot::{OpenSlot, SeenSlot};
 use crate::slot_names::{slot_name, table_name};
 use crate::slot_object::frame_member;
 use crate::track::Track;
+use crate::tracked_slot::{SeenSlot, TrackedSlot};
 use lin_core::{Listed, Log};
 use lin_log::{Word, last_finish, put_words};
 use lin_parts::Cluster;
@@ -46,7 +46,7 @@ impl Model for LastSlot {
 }
 
 /// The data bytes of a good response.
-fn put_data<W: Write>(out: &mut TextWriter<'_, W>, slot: &OpenSlot)
+fn put_data<W: Write>(out: &mut TextWriter<'_, W>, slot: &TrackedSlot)
     ensures { Grows W.contents out.old out.new (flat_map spaced_word
         (map (λ answer. hex_word (data_of answer)) (option_to_list (good (tracked_slot slot.now))))) }
 {
@@ -61,7 +61,7 @@ fn put_slot<W: Write>(
     out: &mut TextWriter<'_, W>,
     cluster: &Cluster,
     track: &Track,
-    slot: &OpenSlot,
+    slot: &TrackedSlot,
 )
     ensures { Grows W.contents out.old out.new
         (named_words cluster.now
@@ -111,7 +111,7 @@ pub fn put_last_slot<W: Write>(
 }
 
 /// The data bytes of a good response; null for others.
-fn data_member(slot: &OpenSlot) -> Member<'_>
+fn data_member(slot: &TrackedSlot) -> Member<'_>
     ensures { member_shown result ≡ member (codes "data")
         (option_map_or (λ answer. hex_text (data_of answer)) (good (tracked_slot slot.now)) null) }
 {
@@ -129,7 +129,7 @@ fn put_slot_value<'a, W: Write>(
     out: &mut TextWriter<'_, W>,
     cluster: &'a Cluster,
     track: &Track,
-    slot: &'a OpenSlot,
+    slot: &'a TrackedSlot,
 )
     ensures { Grows W.contents out.old out.new
         (ended_value cluster.now (ended track.now (tracked_slot slot.now))) }

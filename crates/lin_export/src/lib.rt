@@ -22,6 +22,8 @@
 #![tactic(auto)]
 
 mod changes;
+mod check_object;
+mod cluster_lists;
 mod csv;
 mod fault;
 mod first_slots;
@@ -34,22 +36,27 @@ mod kept_cells;
 mod last_slot;
 mod law;
 mod line_meanings;
-mod listing;
 mod meaning_cells;
 mod named;
 mod named_values;
-mod object;
 mod pcap;
 mod short_text;
-mod slot;
 mod slot_meanings;
 mod slot_names;
 mod slot_object;
 mod slot_purpose;
 mod track;
+mod tracked_slot;
 mod variables;
 mod vcd;
 
+pub use check_object::node_objects::nad_member;
+pub use check_object::problems::{Problem, put_problem_line};
+pub use check_object::{Found, write_object};
+pub use cluster_lists::{
+    FrameTiming, Latency, TableTiming, address_word, table_loads, table_timings, write_frames,
+    write_list, write_maps, write_signals, write_slots, write_timing,
+};
 pub use csv::write_csv;
 pub use fault::ExportFault;
 pub use first_slots::write_first_slots;
@@ -60,14 +67,7 @@ pub use jsonl::{Counts, ObjectTrack, Opening, Unmet, objects_text, put_run, writ
 pub use last_slot::{LastSlot, put_last_slot, put_last_slot_value};
 pub use law::{captures_what_was_seen, dumps_last_values, maps_tell_places};
 pub use line_meanings::put_line_meaning;
-pub use listing::{
-    FrameTiming, Latency, TableTiming, address_word, table_loads, table_timings, write_frames,
-    write_list, write_maps, write_signals, write_slots, write_timing,
-};
 pub use named::{named_text, put_slot_names, write_named};
-pub use object::nodes::nad_member;
-pub use object::problems::{Problem, put_problem_line};
-pub use object::{Found, write_object};
 pub use pcap::write_pcap;
 pub use slot_meanings::put_meant;
 pub use slot_object::put_value_member;

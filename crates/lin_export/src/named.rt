@@ -24,9 +24,9 @@ use crate::fault::ExportFault;
 use crate::format::{EntryFormat, put_entries, write_as};
 use crate::frame_places::{place_count, value_at};
 use crate::named_values::{put_told, put_written};
-use crate::slot::{OpenSlot, byte_at};
 use crate::slot_names::node_name;
 use crate::track::{Track, TrackedEntry};
+use crate::tracked_slot::{TrackedSlot, byte_at};
 use lin_core::{Event, Listed, Log, Refusal, Reply, Seen, Step, frame_under, node_with};
 use lin_frame::Answer;
 use lin_log::{Word, put_line, put_step_line, put_words};
@@ -211,7 +211,7 @@ fn put_transport_line<W: Write>(
 fn put_good<W: Write>(
     out: &mut TextWriter<'_, W>,
     cluster: &Cluster,
-    slot: &OpenSlot,
+    slot: &TrackedSlot,
     answer: &Answer,
 )
     ensures { Grows W.contents out.old out.new
@@ -227,7 +227,7 @@ fn put_good<W: Write>(
 fn put_behind<W: Write>(
     out: &mut TextWriter<'_, W>,
     cluster: &Cluster,
-    slot: &Option<OpenSlot>,
+    slot: &Option<TrackedSlot>,
     event: &Event,
 )
     ensures { Grows W.contents out.old out.new
@@ -245,7 +245,7 @@ fn put_lines<W: Write>(
     out: &mut TextWriter<'_, W>,
     cluster: &Cluster,
     coded: Option<&Coded>,
-    slot: &Option<OpenSlot>,
+    slot: &Option<TrackedSlot>,
     event: &Event,
 )
     ensures { Grows W.contents out.old out.new
@@ -261,7 +261,7 @@ fn put_events<W: Write>(
     out: &mut TextWriter<'_, W>,
     cluster: &Cluster,
     coded: Option<&Coded>,
-    slot: &Option<OpenSlot>,
+    slot: &Option<TrackedSlot>,
     events: &[Event],
 )
     ensures { Grows W.contents out.old out.new

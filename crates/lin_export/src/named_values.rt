@@ -1,16 +1,16 @@
 //! What values mean, as lines of a log with names.
 
-ghost use Rattle.std.specs.Prelude.{◌<◌, flat_map, length, option_map};
+ghost use Rattle.std.specs.Prelude.{◌<◌, length, option_map};
 ghost use Rattle.lin_text.specs.Written.{Grows};
-ghost use Rattle.lin_export.specs.Named.{frame_values, named_line, seen_values, slot_values};
+ghost use Rattle.lin_export.specs.Named.{frame_values, lines_with_names, seen_values, slot_values};
 ghost use Rattle.lin_export.specs.Named.{value_lines, written_values};
-ghost use Rattle.lin_export.specs.NamedWords.{told_text, written_text};
+ghost use Rattle.lin_export.specs.NamedWords.{event_meanings, write_meanings};
 ghost use Rattle.lin_export.specs.Open.{tracked_slot};
 ghost use Rattle.lin_export.specs.WhereTold.{given_coding};
 
 use crate::frame_places::{place_count, value_at};
 use crate::line_meanings::put_line_meaning;
-use crate::slot::OpenSlot;
+use crate::tracked_slot::TrackedSlot;
 use lin_core::{Event, Seen, Step};
 use lin_frame::{Answer, Value};
 use lin_log::put_seen;
@@ -29,7 +29,7 @@ fn put_value<W: Write>(
 )
     requires { signal < length cluster.now.signals }
     ensures { Grows W.contents out.old out.new
-        (flat_map (named_line cluster.now) (value_lines cluster.now coded.now signal value.now)) }
+        (lines_with_names cluster.now (value_lines cluster.now coded.now signal value.now)) }
 {
     if let Some(meaning) = coded.meaning(signal, value) {
         out.put(b"> value ");
@@ -50,7 +50,7 @@ fn put_frame_values<W: Write>(
 )
     requires { frame < length cluster.now.frames }
     ensures { Grows W.contents out.old out.new
-        (flat_map (named_line cluster.now) (frame_values cluster.now coded.now answer.now frame)) }
+        (lines_with_names cluster.now (frame_values cluster.now coded.now answer.now frame)) }
 {
     for place in 0..place_count(cluster, frame) {
         let (signal, value) = value_at(cluster, frame, answer, place);
@@ -63,10 +63,10 @@ fn put_slot_values<W: Write>(
     out: &mut TextWriter<'_, W>,
     cluster: &Cluster,
     coded: &Coded,
-    slot: &OpenSlot,
+    slot: &TrackedSlot,
     answer: &Answer,
 )
-    ensures { Grows W.contents out.old out.new (flat_map (named_line cluster.now)
+    ensures { Grows W.contents out.old out.new (lines_with_names cluster.now
         (slot_values cluster.now coded.now answer.now (tracked_slot slot.now))) }
 {
     if let Some(frame) = slot.frame(cluster) {
@@ -79,10 +79,10 @@ fn put_event_values<W: Write>(
     out: &mut TextWriter<'_, W>,
     cluster: &Cluster,
     coded: &Coded,
-    slot: &Option<OpenSlot>,
+    slot: &Option<TrackedSlot>,
     event: &Event,
 )
-    ensures { Grows W.contents out.old out.new (flat_map (named_line cluster.now)
+    ensures { Grows W.contents out.old out.new (lines_with_names cluster.now
         (seen_values cluster.now coded.now (option_map tracked_slot slot.now) event.now)) }
 {
     if let Event::Seen(Seen::Good(answer)) = event
@@ -97,10 +97,10 @@ pub(crate) fn put_told<W: Write>(
     out: &mut TextWriter<'_, W>,
     cluster: &Cluster,
     coded: Option<&Coded>,
-    slot: &Option<OpenSlot>,
+    slot: &Option<TrackedSlot>,
     event: &Event,
 )
-    ensures { Grows W.contents out.old out.new (told_text cluster.now
+    ensures { Grows W.contents out.old out.new (event_meanings cluster.now
         (given_coding coded.entry) (option_map tracked_slot slot.now) event.now) }
 {
     if let Some(coded) = coded {
@@ -116,7 +116,7 @@ fn put_written_values<W: Write>(
     step: &Step,
 )
     ensures { Grows W.contents out.old out.new
-        (flat_map (named_line cluster.now) (written_values cluster.now coded.now step.now)) }
+        (lines_with_names cluster.now (written_values cluster.now coded.now step.now)) }
 {
     if let Step::Write {
         by: _,
@@ -137,7 +137,7 @@ pub(crate) fn put_written<W: Write>(
     step: &Step,
 )
     ensures { Grows W.contents out.old out.new
-        (written_text cluster.now (given_coding coded.entry) step.now) }
+        (write_meanings cluster.now (given_coding coded.entry) step.now) }
 {
     if let Some(coded) = coded {
         put_written_values(out, cluster, coded, step);

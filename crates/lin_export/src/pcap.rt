@@ -10,8 +10,8 @@ ghost use Rattle.lin_export.specs.Pcap.{slot_packet, word_bytes};
 
 use crate::fault::ExportFault;
 use crate::format::{EntryFormat, write_as};
-use crate::slot::{OpenSlot, SeenSlot, byte_at};
 use crate::track::{Track, TrackedEntry};
+use crate::tracked_slot::{SeenSlot, TrackedSlot, byte_at};
 use arrayvec::ArrayVec;
 use lin_core::{Log, Reply, Step, model_under};
 use lin_frame::SumKind;
@@ -135,7 +135,7 @@ fn put_seen<W: Write>(
     put_packet(out, at, body.as_slice());
 }
 
-fn put_slot<W: Write>(out: &mut TextWriter<'_, W>, at: u64, cluster: &Cluster, slot: &OpenSlot)
+fn put_slot<W: Write>(out: &mut TextWriter<'_, W>, at: u64, cluster: &Cluster, slot: &TrackedSlot)
     ensures { Grows W.contents out.old out.new (slot_packet cluster.now at (tracked_slot slot.now)) }
 {
     let Some(header) = slot.header() else {
@@ -146,7 +146,7 @@ fn put_slot<W: Write>(out: &mut TextWriter<'_, W>, at: u64, cluster: &Cluster, s
 }
 
 /// A slot that begins at a time, and its end where it puts the cluster to sleep.
-fn put_finish<W: Write>(out: &mut TextWriter<'_, W>, at: u64, cluster: &Cluster, slot: &OpenSlot)
+fn put_finish<W: Write>(out: &mut TextWriter<'_, W>, at: u64, cluster: &Cluster, slot: &TrackedSlot)
     requires { at < 2 ^ 63 }
     ensures { Grows W.contents out.old out.new (finish_packets cluster.now at (tracked_slot slot.now)) }
 {

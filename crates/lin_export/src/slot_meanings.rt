@@ -19,7 +19,7 @@ use crate::frame_places::{place_count, value_at};
 use crate::json::{
     Member, put_escaped, put_key, put_members, put_quoted, put_separator, put_text_value,
 };
-use crate::slot::{OpenSlot, SeenSlot};
+use crate::tracked_slot::{SeenSlot, TrackedSlot};
 use lin_frame::{Answer, Value};
 use lin_parts::Cluster;
 use lin_text::TextWriter;
@@ -183,7 +183,7 @@ fn put_carried_meanings<W: Write>(
     cluster: &Cluster,
     coded: &Coded,
     column: Column,
-    slot: &OpenSlot,
+    slot: &TrackedSlot,
 )
     ensures { Grows W.contents out.old out.new
         (with_commas (carried_meanings column cluster.now coded.now (tracked_slot slot.now))) }
@@ -203,7 +203,7 @@ fn put_column<W: Write>(
     cluster: &Cluster,
     coded: &Coded,
     column: Column,
-    slot: &OpenSlot,
+    slot: &TrackedSlot,
 )
     ensures { Grows W.contents out.old out.new
         (after_comma (column_member column cluster.now coded.now (tracked_slot slot.now))) }
@@ -231,7 +231,7 @@ pub(crate) fn put_physical<W: Write>(
     out: &mut TextWriter<'_, W>,
     cluster: &Cluster,
     coded: Option<&Coded>,
-    slot: &OpenSlot,
+    slot: &TrackedSlot,
 )
     ensures { Grows W.contents out.old out.new (flat_map after_comma
         (told_meanings cluster.now (given_coding coded.entry) (tracked_slot slot.now))) }

@@ -5,7 +5,7 @@ ghost use Rattle.lin_parts.specs.Cluster.{named_table, node_of, signal_of};
 ghost use Rattle.lin_export.specs.Open.{tracked_slot};
 ghost use Rattle.lin_export.specs.Shown.{slot_name};
 
-use crate::slot::OpenSlot;
+use crate::tracked_slot::TrackedSlot;
 use lin_parts::Cluster;
 
 /// The name of a node; no bytes where none has this number.
@@ -42,7 +42,7 @@ pub(crate) fn table_name(cluster: &Cluster, table: u16) -> &[u8]
 }
 
 /// The name of a slot's frame, and failing that of what its entry is for.
-pub(crate) fn slot_name<'a>(cluster: &'a Cluster, slot: &OpenSlot) -> &'a [u8]
+pub(crate) fn slot_name<'a>(cluster: &'a Cluster, slot: &TrackedSlot) -> &'a [u8]
     ensures { result.now ≡ slot_name cluster.now (tracked_slot slot.now) }
 {
     match slot.frame(cluster) {

@@ -21,10 +21,10 @@ use crate::frame_places::{place_count, value_at};
 use crate::json::{
     Member, put_first, put_key, put_member, put_members, put_quoted, put_separator, put_type,
 };
-use crate::slot::{OpenSlot, SeenSlot, byte_at};
 use crate::slot_meanings::put_physical;
 use crate::slot_names::{node_name, slot_name, table_name};
 use crate::track::Track;
+use crate::tracked_slot::{SeenSlot, TrackedSlot, byte_at};
 use crate::vcd::HOSTS;
 use lin_core::Listed;
 use lin_frame::{Answer, Value};
@@ -42,7 +42,7 @@ pub(crate) fn put_node<W: Write>(out: &mut TextWriter<'_, W>, cluster: &Cluster,
 }
 
 /// The frame of a slot; a configuration entry has none.
-pub(crate) fn frame_member<'a>(cluster: &'a Cluster, slot: &OpenSlot) -> Member<'a>
+pub(crate) fn frame_member<'a>(cluster: &'a Cluster, slot: &TrackedSlot) -> Member<'a>
     ensures { member_shown result ≡ frame_member cluster.now (tracked_slot slot.now) }
 {
     match slot.line(cluster).entry {
@@ -66,7 +66,7 @@ fn put_schedule<'a, W: Write>(
     cluster: &'a Cluster,
     number: u64,
     at: u64,
-    slot: &OpenSlot,
+    slot: &TrackedSlot,
 )
     ensures { Grows W.contents out.old out.new
         (flat_map after_comma (schedule_members cluster.now number at (tracked_slot slot.now))) }
@@ -221,7 +221,7 @@ fn put_frame_signals<W: Write>(
 }
 
 /// The signals that a slot carries, where it is seen good.
-fn put_carried_signals<W: Write>(out: &mut TextWriter<'_, W>, cluster: &Cluster, slot: &OpenSlot)
+fn put_carried_signals<W: Write>(out: &mut TextWriter<'_, W>, cluster: &Cluster, slot: &TrackedSlot)
     ensures { Grows W.contents out.old out.new
         (with_commas (carried_signals cluster.now (tracked_slot slot.now))) }
 {
@@ -234,7 +234,7 @@ fn put_carried_signals<W: Write>(out: &mut TextWriter<'_, W>, cluster: &Cluster,
     put_frame_signals(out, cluster, frame, answer);
 }
 
-fn put_signals<W: Write>(out: &mut TextWriter<'_, W>, cluster: &Cluster, slot: &OpenSlot)
+fn put_signals<W: Write>(out: &mut TextWriter<'_, W>, cluster: &Cluster, slot: &TrackedSlot)
     ensures { Grows W.contents out.old out.new
         (after_comma (signals_member cluster.now (tracked_slot slot.now))) }
 {
@@ -286,7 +286,7 @@ fn put_message_value<W: Write>(
 }
 
 /// The last response of a slot of messages; of a slot for a service none.
-fn message_put(slot: &OpenSlot) -> Option<&(u8, Answer)>
+fn message_put(slot: &TrackedSlot) -> Option<&(u8, Answer)>
     ensures { option_copied result ≡ message_put (tracked_slot slot.now) }
 {
     if slot.is_service() {
@@ -301,11 +301,10 @@ fn put_message<W: Write>(
     out: &mut TextWriter<'_, W>,
     cluster: &Cluster,
     last: &[u32; HOSTS],
-    slot: &OpenSlot,
+    slot: &TrackedSlot,
 )
-    ensures { (count : ℕ → ℕ) → AreCounts count last.now
-        → Grows W.contents out.old out.new
-        (after_comma (message_member cluster.now count (tracked_slot slot.now))) }
+    ensures { IfCounts last.now (λ n. Grows W.contents out.old out.new
+        (after_comma (message_member cluster.now n (tracked_slot slot.now)))) }
 {
     put_key(out, "message");
     match message_put(slot) {
@@ -321,7 +320,7 @@ pub(crate) fn put_slot<'a, W: Write>(
     coded: Option<&Coded>,
     track: &Track,
     last: &[u32; HOSTS],
-    slot: &OpenSlot,
+    slot: &TrackedSlot,
 )
     ensures { IfCounts last.now (λ n. Grows W.contents out.old out.new
         (slot_line cluster.now (given_coding coded.entry) track.now n (tracked_slot slot.now))) }

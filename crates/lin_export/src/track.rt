@@ -7,7 +7,7 @@ ghost use Rattle.lin_core.specs.declared.log.LogEntry.{LogEntry};
 ghost use Rattle.lin_export.specs.Open.{tracked_slot};
 ghost use Rattle.lin_export.specs.Track.{shown_finished, shown_open, track_of};
 
-use crate::slot::OpenSlot;
+use crate::tracked_slot::TrackedSlot;
 use lin_core::{Log, LogEntry, Reply, Step};
 use lin_parts::Cluster;
 use std::alloc::{AllocError, Global};
@@ -19,7 +19,7 @@ use std::marker::Model;
 #[derive(Drop)]
 pub struct Track {
     alloc: Global,
-    slot: Option<OpenSlot>,
+    slot: Option<TrackedSlot>,
     time: u64,
     slots: u64,
     hurt: Vec<u8>,
@@ -103,7 +103,7 @@ impl Track {
     }
 
     /// The open slot.
-    pub(crate) fn slot(&self) -> &Option<OpenSlot>
+    pub(crate) fn slot(&self) -> &Option<TrackedSlot>
         ensures { option_map tracked_slot result.now ≡ self.now.slot }
     {
         &self.slot
@@ -131,7 +131,7 @@ impl Track {
     }
 
     /// The slot that the next entry finishes.
-    pub(crate) fn finished(&self, entry: &LogEntry) -> Option<&OpenSlot>
+    pub(crate) fn finished(&self, entry: &LogEntry) -> Option<&TrackedSlot>
         ensures { (past : List LogEntry) → self.now.slot ≡ shown_open past
             → option_map (λ s. tracked_slot s.now) result ≡ shown_finished entry.now past }
     {
@@ -174,7 +174,7 @@ impl Track {
         };
         match &entry.step {
             Step::Open => {
-                let mut slot = OpenSlot::new(self.alloc);
+                let mut slot = TrackedSlot::new(self.alloc);
                 slot.tell_all(events.as_slice())?;
                 self.slot = Some(slot);
             }

@@ -7,7 +7,7 @@ ghost use Rattle.lin_parts.specs.Cluster.{nodes};
 ghost use Rattle.lin_text.specs.Written.{Grows};
 ghost use Rattle.lin_export.specs.Vcd.{bus_variables, declarations, declaration, first_heard};
 ghost use Rattle.lin_export.specs.Vcd.{first_values, first_waiting, first_written, vcd_head};
-ghost use Rattle.lin_export.specs.Vcd.{heard_variable, wire_opening, unknown, waiting_variable};
+ghost use Rattle.lin_export.specs.Vcd.{heard_variable, wire_opening, unknown_change, waiting_variable};
 ghost use Rattle.lin_export.specs.Vcd.{first_decimals, physical_scope, physical_variable};
 ghost use Rattle.lin_export.specs.Vcd.{written_variable};
 ghost use Rattle.lin_export.specs.WhereTold.{given_coding, where_told};
@@ -182,7 +182,7 @@ fn put_declarations<W: Write>(out: &mut TextWriter<'_, W>, cluster: &Cluster, co
 }
 
 fn put_unknowns<W: Write>(out: &mut TextWriter<'_, W>)
-    ensures { Grows W.contents out.old out.new (flat_map unknown (numbers 5)) }
+    ensures { Grows W.contents out.old out.new (flat_map unknown_change (numbers 5)) }
 {
     for variable in 0..5 {
         put_unknown(out, variable);

@@ -5,7 +5,7 @@ ghost use Rattle.std.specs.Prelude.{slice_index};
 ghost use Rattle.lin_text.specs.Written.{Grows, WritesText};
 ghost use Rattle.lin_export.specs.Look.{seen_as};
 ghost use Rattle.lin_export.specs.Open.{tracked_slot};
-ghost use Rattle.lin_export.specs.PutsGroups.{AreCounts, KeepsChanges, PutsGroups};
+ghost use Rattle.lin_export.specs.PutsGroups.{AreCounts, IfCounts, KeepsChanges, PutsGroups};
 ghost use Rattle.lin_export.specs.TrackedEntries.{IfAfter, next_groups};
 ghost use Rattle.lin_export.specs.Vcd.{count_after, counted_all, count_group, entry_changes};
 ghost use Rattle.lin_export.specs.Vcd.{event_group, event_groups, frame_changes, vcd_head, header_change};
@@ -18,8 +18,8 @@ use crate::changes::{put_heard, put_number, put_physical, put_unknown, put_waiti
 use crate::fault::ExportFault;
 use crate::format::{EntryFormat, write_as};
 use crate::frame_places::{place_count, value_at};
-use crate::slot::{OpenSlot, SeenSlot};
 use crate::track::{Track, TrackedEntry};
+use crate::tracked_slot::{SeenSlot, TrackedSlot};
 use crate::variables::put_head;
 use lin_core::{Event, Listed, Log, Reply, Step};
 use lin_frame::Answer;
@@ -64,7 +64,7 @@ fn put_header<W: Write>(out: &mut TextWriter<'_, W>, header: Option<u8>)
 }
 
 /// What the bus shows of a slot.
-fn put_slot<W: Write>(out: &mut TextWriter<'_, W>, number: u64, slot: &OpenSlot)
+fn put_slot<W: Write>(out: &mut TextWriter<'_, W>, number: u64, slot: &TrackedSlot)
     ensures { Grows W.contents out.old out.new (slot_changes number (tracked_slot slot.now)) }
 {
     put_number(out, 32, 0, number);
@@ -128,7 +128,7 @@ fn put_heard_frame<W: Write>(
     cluster: &Cluster,
     coded: Option<&Coded>,
     end: u64,
-    slot: &OpenSlot,
+    slot: &TrackedSlot,
 )
     ensures { PutsGroups W.contents out.old out.new last.old last.new
         (heard_group cluster.now (given_coding coded.entry) end (tracked_slot slot.now)) }
@@ -246,9 +246,8 @@ fn put_count<W: Write>(
     counts: &[u16; HOSTS],
     host: u8,
 )
-    ensures { (count : ℕ → ℕ) → AreCounts count counts.now
-        → PutsGroups W.contents out.old out.new last.old last.new
-        (count_group cluster.now at count host) }
+    ensures { IfCounts counts.now (λ n. PutsGroups W.contents out.old out.new last.old last.new
+        (count_group cluster.now at n host)) }
 {
     put_stamp(out, last, at);
     put_waiting(out, cluster, host, counts[usize::from(host)]);
@@ -263,9 +262,8 @@ fn put_event<W: Write>(
     counts: &[u16; HOSTS],
     event: &Event,
 )
-    ensures { (count : ℕ → ℕ) → AreCounts count counts.now
-        → PutsGroups W.contents out.old out.new last.old last.new
-        (event_group cluster.now at count event.now) }
+    ensures { IfCounts counts.now (λ n. PutsGroups W.contents out.old out.new last.old last.new
+        (event_group cluster.now at n event.now)) }
 {
     match event {
         Event::Accepted { host, number: _ } => put_count(out, last, cluster, at, counts, *host),
@@ -291,9 +289,8 @@ fn put_events<W: Write>(
     counts: &[u16; HOSTS],
     events: &[Event],
 )
-    ensures { (count : ℕ → ℕ) → AreCounts count counts.now
-        → PutsGroups W.contents out.old out.new last.old last.new
-        (event_groups cluster.now at count events.now) }
+    ensures { IfCounts counts.now (λ n. PutsGroups W.contents out.old out.new last.old last.new
+        (event_groups cluster.now at n events.now)) }
 {
     for event in events {
         put_event(out, last, cluster, at, counts, event);

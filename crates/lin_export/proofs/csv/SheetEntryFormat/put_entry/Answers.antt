@@ -11,7 +11,7 @@ use Rattle.lin_export.specs.Csv.{after_comma, signal_cells, slot_cells, slot_lin
 use Rattle.lin_export.specs.Open.{tracked_slot}
 use Rattle.lin_export.specs.Track.{TrackData, finished_slot_count}
 use Rattle.lin_export.specs.WhereTold.{given_coding}
-use Rattle.lin_export.specs.declared.slot.OpenSlot.{OpenSlot}
+use Rattle.lin_export.specs.declared.tracked_slot.TrackedSlot.{TrackedSlot}
 use Rattle.lin_export.proofs.Rows.{Shows, heard-finish, line-parts, line-shown, shows}
 use Rattle.lin_export.proofs.csv.SheetEntryFormat.put_entry.Goals as goal
 
@@ -21,7 +21,7 @@ returns-in-Some-clause-keeps g c = λ past is kept.
     let t = tracked_slot c.in-Some.slot.now in
     let o : Shows (finished_slot c.args.next.now.entry.now past) t
     = shows (finished_slot c.args.next.now.entry.now past) t
-    (ap (option_map (λ (s : Bor OpenSlot). tracked_slot s.now)) (sym c.in-Some.is) ∙ c.finished.ensures past (ap (λ (d : TrackData). d.slot) is)) in
+    (ap (option_map (λ (s : Bor TrackedSlot). tracked_slot s.now)) (sym c.in-Some.is) ∙ c.finished.ensures past (ap (λ (d : TrackData). d.slot) is)) in
     λ s v at. c.hear_slot.ensures.heard (heard_value x past) kept s v at ∙ heard-finish x c.args.next.now.entry.now past o.slot t s o.is_open o.same
 
 pub returns-in-Some-clause-text : goal.returns-in-Some-clause-text
@@ -31,7 +31,7 @@ returns-in-Some-clause-text g c = λ past is kept.
     let t = tracked_slot c.in-Some.slot.now in
     let o : Shows (finished_slot e past) t
     = shows (finished_slot e past) t
-    (ap (option_map (λ (s : Bor OpenSlot). tracked_slot s.now)) (sym c.in-Some.is) ∙ c.finished.ensures past (ap (λ (d : TrackData). d.slot) is)) in
+    (ap (option_map (λ (s : Bor TrackedSlot). tracked_slot s.now)) (sym c.in-Some.is) ∙ c.finished.ensures past (ap (λ (d : TrackData). d.slot) is)) in
     let values = heard_value x (e ∷ past) in
     let k = given_coding c.args.self.now.coded in
     let d : TrackData = c.args.next.now.track.now in

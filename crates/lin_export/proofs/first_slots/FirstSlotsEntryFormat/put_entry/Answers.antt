@@ -7,7 +7,7 @@ use Rattle.lin_text.proofs.Growing.{same-growth}
 use Rattle.lin_export.specs.FirstSlots.{first_slot_row}
 use Rattle.lin_export.specs.Open.{tracked_slot}
 use Rattle.lin_export.specs.Track.{TrackData, finished_slot_count}
-use Rattle.lin_export.specs.declared.slot.OpenSlot.{OpenSlot}
+use Rattle.lin_export.specs.declared.tracked_slot.TrackedSlot.{TrackedSlot}
 use Rattle.lin_export.proofs.Rows.{Shows, row-shown, shows}
 use Rattle.lin_export.proofs.first_slots.FirstSlotsEntryFormat.put_entry.Goals as goal
 
@@ -18,7 +18,7 @@ returns-in-Some-clause-text g c = λ past is kept.
     let t = tracked_slot c.in-Some.slot.now in
     let o : Shows (finished_slot e past) t
     = shows (finished_slot e past) t
-    (ap (option_map (λ (s : Bor OpenSlot). tracked_slot s.now)) (sym c.in-Some.is) ∙ c.finished.ensures past (ap (λ (d : TrackData). d.slot) is)) in
+    (ap (option_map (λ (s : Bor TrackedSlot). tracked_slot s.now)) (sym c.in-Some.is) ∙ c.finished.ensures past (ap (λ (d : TrackData). d.slot) is)) in
     let first : List ℕ → List ℕ = λ l. if nat_lt (finished_slot_count past) 200 then l else [] in
     let row : Slot → List ℕ = first_slot_row x (finished_slot_count past) (time x past) in
     same-growth

@@ -1,0 +1,9 @@
+use Rattle.std.proofs.Common.{sym, ◌∙◌, rules}
+use Rattle.lin_text.proofs.Growing.{text-written}
+use Rattle.lin_export.proofs.cluster_lists.frame_lines.write_frames.Goals as goal
+
+pub returns : goal.returns
+returns g c =
+    let same = sym (c.put_frames.ensures.same ∙ c.new-out.ensures.same) in
+    let written = text-written c.new-out.ensures c.put_frames.ensures c.finish.ensures in
+    search rules

@@ -1,0 +1,7 @@
+use Rattle.std.proofs.Common.{take}
+use Rattle.lin_text.specs.Written.{Grows}
+use Rattle.lin_export.specs.Listing.{table_line, numbered_lines}
+use Rattle.lin_export.proofs.cluster_lists.put_tables.Given as goal
+
+abbrev pub invariant-loop-table : goal.invariant-loop-table
+invariant-loop-table g l = Grows g.W.Write.contents l.initial.out l.out (numbered_lines table_line 0 (take l.table l.fn.cluster.tables))
