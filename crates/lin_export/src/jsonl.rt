@@ -1,6 +1,6 @@
 //! Logs as objects of JSON, one a line.
 
-ghost use Rattle.std.specs.Prelude.{◌≡◌, ◌<◌, ◌≤◌, ◌^◌, ◌∷◌, ℕ, [], IfOk, List, OnOk, codes, drop, flat_map};
+ghost use Rattle.std.specs.Prelude.{◌≡◌, ◌<◌, ◌≤◌, ◌^◌, ◌∷◌, ℕ, [], IfOk, List, OnOk, codes, flat_map};
 ghost use Rattle.std.specs.Prelude.{length, map, reverse, slice_index, take};
 ghost use Rattle.std.specs.Fmt.{decimal};
 ghost use Rattle.lin_parts.specs.Cluster.{nodes};

@@ -1,8 +1,8 @@
 //! The signal encodings of an LDF in an object.
 
-ghost use Rattle.std.specs.Prelude.{◌≡◌, codes, map, option_map};
+ghost use Rattle.std.specs.Prelude.{map, option_map};
 ghost use Rattle.lin_text.specs.Written.{Grows};
-ghost use Rattle.lin_export.specs.CheckObject.{encodings_member, list_member};
+ghost use Rattle.lin_export.specs.CheckObject.{encodings_member};
 ghost use Rattle.lin_export.specs.ClusterObject.{encoding_object, item_object};
 ghost use Rattle.lin_export.specs.Csv.{after_comma};
 ghost use Rattle.lin_export.specs.Json.{with_commas, member, quoted_text};

@@ -1,13 +1,12 @@
 //! The signals of a cluster in an object.
 
 ghost use Rattle.std.specs.Prelude.{◌≡◌, ◌<◌, codes, length, map, option_map, slice_get};
-ghost use Rattle.lin_parts.specs.Cluster.{signal_of};
 ghost use Rattle.lin_parts.specs.Rules.{is_array};
 ghost use Rattle.lin_text.specs.Written.{Grows};
 ghost use Rattle.lin_export.specs.CheckObject.{list_member};
 ghost use Rattle.lin_export.specs.ClusterObject.{encoding_value, signal_object, subscribers};
 ghost use Rattle.lin_export.specs.Csv.{after_comma};
-ghost use Rattle.lin_export.specs.Json.{json_array, member, quoted_text};
+ghost use Rattle.lin_export.specs.Json.{member, quoted_text};
 ghost use Rattle.lin_export.specs.Jsonl.{signal_value};
 ghost use Rattle.lin_export.specs.Members.{member_shown};
 ghost use Rattle.lin_export.specs.WhereTold.{given_coding};

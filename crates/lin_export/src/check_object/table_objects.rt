@@ -1,7 +1,7 @@
 //! The schedule tables of a cluster in an object.
 
 ghost use Rattle.std.specs.Prelude.{◌≡◌, ◌<◌, length, option_map, slice_get};
-ghost use Rattle.lin_cluster.specs.SlotTimes.{slot_bytes, slot_need};
+ghost use Rattle.lin_cluster.specs.SlotTimes.{slot_bytes};
 ghost use Rattle.lin_parts.specs.Cluster.{table_of};
 ghost use Rattle.lin_text.specs.Written.{Grows};
 ghost use Rattle.lin_export.specs.ClusterObject.{entries_member, entry_declared, entry_object, table_object};

@@ -2,7 +2,7 @@
 
 ghost use Rattle.std.specs.Prelude.{◌≡◌, ◌<◌, ◌≤◌, All, flat_map, length, slice_index};
 ghost use Rattle.lin_frame.specs.Words.{numbers};
-ghost use Rattle.lin_parts.specs.Cluster.{frame_of, line_of, table_of};
+ghost use Rattle.lin_parts.specs.Cluster.{line_of, table_of};
 ghost use Rattle.lin_parts.specs.Rules.{IsEntry};
 ghost use Rattle.lin_text.specs.Written.{Grows, WritesText};
 ghost use Rattle.lin_cluster.specs.SlotTimes.{frame_bytes, greatest_bytes, slot_bytes};

@@ -1,9 +1,8 @@
-use Rattle.std.proofs.Common.{◌≡◌, ◌<◌, ◌∙◌, ℕ, Bool, true, false, List, [], ap, arith, refl, sym}
+use Rattle.std.proofs.Common.{◌≡◌, ◌∙◌, ℕ, Bool, true, false, List, [], ap, arith, refl, sym}
 use Rattle.std.specs.Prelude.{◌&&◌, if◌then◌else◌, nat_le}
 use Rattle.std.proofs.lemmas.Bool.Decides.{nat_tests}
 use Rattle.lin_text.proofs.Growing.{grows-nothing, same-growth}
 use Rattle.lin_values.specs.Value.{fits}
-use Rattle.lin_values.specs.declared.decimals.Decimal.{Decimal}
 use Rattle.lin_export.proofs.cluster_lists.signal_lines.put_item.Goals.{then-not-has_numbers-via-then-not-has_numbers, then-not-has_numbers-via-else-not-has_numbers+then-max-min}
 use Rattle.lin_export.proofs.cluster_lists.signal_lines.put_item.Goals as goal
 
