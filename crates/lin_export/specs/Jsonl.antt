@@ -46,6 +46,7 @@ use Rattle.lin_export.specs.Track.{TrackData, finished_slot_count, track_of}
 use Rattle.lin_export.specs.WhereTold.{where_told}
 use Rattle.lin_export.specs.declared.jsonl.Counts.{Counts}
 use Rattle.lin_export.specs.declared.jsonl.Unmet.{Unmet}
+use Rattle.lin_export.specs.declared.jsonl.LogRange.{LogRange}
 use Rattle.lin_export.specs.declared.jsonl.WrittenValue.{WrittenValue}
 use Rattle.lin_export.specs.declared.slot_meanings.Column.{Column}
 use Rattle.lin_export.specs.declared.slot_meanings.Column.TheVariants.{Texts, Quantities}
@@ -344,12 +345,19 @@ entry_objects c k e past = reply_objects c k e past e.reply
 abbrev pub objects_of : Parts → Option CodedData → List LogEntry → List LogEntry → List ℕ
 objects_of c k past entries = each_entry (entry_objects c k) past entries
 
--- the objects of the entries of a log from one on, and from one up to another
+-- the objects of the entries of a log from one on, and of a range of them
 abbrev pub objects_from : Parts → Option CodedData → List LogEntry → ℕ → List ℕ
 objects_from c k log from = objects_of c k (reverse (take from log)) (drop from log)
 
-abbrev pub objects_between : Parts → Option CodedData → List LogEntry → ℕ → ℕ → List ℕ
-objects_between c k log from end = objects_of c k (reverse (take from log)) (drop from (take end log))
+abbrev pub entries_before : LogRange → List LogEntry
+entries_before r = reverse (take r.from r.log.now.entries)
+
+abbrev pub entries_to_end : LogRange → List LogEntry
+entries_to_end r = reverse (take r.end r.log.now.entries)
+
+abbrev pub objects_between : Parts → Option CodedData → LogRange → List ℕ
+objects_between c k r =
+    objects_of c k (entries_before r) (drop r.from (take r.end r.log.now.entries))
 
 -- ---- checks
 -- the number of the last one of so many finished slots, from 0; null before the first one

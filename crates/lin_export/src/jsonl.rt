@@ -12,7 +12,7 @@ ghost use Rattle.lin_export.specs.Csv.{after_comma};
 ghost use Rattle.lin_export.specs.Json.{member, with_commas};
 ghost use Rattle.lin_export.specs.Jsonl.{IfObjectsOf, IsObjectTrackOf, accepted_line, end_line, entry_objects, event_line};
 ghost use Rattle.lin_export.specs.Jsonl.{last_slot_number, lost_line, message_line, nad_value, node_text};
-ghost use Rattle.lin_export.specs.Jsonl.{objects_between, objects_from, receiver_member, refused_line, run_line, sending_members};
+ghost use Rattle.lin_export.specs.Jsonl.{entries_before, entries_to_end, objects_between, objects_from, receiver_member, refused_line, run_line, sending_members};
 ghost use Rattle.lin_export.specs.Jsonl.{sent_line, settled_after, settled_all, step_object};
 ghost use Rattle.lin_export.specs.Jsonl.{step_text, unmet_object, written_line};
 ghost use Rattle.lin_export.specs.Members.{member_shown};
@@ -538,7 +538,7 @@ impl ObjectTrack {
         Ok(())
     }
 
-    /// Puts the objects of the entries of a log from one up to another; the entries before were read.
+    /// Puts the objects of a range of the entries of a log; the entries before it were read.
     /// There is an object for each finished slot (with its schedule entry, its responses and the values
     /// of its signals), each write, each message that was accepted, arrived, was sent or lost, each
     /// sleep and wake-up, and each refused step. If the encodings of signals are given, slots and writes
@@ -551,20 +551,19 @@ impl ObjectTrack {
         out: &mut TextWriter<'_, W>,
         cluster: &Cluster,
         coded: Option<&Coded>,
-        log: &Log,
-        from: usize,
-        end: usize,
+        range: LogRange<'_>,
     ) -> Result<(), AllocError>
-        requires order { from ≤ end }
-        requires there { end ≤ length log.now.entries }
-        requires track { IsObjectTrackOf cluster.now (reverse (take from log.now.entries)) self.old }
+        requires order { range.from ≤ range.end }
+        requires there { range.end ≤ length range.log.now.entries }
+        requires track { IsObjectTrackOf cluster.now (entries_before range) self.old }
         ensures text { PutsAll W.contents out.old out.new result
-            (objects_between cluster.now (given_coding coded.entry) log.now.entries from end) }
+            (objects_between cluster.now (given_coding coded.entry) range.entry) }
         ensures track { OnOk result
-            (IsObjectTrackOf cluster.now (reverse (take end log.now.entries)) self.new) }
+            (IsObjectTrackOf cluster.now (entries_to_end range.entry) self.new) }
     {
         cluster.sound();
-        for index in from..end.min(log.len()) {
+        let log = range.log;
+        for index in range.from..range.end.min(log.len()) {
             let entry = log.entry(index);
             self.put_entry(out, cluster, coded, entry);
             self.follow(cluster, entry)?;
@@ -624,6 +623,14 @@ impl ObjectTrack {
     }
 }
 
+/// A range of the entries of a log: from index `from` up to index `end`, without it.
+#[derive(Clone, Copy)]
+pub struct LogRange<'a> {
+    pub log: &'a Log,
+    pub from: usize,
+    pub end: usize,
+}
+
 /// A failed check: the name of the script, the number of its line, what was expected, and what is so
 /// instead.
 #[derive(Clone, Copy)]
@@ -676,7 +683,12 @@ pub fn objects_text(
     let mut text = Vec::new(alloc);
     let mut buffer = TextBuffer::empty();
     let mut out = TextWriter::new(&mut text, &mut buffer);
-    objects.put_entries(&mut out, cluster, coded, log, from, log.len())?;
+    let range = LogRange {
+        log,
+        from,
+        end: log.len(),
+    };
+    objects.put_entries(&mut out, cluster, coded, range)?;
     match out.finish() {
         Ok(()) => Ok(text),
         Err(_) => Err(AllocError),

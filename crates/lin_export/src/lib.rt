@@ -63,7 +63,7 @@ pub use first_slots::write_first_slots;
 pub use json::{
     Member, put_first, put_key, put_member, put_members, put_printable, put_separator, put_type,
 };
-pub use jsonl::{Counts, ObjectTrack, Opening, Unmet, objects_text, put_run, write_run};
+pub use jsonl::{Counts, LogRange, ObjectTrack, Opening, Unmet, objects_text, put_run, write_run};
 pub use last_slot::{LastSlot, put_last_slot, put_last_slot_value};
 pub use law::{captures_what_was_seen, dumps_last_values, maps_tell_places};
 pub use line_meanings::put_line_meaning;

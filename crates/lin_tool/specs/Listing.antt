@@ -7,7 +7,7 @@ use Rattle.lin_export.specs.ListedMaps.{maps}
 use Rattle.lin_export.specs.Listing.{listing}
 use Rattle.lin_export.specs.ListedSignals.{signal_list}
 use Rattle.lin_export.specs.ListedSlots.{slots}
-use Rattle.lin_tool.specs.declared.cluster_lists.Lists.{Lists}
+use Rattle.lin_tool.specs.declared.check_lists.Lists.{Lists}
 use Rattle.lin_values.specs.Coded.{CodedData}
 
 -- the lines of frames and their places, those of frames and the signals of their bits, and those of

@@ -1,6 +1,6 @@
 //! `linsim check`: lists what a cluster has.
 
-use crate::cluster_lists::{Lists, write_lists};
+use crate::check_lists::{Lists, write_lists};
 use crate::coding::{Described, Extras};
 use crate::describing::{Reading, cluster_at, read_text};
 use crate::fault::Fault;

@@ -13,8 +13,8 @@
 mod campaign;
 mod causes;
 mod check_json;
+mod check_lists;
 mod checking;
-mod cluster_lists;
 mod coding;
 mod comparing;
 mod describing;
@@ -53,8 +53,8 @@ pub use campaign::{
     parts_are_the_whole, run_campaign,
 };
 pub use check_json::check_object;
+pub use check_lists::{Lists, write_lists};
 pub use checking::{check, check_plain};
-pub use cluster_lists::{Lists, write_lists};
 pub use coding::{Described, Encodings, Extras};
 pub use comparing::{compare, compare_script, first_difference};
 pub use describing::{

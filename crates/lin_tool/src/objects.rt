@@ -12,7 +12,7 @@ use crate::placing::within;
 use crate::tally::{unmet_in, waiting_in};
 use lin_bench::{Judgement, is_unmet};
 use lin_core::Core;
-use lin_export::{Counts, ExportFault, ObjectTrack, Opening, Unmet, put_run};
+use lin_export::{Counts, ExportFault, LogRange, ObjectTrack, Opening, Unmet, put_run};
 use lin_live::{found_text, what_text, without_space};
 use lin_parts::Cluster;
 use lin_text::{TextBuffer, TextWriter};
@@ -80,11 +80,21 @@ fn put_checked<W: Write>(
     let mut read = 0;
     for one in shown.judgements {
         let end = within(log, one.entries).max(read);
-        objects.put_entries(out, cluster, shown.coded, log, read, end)?;
+        let range = LogRange {
+            log,
+            from: read,
+            end,
+        };
+        objects.put_entries(out, cluster, shown.coded, range)?;
         put_check(out, alloc, objects, cluster, script, one)?;
         read = end;
     }
-    objects.put_entries(out, cluster, shown.coded, log, read, log.len())?;
+    let rest = LogRange {
+        log,
+        from: read,
+        end: log.len(),
+    };
+    objects.put_entries(out, cluster, shown.coded, rest)?;
     Ok(())
 }
 

@@ -41,19 +41,19 @@ loop-index-preserved c =
       slot = subst (λ l. KeepsOpenSlot c.in_ok-slot.slot l) (sym back) (c.in_ok-slot.ensures.kept past at.slot);
       begins =
           elim c.if-skip-eq0.branch [
-            then-skip-eq0+then-carries+in_ok-push w ↦
-              let zero : nat_eq skip 0 ≡ true = grind (arith, nat_tests, w.if-skip-eq0.true) in
-              let is : carries cl frame e past ≡ true = sym (w.carries.ensures past at.slot) ∙ w.if-carries.true in
-              rw w.begins-is (one-more-begin cl frame ts es i e olds w.push.new.self.items c.loop-index.time inside c.entry-entry.ensures at.begins at.time w.in_ok-push.ensures.items (after ∙ zero) is)
+            | then-skip-eq0+then-carries+in_ok-push w ↦
+                let zero : nat_eq skip 0 ≡ true = grind (arith, nat_tests, w.if-skip-eq0.true) in
+                let is : carries cl frame e past ≡ true = sym (w.carries.ensures past at.slot) ∙ w.if-carries.true in
+                rw w.begins-is (one-more-begin cl frame ts es i e olds w.push.new.self.items c.loop-index.time inside c.entry-entry.ensures at.begins at.time w.in_ok-push.ensures.items (after ∙ zero) is)
             | else-skip-eq0 w ↦
-              rw w.begins-is
-              (elim w.else-skip-eq0.branch [
-                else-skip-eq0-via-then-skip-eq0+else-carries v ↦
-                  let is : carries cl frame e past ≡ false = sym (v.carries.ensures past at.slot) ∙ v.if-carries.false in
-                  no-more-begin cl frame ts es i e olds inside c.entry-entry.ensures at.begins (not-carried (is_after_forget ts past) (carries cl frame e past) is)
-                | else-skip-eq0-via-else-skip-eq0 v ↦
-                  let some : nat_eq skip 0 ≡ false = grind (arith, nat_tests, v.if-skip-eq0.false) in
-                  no-more-begin cl frame ts es i e olds inside c.entry-entry.ensures at.begins (not-after (is_after_forget ts past) (carries cl frame e past) (after ∙ some))
-              ])
+                rw w.begins-is
+                (elim w.else-skip-eq0.branch [
+                  | else-skip-eq0-via-then-skip-eq0+else-carries v ↦
+                      let is : carries cl frame e past ≡ false = sym (v.carries.ensures past at.slot) ∙ v.if-carries.false in
+                      no-more-begin cl frame ts es i e olds inside c.entry-entry.ensures at.begins (not-carried (is_after_forget ts past) (carries cl frame e past) is)
+                  | else-skip-eq0-via-else-skip-eq0 v ↦
+                      let some : nat_eq skip 0 ≡ false = grind (arith, nat_tests, v.if-skip-eq0.false) in
+                      no-more-begin cl frame ts es i e olds inside c.entry-entry.ensures at.begins (not-after (is_after_forget ts past) (carries cl frame e past) (after ∙ some))
+                ])
           ];
     }

@@ -15,38 +15,38 @@ same-before es i end h = ap (λ (l : List LogEntry). reverse l) (take-take i end
 
 pub loop-index-init : goal.loop-index-init
 loop-index-init g c =
-    let es = c.args.log.now.entries in
+    let es = c.args.range.log.now.entries in
     record {
       told = ([], grows-nothing c.args.out.now, refl);
-      kept = subst (λ (l : List LogEntry). IsObjectTrackOf c.args.cluster.now l c.args.self.now) (sym (same-before es c.args.from c.args.end c.requires.order)) c.requires.track;
+      kept = subst (λ (l : List LogEntry). IsObjectTrackOf c.args.cluster.now l c.args.self.now) (sym (same-before es c.args.range.from c.args.range.end c.requires.order)) c.requires.track;
     }
 
 pub put_entry-requires : goal.put_entry-requires
 put_entry-requires g c =
-    let es = c.args.log.now.entries in
-    (early c.args.cluster.now c.sound.ensures.rules (take c.args.end es) c.loop-index.index c.loop-index.self.track c.loop-index.invariant.kept.track (omega (arith, length-take-le c.args.end es c.requires.there))).0
+    let es = c.args.range.log.now.entries in
+    (early c.args.cluster.now c.sound.ensures.rules (take c.args.range.end es) c.loop-index.index c.loop-index.self.track c.loop-index.invariant.kept.track (omega (arith, length-take-le c.args.range.end es c.requires.there))).0
 
 pub follow-requires-clause-time : goal.follow-requires-clause-time
 follow-requires-clause-time g c =
-    let es = c.args.log.now.entries in
-    (early c.args.cluster.now c.sound.ensures.rules (take c.args.end es) c.loop-index.index c.loop-index.self.track c.loop-index.invariant.kept.track (omega (arith, length-take-le c.args.end es c.requires.there))).0
+    let es = c.args.range.log.now.entries in
+    (early c.args.cluster.now c.sound.ensures.rules (take c.args.range.end es) c.loop-index.index c.loop-index.self.track c.loop-index.invariant.kept.track (omega (arith, length-take-le c.args.range.end es c.requires.there))).0
 
 pub follow-requires-clause-slots : goal.follow-requires-clause-slots
 follow-requires-clause-slots g c =
-    let es = c.args.log.now.entries in
-    (early c.args.cluster.now c.sound.ensures.rules (take c.args.end es) c.loop-index.index c.loop-index.self.track c.loop-index.invariant.kept.track (omega (arith, length-take-le c.args.end es c.requires.there))).1
+    let es = c.args.range.log.now.entries in
+    (early c.args.cluster.now c.sound.ensures.rules (take c.args.range.end es) c.loop-index.index c.loop-index.self.track c.loop-index.invariant.kept.track (omega (arith, length-take-le c.args.range.end es c.requires.there))).1
 
 pub loop-index-preserved : goal.loop-index-preserved
 loop-index-preserved g c =
     let x = c.args.cluster.now in
     let k = given_coding c.args.coded in
-    let es = take c.args.end c.args.log.now.entries in
+    let es = take c.args.range.end c.args.range.log.now.entries in
     let i = c.loop-index.index in
     let e = c.entry-entry.result.now in
     let past : List LogEntry = before es i in
     let v = c.loop-index.invariant in
-    let here = c.entry-entry.ensures ∙ sym (get_or-take c.args.end c.args.log.now.entries i e (omega arith)) in
-    let room = length-take-le c.args.end c.args.log.now.entries c.requires.there in
+    let here = c.entry-entry.ensures ∙ sym (get_or-take c.args.range.end c.args.range.log.now.entries i e (omega arith)) in
+    let room = length-take-le c.args.range.end c.args.range.log.now.entries c.requires.there in
     let next : before es (i + 1) ≡ e ∷ past = before-next es i e here (omega (arith, room)) in
     record {
       told = (
@@ -62,14 +62,14 @@ pub returns-in_err-follow-clause-text : goal.returns-in_err-follow-clause-text
 returns-in_err-follow-clause-text g c =
     let x = c.args.cluster.now in
     let k = given_coding c.args.coded in
-    let es = take c.args.end c.args.log.now.entries in
+    let es = take c.args.range.end c.args.range.log.now.entries in
     let i = c.loop-index.index in
     let e = c.entry-entry.result.now in
     let past : List LogEntry = before es i in
     let v = c.loop-index.invariant in
-    let here = c.entry-entry.ensures ∙ sym (get_or-take c.args.end c.args.log.now.entries i e (omega arith)) in
-    let room = length-take-le c.args.end c.args.log.now.entries c.requires.there in
-    let start = ap (λ (l : List LogEntry). objects_of x k l (drop c.args.from es)) (sym (same-before c.args.log.now.entries c.args.from c.args.end c.requires.order)) in
+    let here = c.entry-entry.ensures ∙ sym (get_or-take c.args.range.end c.args.range.log.now.entries i e (omega arith)) in
+    let room = length-take-le c.args.range.end c.args.range.log.now.entries c.requires.there in
+    let start = ap (λ (l : List LogEntry). objects_of x k l (drop c.args.range.from es)) (sym (same-before c.args.range.log.now.entries c.args.range.from c.args.range.end c.requires.order)) in
     puts-some (objects_of x k (e ∷ past) (drop (i + 1) es)) c.from_residual.ensures.0
     (start ∙ sym (next-put (entry_objects x k) es i e v.told.0 _ here (omega (arith, room)) v.told.2))
     (grows-more v.told.1 (c.put_entry.ensures past v.kept))
@@ -78,14 +78,14 @@ pub returns : goal.returns
 returns g c =
     let x = c.args.cluster.now in
     let k = given_coding c.args.coded in
-    let all = c.args.log.now.entries in
-    let es = take c.args.end all in
+    let all = c.args.range.log.now.entries in
+    let es = take c.args.range.end all in
     let i = c.loop-index.index in
     let v = c.loop-index.invariant in
-    let room = length-take-le c.args.end all c.requires.there in
+    let room = length-take-le c.args.range.end all c.requires.there in
     let whole : before es i ≡ reverse es = ap (λ (l : List LogEntry). reverse l) (take_all i es (omega (arith, room))) in
     let none : drop i es ≡ [] = drop_all i es (omega (arith, room)) in
-    let start = ap (λ (l : List LogEntry). objects_of x k l (drop c.args.from es)) (same-before all c.args.from c.args.end c.requires.order) in
+    let start = ap (λ (l : List LogEntry). objects_of x k l (drop c.args.range.from es)) (same-before all c.args.range.from c.args.range.end c.requires.order) in
     record {
       text = puts-all (sym (append-nil v.told.0) ∙ ap (λ (l : List LogEntry). v.told.0 ++ objects_of x k (before es i) l) (sym none) ∙ v.told.2 ∙ start) v.told.1;
       track = subst (λ (l : List LogEntry). IsObjectTrackOf x l c.loop-index.self) whole v.kept;

@@ -9,7 +9,7 @@ use Rattle.lin_export.proofs.jsonl.ObjectTrack.put_entries.Given as goal
 abbrev pub invariant-loop-index : goal.invariant-loop-index
 invariant-loop-index g l = record {
   told : (put : List ℕ) × Grows g.W.Write.contents l.initial.out l.out put
-      × (put ++ objects_of l.fn.cluster (given_coding l.fn.coded) (before (take l.fn.end l.fn.log.entries) l.index) (drop l.index (take l.fn.end l.fn.log.entries))
-      ≡ objects_of l.fn.cluster (given_coding l.fn.coded) (before (take l.fn.end l.fn.log.entries) l.fn.from) (drop l.fn.from (take l.fn.end l.fn.log.entries)));
-  kept : IsObjectTrackOf l.fn.cluster (before (take l.fn.end l.fn.log.entries) l.index) l.self;
+      × (put ++ objects_of l.fn.cluster (given_coding l.fn.coded) (before (take l.fn.range.end l.fn.range.log.now.entries) l.index) (drop l.index (take l.fn.range.end l.fn.range.log.now.entries))
+      ≡ objects_of l.fn.cluster (given_coding l.fn.coded) (before (take l.fn.range.end l.fn.range.log.now.entries) l.fn.range.from) (drop l.fn.range.from (take l.fn.range.end l.fn.range.log.now.entries)));
+  kept : IsObjectTrackOf l.fn.cluster (before (take l.fn.range.end l.fn.range.log.now.entries) l.index) l.self;
 }

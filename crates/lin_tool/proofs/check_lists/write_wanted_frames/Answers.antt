@@ -1,5 +1,5 @@
 use Rattle.lin_export.proofs.Puttings.{writes-nothing}
-use Rattle.lin_tool.proofs.cluster_lists.write_wanted_frames.Goals as goal
+use Rattle.lin_tool.proofs.check_lists.write_wanted_frames.Goals as goal
 
 pub returns-then-is_wanted : goal.returns-then-is_wanted
 returns-then-is_wanted g c = rw c.if-is_wanted.true c.write_frames.ensures

@@ -2,7 +2,7 @@ use Rattle.std.proofs.Common.{◌++◌, append_assoc, ap, option_map, refl, ◌�
 use Rattle.lin_export.proofs.Puttings.{writes-more, written-short}
 use Rattle.lin_export.specs.Listing.{listing}
 use Rattle.lin_tool.specs.Listing.{listed_frames, listed_maps, listed_signals, listed_slots}
-use Rattle.lin_tool.proofs.cluster_lists.write_lists.Goals as goal
+use Rattle.lin_tool.proofs.check_lists.write_lists.Goals as goal
 
 pub returns-in_err-write_list : goal.returns-in_err-write_list
 returns-in_err-write_list g c =
