@@ -14,7 +14,7 @@ use Rattle.lin_sections.specs.NewNames.{alone, is_among}
 use Rattle.lin_sections.specs.Renames.{signal_key}
 use Rattle.lin_sections.specs.Numbering.{ArePlaces}
 use Rattle.lin_sections.specs.SignalPlaces.{number_among, places_under, with_place, without_places, ArePlacesOf}
-use Rattle.lin_sections.specs.declared.diff.signals.Places.{Places}
+use Rattle.lin_sections.specs.declared.diff.signal_facts.Places.{Places}
 use Rattle.lin_sections.proofs.Found.{mapped-length}
 use Rattle.lin_sections.specs.SortedTexts.{insert_text}
 

@@ -3,8 +3,8 @@ use Rattle.std.specs.Prelude.{◌≡◌, ℕ, List}
 use Rattle.lin_cluster.specs.Names.{NumbersFirst}
 use Rattle.lin_sections.specs.NewNames.{has_in}
 use Rattle.lin_sections.specs.Things.{is_event_member, IsReadOf}
-use Rattle.lin_sections.specs.declared.diff.frames.FrameLookups.{FrameLookups}
-use Rattle.lin_sections.specs.declared.diff.nodes.Blocks.{Blocks}
+use Rattle.lin_sections.specs.declared.diff.frame_facts.FrameLookups.{FrameLookups}
+use Rattle.lin_sections.specs.declared.diff.node_facts.Blocks.{Blocks}
 
 -- the attributes of nodes, by the names of the nodes
 pub record AreBlocks (b : Blocks) : Type 0 where

@@ -30,7 +30,7 @@ use Rattle.lin_sections.specs.declared.diff.fact.Fact.{Fact}
 use Rattle.lin_sections.specs.declared.diff.new_names.Keyed.{Keyed}
 use Rattle.lin_sections.specs.declared.diff.renames.Ldfs.{Ldfs}
 use Rattle.lin_sections.specs.declared.diff.renames.Renames.{Renames}
-use Rattle.lin_sections.specs.declared.diff.tables.TableLines.{TableLines}
+use Rattle.lin_sections.specs.declared.diff.table_facts.TableLines.{TableLines}
 
 abbrev pub number_key : Name → Number → KeyedName
 number_key name id = record { name = name.text; key = decimal id.value }

@@ -11,7 +11,7 @@ use Rattle.lin_sections.specs.SortedTexts.{insert_text}
 use Rattle.lin_sections.specs.Things.{ComparedData}
 use Rattle.lin_sections.specs.declared.diff.new_names.Keyed.{Keyed}
 use Rattle.lin_sections.specs.declared.diff.new_names.KnownNames.{KnownNames}
-use Rattle.lin_sections.specs.declared.diff.signals.Places.{Places}
+use Rattle.lin_sections.specs.declared.diff.signal_facts.Places.{Places}
 
 -- the number of a name among names, and the places with it
 abbrev pub number_among : List (List ℕ) → List ℕ → ℕ

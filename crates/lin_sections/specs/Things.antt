@@ -66,7 +66,7 @@ use Rattle.lin_sections.specs.declared.diff.fact.Class.TheVariants as classes
 use Rattle.lin_sections.specs.declared.diff.fact.EntryFact.{EntryFact}
 use Rattle.lin_sections.specs.declared.diff.fact.Fact.{Fact}
 use Rattle.lin_sections.specs.declared.diff.fact.ThingKind.TheVariants as things
-use Rattle.lin_sections.specs.declared.diff.tables.TableLines.{TableLines}
+use Rattle.lin_sections.specs.declared.diff.table_facts.TableLines.{TableLines}
 use Rattle.lin_sections.specs.declared.diff.fact.Thing.{Thing}
 
 -- an LDF: the tokens of its text, its description, the cluster that it describes, its encodings, and the load of

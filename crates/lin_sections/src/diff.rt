@@ -8,22 +8,22 @@ ghost use Rattle.lin_sections.specs.Things.{all_things, compared_data, IsReadOf}
 mod chain;
 mod compared;
 mod difference;
-mod encodings;
+mod encoding_facts;
 mod entry_pairs;
 mod fact;
 mod fact_pairs;
 mod fact_text;
-mod frames;
-mod header;
+mod frame_facts;
+mod header_facts;
 mod index;
 mod lines;
 mod new_names;
-mod nodes;
+mod node_facts;
 mod numbering;
 mod renames;
-mod signals;
+mod signal_facts;
 mod sorted;
-mod tables;
+mod table_facts;
 mod thing_pairs;
 mod tokens;
 
@@ -50,16 +50,16 @@ fn things_of<'a>(
         ≡ all_things (compared_data facts.now.ldf) (renames_data renames.now)) }
 {
     let mut headers = Vec::new(alloc);
-    headers.push(header::thing(alloc, facts)?)?;
+    headers.push(header_facts::thing(alloc, facts)?)?;
     let mut kinds = Vec::new(alloc);
     kinds.push(Many::new(headers))?;
-    kinds.push(Many::new(nodes::things(alloc, facts, renames)?))?;
-    kinds.push(Many::new(signals::things(alloc, facts, renames)?))?;
-    kinds.push(Many::new(frames::things(alloc, facts, renames)?))?;
-    kinds.push(Many::new(frames::sporadic_things(alloc, facts, renames)?))?;
-    kinds.push(Many::new(frames::event_things(alloc, facts, renames)?))?;
-    kinds.push(Many::new(tables::things(alloc, facts, renames)?))?;
-    kinds.push(Many::new(encodings::things(alloc, facts, renames)?))?;
+    kinds.push(Many::new(node_facts::things(alloc, facts, renames)?))?;
+    kinds.push(Many::new(signal_facts::things(alloc, facts, renames)?))?;
+    kinds.push(Many::new(frame_facts::things(alloc, facts, renames)?))?;
+    kinds.push(Many::new(frame_facts::sporadic_things(alloc, facts, renames)?))?;
+    kinds.push(Many::new(frame_facts::event_things(alloc, facts, renames)?))?;
+    kinds.push(Many::new(table_facts::things(alloc, facts, renames)?))?;
+    kinds.push(Many::new(encoding_facts::things(alloc, facts, renames)?))?;
     Ok(kinds)
 }
 

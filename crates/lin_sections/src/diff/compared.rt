@@ -7,7 +7,7 @@ ghost use Rattle.lin_sections.specs.Attributes.{node_attributes};
 ghost use Rattle.lin_sections.specs.Things.{IsReadOf};
 
 use crate::attribute_blocks::{Attribute, NodeAttributes, read_attributes};
-use crate::diff::encodings::first_types;
+use crate::diff::encoding_facts::first_types;
 use crate::diff::tokens::header_lines;
 use crate::mentioned::mentions;
 use lin_cluster::numbers_of;

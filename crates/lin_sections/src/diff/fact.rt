@@ -9,7 +9,7 @@ ghost use Rattle.lin_sections.specs.NewNames.{known_by, name_in};
 use crate::diff::fact_text::FactText;
 use crate::diff::index::Identified;
 use crate::diff::new_names::NewNames;
-use crate::diff::nodes::place_of;
+use crate::diff::node_facts::place_of;
 use crate::diff::numbering::Repeatable;
 use lin_parts::Location;
 use lin_parts::description::Name;

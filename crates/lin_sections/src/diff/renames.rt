@@ -13,7 +13,7 @@ ghost use Rattle.lin_sections.specs.NewNames.{AddsNames};
 
 use crate::diff::compared::LdfFacts;
 use crate::diff::new_names::{Keyed, NewNames};
-use crate::diff::{encodings, frames, nodes, signals, tables};
+use crate::diff::{encoding_facts, frame_facts, node_facts, signal_facts, table_facts};
 use lin_cluster::Named;
 use std::alloc::{AllocError, Global};
 
@@ -94,8 +94,8 @@ impl<'a> Renames<'a> {
         ensures { OnOk result (RenamesBy with_node_names ldfs.entry self.old self.new) }
     {
         let Ldfs { old, new, .. } = ldfs;
-        let olds = nodes::keys(alloc, old, new)?;
-        let news = nodes::keys(alloc, new, old)?;
+        let olds = node_facts::keys(alloc, old, new)?;
+        let news = node_facts::keys(alloc, new, old)?;
         self.nodes
             .add_renamed(alloc, olds.as_slice(), news.as_slice())?;
         let description = old.ldf.description;
@@ -107,8 +107,8 @@ impl<'a> Renames<'a> {
         ensures { OnOk result (RenamesBy with_frame_names ldfs.entry self.old self.new) }
     {
         let Ldfs { old, new, .. } = ldfs;
-        let olds = frames::keys(alloc, old, new)?;
-        let news = frames::keys(alloc, new, old)?;
+        let olds = frame_facts::keys(alloc, old, new)?;
+        let news = frame_facts::keys(alloc, new, old)?;
         add_names(
             alloc,
             &mut self.frames,
@@ -122,8 +122,8 @@ impl<'a> Renames<'a> {
         ensures { OnOk result (RenamesBy with_event_names ldfs.entry self.old self.new) }
     {
         let Ldfs { old, new, .. } = ldfs;
-        let olds = frames::event_keys(alloc, old, new)?;
-        let news = frames::event_keys(alloc, new, old)?;
+        let olds = frame_facts::event_keys(alloc, old, new)?;
+        let news = frame_facts::event_keys(alloc, new, old)?;
         add_names(
             alloc,
             &mut self.frames,
@@ -138,8 +138,8 @@ impl<'a> Renames<'a> {
         ensures { OnOk result (RenamesBy with_signal_names ldfs.entry self.old self.new) }
     {
         let Ldfs { old, new, none } = ldfs;
-        let olds = signals::keys(alloc, old, new, self)?;
-        let news = signals::keys(alloc, new, old, none)?;
+        let olds = signal_facts::keys(alloc, old, new, self)?;
+        let news = signal_facts::keys(alloc, new, old, none)?;
         add_names(
             alloc,
             &mut self.signals,
@@ -154,8 +154,8 @@ impl<'a> Renames<'a> {
         ensures { OnOk result (RenamesBy with_sporadic_names ldfs.entry self.old self.new) }
     {
         let Ldfs { old, new, none } = ldfs;
-        let olds = frames::sporadic_keys(alloc, old, new, self)?;
-        let news = frames::sporadic_keys(alloc, new, old, none)?;
+        let olds = frame_facts::sporadic_keys(alloc, old, new, self)?;
+        let news = frame_facts::sporadic_keys(alloc, new, old, none)?;
         add_names(
             alloc,
             &mut self.frames,
@@ -170,8 +170,8 @@ impl<'a> Renames<'a> {
         ensures { OnOk result (RenamesBy with_table_names ldfs.entry self.old self.new) }
     {
         let Ldfs { old, new, none } = ldfs;
-        let olds = tables::keys(alloc, old, new, self)?;
-        let news = tables::keys(alloc, new, old, none)?;
+        let olds = table_facts::keys(alloc, old, new, self)?;
+        let news = table_facts::keys(alloc, new, old, none)?;
         add_names(
             alloc,
             &mut self.tables,
@@ -187,8 +187,8 @@ impl<'a> Renames<'a> {
         ensures { OnOk result (RenamesBy with_encoding_names ldfs.entry self.old self.new) }
     {
         let Ldfs { old, new, .. } = ldfs;
-        let olds = encodings::keys(alloc, old, new)?;
-        let news = encodings::keys(alloc, new, old)?;
+        let olds = encoding_facts::keys(alloc, old, new)?;
+        let news = encoding_facts::keys(alloc, new, old)?;
         add_names(
             alloc,
             &mut self.encodings,

@@ -1,9 +1,0 @@
-use Rattle.std.proofs.Common.{◌≡◌, take}
-use Rattle.lin_sections.specs.FactTexts.{with_spaces}
-use Rattle.lin_sections.specs.NewNames.{renames_data}
-use Rattle.lin_sections.specs.Things.{member_names}
-use Rattle.lin_sections.proofs.diff.frames.member_names.Given as goal
-
-abbrev pub invariant-loop-member : goal.invariant-loop-member
-invariant-loop-member l =
-    l.text.items ≡ with_spaces (member_names (renames_data l.renames) (take l.member-index l.members))
