@@ -13,7 +13,7 @@ use Rattle.lin_sections.specs.Configured.{with_attribute, listed_names, with_fra
 use Rattle.lin_sections.specs.Configured as configured
 use Rattle.lin_sections.specs.Mentioned.{has_word}
 use Rattle.lin_sections.specs.Passed.{behind_line, behind_group}
-use Rattle.lin_sections.specs.Reading.{with_types, with_lines, nothing_read, codings_up_to}
+use Rattle.lin_sections.specs.Reading.{nothing_read, codings_up_to}
 use Rattle.lin_sections.specs.Reading as reading
 use Rattle.lin_values.specs.declared.codings.Codings.{Codings}
 use Rattle.lin_sections.proofs.Repeating.{steps-hold}

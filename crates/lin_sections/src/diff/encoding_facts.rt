@@ -3,7 +3,7 @@
 ghost use Rattle.std.specs.Prelude.{◌≡◌, ◌++◌, ◌∷◌, ◌≤◌, [], IfOk, OnOk, fold, length, map, take};
 ghost use Rattle.lin_cluster.specs.Names.{NumbersFirst};
 ghost use Rattle.lin_sections.specs.FactTexts.{with_word};
-ghost use Rattle.lin_sections.specs.NewNames.{alone, has_in, keyed_name, renames_data};
+ghost use Rattle.lin_sections.specs.NewNames.{renames_data};
 ghost use Rattle.lin_sections.specs.Renames.{all_encoding_names, encoding_key, encoding_keys, with_item};
 ghost use Rattle.lin_values.specs.Shown.{decimal_shown};
 ghost use Rattle.lin_sections.specs.Things.{compared_data, encoding_items, encoding_thing, first_type, first_types};

@@ -3,8 +3,8 @@
 ghost use Rattle.std.specs.Prelude.{◌≡◌, ◌++◌, ◌∷◌, ◌==◌, ◌&&◌, ◌||◌, [], ℕ, Bool, false, IfOk, List, OnOk, flat_map, map, option_map, slice_index_or};
 ghost use Rattle.std.specs.List.{range_with_len};
 ghost use Rattle.std.specs.Option.{option_copied, option_map_or};
-ghost use Rattle.lin_sections.specs.Differences.{delay_difference, difference_data, differences_data, entry_difference, moved_entries, new_entry};
-ghost use Rattle.lin_sections.specs.Differences.{place_of_entry, old_entry, old_places, pair_differences, was_moved};
+ghost use Rattle.lin_sections.specs.Differences.{delay_difference, difference_data, entry_difference, moved_entries, new_entry};
+ghost use Rattle.lin_sections.specs.Differences.{old_entry, old_places, pair_differences, was_moved};
 ghost use Rattle.lin_sections.specs.declared.diff.fact.EntryFact.{EntryFact};
 ghost use Rattle.lin_sections.specs.Numbering.{entry_id, ArePlaces};
 ghost use Rattle.lin_sections.specs.Differences.{AddsDifferences};

@@ -1,9 +1,9 @@
 //! The differences between the facts of a thing in two LDFs.
 
-ghost use Rattle.std.specs.Prelude.{◌≡◌, ◌++◌, false, IfOk, IfSome, OnOk, flat_map, map, option_map};
+ghost use Rattle.std.specs.Prelude.{◌≡◌, false, IfOk, IfSome, OnOk, flat_map, map, option_map};
 ghost use Rattle.std.specs.List.{list_any};
 ghost use Rattle.std.specs.Option.{option_copied, option_map_or};
-ghost use Rattle.lin_sections.specs.Differences.{class_of_new, difference_data, differences_data, fact_difference, fact_with, new_fact, old_fact};
+ghost use Rattle.lin_sections.specs.Differences.{class_of_new, difference_data, fact_difference, fact_with, new_fact, old_fact};
 ghost use Rattle.lin_sections.specs.Facts.{overlap};
 ghost use Rattle.lin_sections.specs.Numbering.{ArePlaces};
 ghost use Rattle.std.specs.Str.{bytes_eq};

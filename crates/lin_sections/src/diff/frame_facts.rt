@@ -1,11 +1,11 @@
 //! The facts of frames: unconditional, sporadic and event-triggered ones.
 
-ghost use Rattle.std.specs.Prelude.{◌≡◌, ◌++◌, ◌∷◌, [], IfOk, OnOk, List, ℕ, if◌then◌else◌, map, option_map};
+ghost use Rattle.std.specs.Prelude.{◌≡◌, ◌++◌, ◌∷◌, [], IfOk, OnOk, List, ℕ, map, option_map};
 ghost use Rattle.lin_cluster.specs.FindingsNames.{signal_named};
 ghost use Rattle.lin_cluster.specs.LintNames.{has_dot};
 ghost use Rattle.lin_sections.specs.FactTexts.{with_spaces};
 ghost use Rattle.lin_sections.specs.Lookups.{AreFrameLookups};
-ghost use Rattle.lin_sections.specs.NewNames.{alone, has_in, keyed_name, renames_data};
+ghost use Rattle.lin_sections.specs.NewNames.{has_in, renames_data};
 ghost use Rattle.lin_sections.specs.Renames.{all_event_names, all_frame_names, all_sporadic_names};
 ghost use Rattle.lin_sections.specs.Renames.{event_keys, frame_keys, number_key, sporadic_keys, sporadic_key};
 ghost use Rattle.lin_sections.specs.SortedTexts.{sorted_texts};

@@ -2,7 +2,6 @@
 
 ghost use Rattle.std.specs.Prelude.{◌≡◌, ◌++◌, ◌∷◌, [], IfOk, OnOk, filter, find, if◌then◌else◌, map};
 ghost use Rattle.std.specs.Option.{option_copied};
-ghost use Rattle.lin_ldf.specs.Forms.{has_front};
 ghost use Rattle.lin_ldf.specs.Words.{is_word_next};
 ghost use Rattle.lin_sections.specs.Facts.{place_of_number};
 ghost use Rattle.lin_sections.specs.Things.{compared_data, header_facts, header_thing, is_other_line};

@@ -1,10 +1,9 @@
 //! The names of the old LDF's things in the new LDF.
 
 ghost use Rattle.std.specs.Prelude.{◌≡◌, ◌||◌, ℕ, IfOk, List, OnOk, Some, None, false, if◌then◌else◌, map, option_map};
-ghost use Rattle.std.specs.Option.{option_or};
 ghost use Rattle.std.specs.Str.{bytes_eq};
 ghost use Rattle.lin_sections.specs.NewNames.{has_in, is_among, keyed_name, known_by, name_in, new_name_of};
-ghost use Rattle.lin_sections.specs.NewNames.{only_in, only_with, renamed_in, stays, KeyedName};
+ghost use Rattle.lin_sections.specs.NewNames.{only_in, renamed_in, stays, KeyedName};
 ghost use Rattle.lin_sections.specs.NewNames.{HasOnly, only_after, AddsNames};
 
 use crate::diff::fact_text::FactText;

@@ -1,15 +1,13 @@
 //! The facts of nodes.
 
-ghost use Rattle.std.specs.Prelude.{◌≡◌, ◌++◌, ◌∷◌, [], IfOk, List, ℕ, OnOk, if◌then◌else◌, filter, find, flat_map, map, option_map};
-ghost use Rattle.std.specs.Option.{option_copied};
+ghost use Rattle.std.specs.Prelude.{◌≡◌, ◌++◌, ◌∷◌, [], IfOk, List, ℕ, OnOk, filter, find, map, option_map};
 ghost use Rattle.lin_cluster.specs.FindingsNames.{same_name};
 ghost use Rattle.lin_cluster.specs.Models.{block_named};
-ghost use Rattle.lin_ldf.specs.Forms.{front};
 ghost use Rattle.lin_ldf.specs.Words.{place_of};
 ghost use Rattle.lin_sections.specs.Attributes.{node_attributes};
-ghost use Rattle.lin_sections.specs.Facts.{fact, place_of_name};
+ghost use Rattle.lin_sections.specs.Facts.{place_of_name};
 ghost use Rattle.lin_sections.specs.Lookups.{AreBlocks};
-ghost use Rattle.lin_sections.specs.NewNames.{alone, has_in, is_among, keyed_name, renames_data};
+ghost use Rattle.lin_sections.specs.NewNames.{has_in, is_among, renames_data};
 ghost use Rattle.lin_sections.specs.Renames.{commander_key, node_keys, all_node_names, responder_keys};
 ghost use Rattle.lin_sections.specs.Things.{attribute_fact, attribute_facts, commander_thing, compared_data};
 ghost use Rattle.lin_sections.specs.Things.{is_other_attribute, nad_facts, nad_of, node_facts, node_thing};

@@ -1,9 +1,8 @@
 //! The things that have another name in the new LDF. They are found kind by kind, because the key of a
 //! thing contains the new names of things of earlier kinds.
 
-ghost use Rattle.std.specs.Prelude.{◌≡◌, ℕ, IfOk, List, OnOk};
-ghost use Rattle.std.specs.Option.{option_or};
-ghost use Rattle.lin_sections.specs.NewNames.{any_name, keyed_names, known_by, new_names, no_renames};
+ghost use Rattle.std.specs.Prelude.{◌≡◌, IfOk, OnOk};
+ghost use Rattle.lin_sections.specs.NewNames.{any_name, keyed_names, new_names, no_renames};
 ghost use Rattle.lin_sections.specs.NewNames.{renames_data};
 ghost use Rattle.lin_sections.specs.Renames.{name_texts, RenamesBy};
 ghost use Rattle.lin_sections.specs.Renames.{all_renames, with_encoding_names, with_event_names, with_frame_names};

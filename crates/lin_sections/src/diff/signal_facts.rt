@@ -1,13 +1,12 @@
 //! The facts of signals.
 
-ghost use Rattle.std.specs.Prelude.{◌≡◌, ◌++◌, ◌∷◌, [], IfOk, OnOk, List, ℕ, filter, fold, length, map, not, option_map};
+ghost use Rattle.std.specs.Prelude.{◌≡◌, ◌++◌, ◌∷◌, [], IfOk, OnOk, List, ℕ, fold, length, map, option_map};
 ghost use Rattle.std.specs.Prelude.{false, true};
 ghost use Rattle.std.specs.List.{list_any};
-ghost use Rattle.lin_sections.specs.NewNames.{alone, has_in, is_among, keyed_name, renames_data};
+ghost use Rattle.lin_sections.specs.NewNames.{keyed_name, renames_data};
 ghost use Rattle.lin_sections.specs.Numbering.{ArePlaces};
-ghost use Rattle.lin_sections.specs.Renames.{all_places, place_text, signal_key, signal_keys, all_signal_names};
+ghost use Rattle.lin_sections.specs.Renames.{place_text, signal_key, signal_keys, all_signal_names};
 ghost use Rattle.lin_sections.specs.SignalPlaces.{alone_names, number_among, with_places_in, with_place, without_places, ArePlacesOf, NumbersAlone};
-ghost use Rattle.lin_sections.specs.SortedTexts.{insert_text};
 ghost use Rattle.lin_sections.specs.Things.{array_text, compared_data, encoding_facts, encoding_of};
 ghost use Rattle.lin_sections.specs.Things.{initial_fact, is_subscriber, signal_thing, size_text};
 ghost use Rattle.lin_sections.specs.Things.{value_facts, with_subscriber, IsReadOf};

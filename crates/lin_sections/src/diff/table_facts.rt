@@ -1,13 +1,11 @@
 //! The facts of schedule tables, and their entries.
 
-ghost use Rattle.std.specs.Prelude.{◌≡◌, ◌++◌, ◌∷◌, [], IfOk, OnOk, List, ℕ, flat_map, map, option_map};
+ghost use Rattle.std.specs.Prelude.{◌≡◌, ◌++◌, [], IfOk, OnOk, flat_map, map};
 ghost use Rattle.std.specs.List.{list_any};
-ghost use Rattle.std.specs.Option.{option_map_or};
 ghost use Rattle.lin_cluster.specs.Names.{NumbersFirst};
 ghost use Rattle.lin_ldf.specs.Stream.{start_of};
 ghost use Rattle.lin_ldf.specs.Symbols.{symbols_in};
-ghost use Rattle.lin_sections.specs.Facts.{place_of_name};
-ghost use Rattle.lin_sections.specs.NewNames.{alone, has_in, keyed_name, renames_data};
+ghost use Rattle.lin_sections.specs.NewNames.{renames_data};
 ghost use Rattle.lin_sections.specs.Numbering.{numbered_entries};
 ghost use Rattle.lin_sections.specs.Renames.{all_table_names, table_keys, table_keys_of, words_key};
 ghost use Rattle.lin_sections.specs.Statements.{statements};

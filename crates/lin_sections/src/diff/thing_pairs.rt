@@ -1,6 +1,6 @@
 //! The differences between two LDFs, thing by thing.
 
-ghost use Rattle.std.specs.Prelude.{◌≡◌, ◌++◌, IfOk, OnOk, flat_map, map};
+ghost use Rattle.std.specs.Prelude.{◌≡◌, IfOk, OnOk, flat_map, map};
 ghost use Rattle.lin_sections.specs.Differences.{all_differences, differences_data, kind_differences, new_thing, old_thing, thing_differences};
 ghost use Rattle.lin_sections.specs.Numbering.{ArePlaces};
 ghost use Rattle.lin_sections.specs.Differences.{AddsDifferences};
@@ -9,7 +9,7 @@ use crate::diff::difference::{Difference, named, thing_difference};
 use crate::diff::entry_pairs::add_entries;
 use crate::diff::fact::{Class, Thing};
 use crate::diff::fact_pairs::{add_new_facts, add_old_facts};
-use crate::diff::index::{Identified, Index};
+use crate::diff::index::Index;
 use lin_text::Many;
 use std::alloc::{AllocError, Global};
 
