@@ -11,7 +11,7 @@ ghost use Rattle.lin_sections.specs.FactTexts.{with_word};
 ghost use Rattle.lin_sections.specs.NewNames.{renames_data};
 ghost use Rattle.lin_sections.specs.Texts.{shown_text};
 ghost use Rattle.lin_sections.specs.TokenTexts.{command_text, group_words, lines_of_header, number_token};
-ghost use Rattle.lin_sections.specs.TokenTexts.{spelling_of, token_text, tokens_words, words_until};
+ghost use Rattle.lin_sections.specs.TokenTexts.{spelling_of, tokens_words, words_until};
 ghost use Rattle.lin_sections.specs.TokenTexts.{value_text};
 ghost use Rattle.lin_values.specs.Spelled.{in_quotes};
 
@@ -114,25 +114,6 @@ fn ends_group(kind: TokenKind, ends_at_semicolon: bool) -> bool
     kind == TokenKind::CloseBrace || ends_at_semicolon && kind == TokenKind::Semicolon
 }
 
-/// Appends the next token.
-fn put_token<'a>(
-    text: &mut Vec<u8>,
-    parser: &Parser<'a>,
-    kind: TokenKind,
-    spelling: Spelling<'_, 'a>,
-) -> Result<(), AllocError>
-    requires { front_kind parser.now ≡ Some kind }
-    ensures { OnOk result
-        (text.new.items ≡ with_word text.old.items (token_text (spelling_of spelling.entry) (front parser.now))) }
-{
-    match kind {
-        TokenKind::Text => put_string(text, parser.alloc(), parser.text()),
-        TokenKind::Word => put_word(text, spelling.word(parser.text())),
-        TokenKind::Number if spelling.has_decimals() => put_decimal_token(text, parser),
-        _ => put_word(text, parser.text()),
-    }
-}
-
 /// Appends the next token, unless its spelling omits it.
 #[tactic(auto, using(crate::proofs::TokenSteps::putting_one))]
 fn put_next<'a>(
@@ -148,7 +129,12 @@ fn put_next<'a>(
     if spelling.leaves_out(kind) {
         return Ok(());
     }
-    put_token(text, parser, kind, spelling)
+    match kind {
+        TokenKind::Text => put_string(text, parser.alloc(), parser.text()),
+        TokenKind::Word => put_word(text, spelling.word(parser.text())),
+        TokenKind::Number if spelling.has_decimals() => put_decimal_token(text, parser),
+        _ => put_word(text, parser.text()),
+    }
 }
 
 /// Appends the tokens up to the brace that closes the group, or up to a semicolon outside braces if
