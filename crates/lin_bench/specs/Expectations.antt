@@ -313,9 +313,13 @@ abbrev pub never_comes : List ℕ → Bool
 never_comes word =
     bytes_eq word (codes "done") || bytes_eq word (codes "refused") || bytes_eq word (codes "no")
 
+abbrev pub until_reason : Reason → Reason
+until_reason (UnknownExpectation fs) = UnknownUntil fs
+until_reason why = why
+
 abbrev pub as_until : Result Expected Reason → Result Expected Reason
-as_until (Err (UnknownExpectation fs)) = Err (UnknownUntil fs)
-as_until read = read
+as_until (Ok what) = Ok what
+as_until (Err why) = Err (until_reason why)
 
 -- what speaks of single events or of a step
 abbrev pub passes : List ℕ → Bool
@@ -323,9 +327,13 @@ passes word =
     bytes_eq word (codes "message") || bytes_eq word (codes "next") || bytes_eq word (codes "sent")
     || bytes_eq word (codes "lost") || bytes_eq word (codes "done") || bytes_eq word (codes "refused")
 
+abbrev pub while_reason : Reason → Reason
+while_reason (UnknownExpectation fs) = UnknownWhile fs
+while_reason why = why
+
 abbrev pub as_while : Result Expected Reason → Result Expected Reason
-as_while (Err (UnknownExpectation fs)) = Err (UnknownWhile fs)
-as_while read = read
+as_while (Ok what) = Ok what
+as_while (Err why) = Err (while_reason why)
 
 -- what is to hold, by the fields after `while`
 unfoldable pub while_form : Parts → List (List ℕ) → Result Expected Reason

@@ -758,9 +758,7 @@ pub(crate) fn until(alloc: Global, cluster: &Cluster, line: &[u8]) -> Result<Exp
         return Err(LineFault::Bad(Reason::UnknownUntil(copied(alloc, cluster, line)?)));
     }
     match of_word(alloc, cluster, line, word, rest) {
-        Err(LineFault::Bad(Reason::UnknownExpectation(fields))) => {
-            Err(LineFault::Bad(Reason::UnknownUntil(fields)))
-        }
+        Err(LineFault::Bad(why)) => Err(LineFault::Bad(why.of_until())),
         answer => answer,
     }
 }
@@ -789,9 +787,7 @@ pub(crate) fn holding(alloc: Global, cluster: &Cluster, line: &[u8]) -> Result<E
         return Err(LineFault::Bad(Reason::UnknownWhile(copied(alloc, cluster, line)?)));
     }
     match of_word(alloc, cluster, line, word, rest) {
-        Err(LineFault::Bad(Reason::UnknownExpectation(fields))) => {
-            Err(LineFault::Bad(Reason::UnknownWhile(fields)))
-        }
+        Err(LineFault::Bad(why)) => Err(LineFault::Bad(why.of_while())),
         answer => answer,
     }
 }

@@ -1,5 +1,8 @@
 //! Why a line is bad.
 
+ghost use Rattle.std.specs.Prelude.{◌≡◌};
+ghost use Rattle.lin_bench.specs.Expectations.{until_reason, while_reason};
+
 use lin_text::{Many, Text};
 
 /// The hint about the values of a signal that doesn't have a value. Of more than eight units or texts it
@@ -19,7 +22,7 @@ pub enum Hint {
 }
 
 /// Why a line of a bench script is bad. The fields are as they stand in the line.
-#[derive(Debug, Drop)]
+#[derive(Debug)]
 pub enum Reason {
     /// A port, a step, or a field of one.
     Step(lin_log::Reason),
@@ -128,4 +131,101 @@ pub enum Reason {
         text: Text,
         signal: Text,
     },
+}
+
+// Written out, so that what owns a reason lets it go in one step of its proof.
+impl Drop for Reason {
+    fn drop(self) {
+        match self {
+            Reason::Step(_field) => {}
+            Reason::NoRefusal(_field) => {}
+            Reason::NoFrame(_field) => {}
+            Reason::NoData {
+                frame: _frame,
+                bytes: _,
+            } => {}
+            Reason::NoEntry {
+                table: _table,
+                entries: _,
+            } => {}
+            Reason::NoRange(_field) => {}
+            Reason::NoTime(_field) => {}
+            Reason::TooSmall => {}
+            Reason::SlotsForm => {}
+            Reason::SlotForm(_field) => {}
+            Reason::LeaveForm => {}
+            Reason::SlotsLeaveForm => {}
+            Reason::ExpectForm => {}
+            Reason::UnknownExpectation(_field) => {}
+            Reason::UntilForm => {}
+            Reason::UnknownUntil(_field) => {}
+            Reason::WhileForm => {}
+            Reason::UnknownWhile(_field) => {}
+            Reason::WhenForm => {}
+            Reason::StateForm => {}
+            Reason::NoName(_field) => {}
+            Reason::NoResponder(_field) => {}
+            Reason::NoMessages {
+                from: _from,
+                to: _to,
+            } => {}
+            Reason::NotItsSignal {
+                node: _node,
+                signal: _signal,
+            } => {}
+            Reason::NoPattern(_field) => {}
+            Reason::LongAnswer => {}
+            Reason::TimeoutsForm => {}
+            Reason::EveryForm => {}
+            Reason::EveryStep => {}
+            Reason::ErrorsForm => {}
+            Reason::ServicesForm => {}
+            Reason::NoServices => {}
+            Reason::NoErrorSignal => {}
+            Reason::WideErrorSignal {
+                signal: _signal,
+                bits: _,
+            } => {}
+            Reason::NoDecimal(_field) => {}
+            Reason::NoWords => {}
+            Reason::WideSignal(_field) => {}
+            Reason::NoValue {
+                text: _text,
+                signal: _signal,
+                hint: _hint,
+            } => {}
+            Reason::Unmarked {
+                fields: _fields,
+                ranged: _,
+                hint: _hint,
+            } => {}
+            Reason::SeveralValues {
+                count: _,
+                text: _text,
+                signal: _signal,
+            } => {}
+        }
+    }
+}
+
+impl Reason {
+    /// The same of fields after `until`.
+    pub(crate) fn of_until(self) -> Reason
+        ensures { result ≡ until_reason self }
+    {
+        match self {
+            Reason::UnknownExpectation(fields) => Reason::UnknownUntil(fields),
+            other => other,
+        }
+    }
+
+    /// The same of fields after `while`.
+    pub(crate) fn of_while(self) -> Reason
+        ensures { result ≡ while_reason self }
+    {
+        match self {
+            Reason::UnknownExpectation(fields) => Reason::UnknownWhile(fields),
+            other => other,
+        }
+    }
 }
