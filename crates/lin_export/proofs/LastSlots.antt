@@ -6,11 +6,11 @@ use Rattle.lin_parts.specs.declared.parts.Parts.{Parts}
 use Rattle.lin_core.specs.History.{Slot, open_slot}
 use Rattle.lin_core.specs.declared.log.LogEntry.{LogEntry}
 use Rattle.lin_log.specs.LastFinish.{before_last_finish}
-use Rattle.lin_export.specs.LastSlot.{ended, ended_slot, last_slot, tracked_slot_end}
+use Rattle.lin_export.specs.LastSlot.{end_of_slot, ended_slot, last_slot, tracked_slot_end}
 use Rattle.lin_export.specs.Track.{TrackData, shown_slot, track_of}
 
 -- a track has the slot that is open after its history
-ended-mapped : (t : TrackData) (o : Option Slot) → option_map (ended t) (option_map shown_slot o) ≡ option_map (λ (s : Slot). ended t (shown_slot s)) o
+ended-mapped : (t : TrackData) (o : Option Slot) → option_map (end_of_slot t) (option_map shown_slot o) ≡ option_map (λ (s : Slot). end_of_slot t (shown_slot s)) o
 ended-mapped t None = refl
 ended-mapped t (Some s) = refl
 

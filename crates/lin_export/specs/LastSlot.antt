@@ -73,11 +73,11 @@ abbrev pub IsKeptOf : Parts → List LogEntry → LastSlotData → Type 0
 IsKeptOf c es l = (l.entries ≤ length es) × (l.track ≡ track_of c (reverse (take l.entries es)))
 
 -- the open slot of a track, as it is when it ends
-abbrev pub ended : TrackData → Slot → EndedSlot
-ended t s = record { number = t.slots; at = t.time; slot = s }
+abbrev pub end_of_slot : TrackData → Slot → EndedSlot
+end_of_slot t s = record { number = t.slots; at = t.time; slot = s }
 
 abbrev pub tracked_slot_end : TrackData → Option EndedSlot
-tracked_slot_end t = option_map (ended t) t.slot
+tracked_slot_end t = option_map (end_of_slot t) t.slot
 
 abbrev pub kept_slot : Option LastSlotData → Option EndedSlot
 kept_slot last = option_map_or (λ (l : LastSlotData). tracked_slot_end l.track) last None

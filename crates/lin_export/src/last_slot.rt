@@ -9,7 +9,7 @@ ghost use Rattle.lin_log.specs.Words.{hex_word, spaced_word};
 ghost use Rattle.lin_parts.specs.declared.parts.Parts.{Parts};
 ghost use Rattle.lin_text.specs.Written.{Grows};
 ghost use Rattle.lin_export.specs.Json.{hex_text, member, null};
-ghost use Rattle.lin_export.specs.LastSlot.{IsKeptOf, ended, ended_value, ended_words, kept_slot};
+ghost use Rattle.lin_export.specs.LastSlot.{IsKeptOf, end_of_slot, ended_value, ended_words, kept_slot};
 ghost use Rattle.lin_export.specs.LastSlot.{last_slot, last_slot_value, last_slot_words, tracked_slot_end};
 ghost use Rattle.lin_export.specs.Named.{named_words};
 ghost use Rattle.lin_export.specs.Members.{member_shown};
@@ -65,7 +65,7 @@ fn put_slot<W: Write>(
 )
     ensures { Grows W.contents out.old out.new
         (named_words cluster.now
-        (ended_words cluster.now (ended track.now (tracked_slot slot.now)))) }
+        (ended_words cluster.now (end_of_slot track.now (tracked_slot slot.now)))) }
 {
     put_words(
         out,
@@ -132,7 +132,7 @@ fn put_slot_value<'a, W: Write>(
     slot: &'a TrackedSlot,
 )
     ensures { Grows W.contents out.old out.new
-        (ended_value cluster.now (ended track.now (tracked_slot slot.now))) }
+        (ended_value cluster.now (end_of_slot track.now (tracked_slot slot.now))) }
 {
     out.put(b"{\"slot\":");
     out.put_number(track.slots());
