@@ -28,7 +28,7 @@ use Rattle.lin_bench.specs.declared.got.Verdict.TheVariants.{Unmet, SlotLimit}
 use Rattle.lin_bench.specs.declared.line.ScriptLine.{ScriptLine}
 use Rattle.lin_live.specs.Heard.{line_heard}
 use Rattle.lin_live.specs.Marking.{Marked, bench_at, with_mark}
-use Rattle.lin_live.specs.Values.{SaidValue, said, said_members, said_words}
+use Rattle.lin_live.specs.Values.{SaidValue, value_said, said_members, said_words}
 use Rattle.lin_live.specs.declared.answer_format.AnswerFormat.{AnswerFormat}
 use Rattle.lin_live.specs.declared.answer_format.AnswerFormat.TheVariants.{Log, Named, Jsonl}
 use Rattle.lin_live.specs.declared.heard.Heard.{Heard}
@@ -170,7 +170,7 @@ shown_coding h = if h.is_physical then h.coded else None
 
 -- the answer to a question to a session
 abbrev pub asked_value : HandData → Question → SaidValue
-asked_value h asked = said h.cluster h.opening h.bench.past h.bench.rules asked
+asked_value h asked = value_said h.cluster h.opening h.bench.past h.bench.rules asked
 
 -- the last line of an answer of a session
 abbrev pub ending_text : HandData → Ending → List ℕ

@@ -70,21 +70,21 @@ next_words c opening past =
     (λ (s : ℕ × ℕ × Option ℕ). slot_words c (s.0, s.1) s.2)
     (next_slot c opening past) (Fixed (codes "open") ∷ [])
 
-abbrev pub said : Parts → ℕ → List LogEntry → RulesInForce → Question → SaidValue
-said c opening past rules (Signal node signal) = SignalValue signal (value_at c past node signal)
-said c opening past rules (Waiting host) = NumberValue (length (waiting c past host))
-said c opening past rules Idle = Words (idle_words (pending c past rules.noted))
-said c opening past rules Time = NumberValue (time c past)
-said c opening past rules Asleep = Words (asleep_words (asleep past))
-said c opening past rules Next = Words (next_words c opening past)
-said c opening past rules Version = Versions
-said c opening past rules Nodes = AllNodes
-said c opening past rules LastSlot = Ended (last_slot c past)
-said c opening past rules Rules = RuleLines (lines_of_rules c rules)
+abbrev pub value_said : Parts → ℕ → List LogEntry → RulesInForce → Question → SaidValue
+value_said c opening past rules (Signal node signal) = SignalValue signal (value_at c past node signal)
+value_said c opening past rules (Waiting host) = NumberValue (length (waiting c past host))
+value_said c opening past rules Idle = Words (idle_words (pending c past rules.noted))
+value_said c opening past rules Time = NumberValue (time c past)
+value_said c opening past rules Asleep = Words (asleep_words (asleep past))
+value_said c opening past rules Next = Words (next_words c opening past)
+value_said c opening past rules Version = Versions
+value_said c opening past rules Nodes = AllNodes
+value_said c opening past rules LastSlot = Ended (last_slot c past)
+value_said c opening past rules Rules = RuleLines (lines_of_rules c rules)
 
 -- that of a bench
 abbrev pub said_of : BenchData → Question → SaidValue
-said_of bench asked = said bench.core.cluster bench.core.opening (past_of bench.core) bench.rules asked
+said_of bench asked = value_said bench.core.cluster bench.core.opening (past_of bench.core) bench.rules asked
 
 -- the answer that a value of the code stands for
 abbrev pub as_said : Parts → AnswerValue → SaidValue
