@@ -18,11 +18,11 @@ use Rattle.lin_core.specs.declared.reply.Reply.{Reply}
 use Rattle.lin_core.specs.declared.reply.Reply.TheVariants.{Done, Refused}
 use Rattle.lin_core.specs.declared.step.Step.{Step}
 use Rattle.lin_core.specs.declared.step.Step.TheVariants.{Send, Write, Open, Answer, Leave, Hurt, Finish, Timeout, Switch, AskSleep, Wake, Close}
-use Rattle.lin_bench.specs.Added.{added_steps, arrived, rules_after, went_to_all}
+use Rattle.lin_bench.specs.Added.{added_steps, rules_after_arrivals, rules_after, went_to_all}
 use Rattle.lin_bench.specs.FaultLaws.{IsAlikeBefore, IsBefore, with_faults}
 use Rattle.lin_bench.specs.Faults.{disturbed_steps, is_for, is_struck, slots_finished, struck, target}
-use Rattle.lin_bench.specs.Made.{BenchState, begun, bench_after_steps, bench_with_verdict, comes, course_of, expected_after, fails, made, made_within, never_ends, rule_verdict, said}
-use Rattle.lin_bench.specs.Rules.{after_event, after_events, reacted, rule_for, ruled, serving, state_of}
+use Rattle.lin_bench.specs.Made.{BenchState, expected_begun, bench_after_steps, bench_with_verdict, comes, course_of, expected_after, fails, made, made_within, never_ends, rule_verdict, steps_said}
+use Rattle.lin_bench.specs.Rules.{after_event, after_events, rules_after_reaction, rule_for, ruled, serving, state_of}
 use Rattle.lin_bench.specs.Slots.{Course, course_after, after_made, due_now, extent_steps, goes_on, is_opened, most, goes_on_until, past_after, slot_steps, ended_slot_count, slots_steps, with_entry, with_struck}
 use Rattle.lin_bench.specs.declared.expected.Expected.{Expected}
 use Rattle.lin_bench.specs.declared.faults.FaultKind.{FaultKind}
@@ -147,7 +147,7 @@ before-after c o cap at (s ∷ ss) fs h =
 
 -- ---- rules and faults don't know of each other
 reacted-under : (served : Option Parts) (to : Bool) (t : ℕ) (rules : Rules) (fs : List ArmedFault) (node : ℕ) (message : List ℕ) (w : Option When)
-    → reacted served to t (record rules { faults = fs }) node message w ≡ record (reacted served to t rules node message w) { faults = fs }
+    → rules_after_reaction served to t (record rules { faults = fs }) node message w ≡ record (rules_after_reaction served to t rules node message w) { faults = fs }
 reacted-under served to t rules fs node message None = refl
 reacted-under served to t rules fs node message (Some w) = refl
 
@@ -165,7 +165,7 @@ event-under served to t rules fs (event.Put node answer) = refl
 event-under served to t rules fs (event.Seen how) = refl
 event-under served to t rules fs (event.Message from node bytes) =
     let w : Option When = rule_for rules.whens node (state_of rules.states node) bytes in
-    either-under (from == 0) _ (reacted served to t rules node bytes w) rules fs (reacted-under served to t rules fs node bytes w)
+    either-under (from == 0) _ (rules_after_reaction served to t rules node bytes w) rules fs (reacted-under served to t rules fs node bytes w)
 event-under served to t rules fs (event.Sent host number) = refl
 event-under served to t rules fs (event.Lost host number cause) = refl
 event-under served to t rules fs event.Asleep = refl
@@ -177,7 +177,7 @@ events-under served to t rules fs (e ∷ es) =
     ap (λ r. after_events served to t r es) (event-under served to t rules fs e) ∙ events-under served to t (after_event served to t rules e) fs es
 
 arrived-under : (c : Parts) (e : LogEntry) (past : List LogEntry) (rules : Rules) (fs : List ArmedFault)
-    → arrived c e past (record rules { faults = fs }) ≡ record (arrived c e past rules) { faults = fs }
+    → rules_after_arrivals c e past (record rules { faults = fs }) ≡ record (rules_after_arrivals c e past rules) { faults = fs }
 arrived-under c e past rules fs =
     events-under (serving c rules.services) (option_map_or went_to_all (finished_slot e past) false) (time c (e ∷ past)) rules fs (events e)
 
@@ -412,7 +412,7 @@ step-line c o cap b fs steps what before =
     rw none (ap (λ (k : BenchState). bench_with_verdict c o k what) (stepped-alike c o cap b fs 0 steps there) ∙ judged-alike c o end fs what)
 
 pub alike-before : IsAlikeBefore
-unfolding made said
+unfolding made steps_said
 alike-before c o cap b line.Forget fs h = refl
 alike-before c o cap b (line.Rule r) fs h =
     ap (λ (rules : Rules). (record b { rules = rules }, rule_verdict (record b.rules { faults = fs }) r)) (ruled-under (time c b.past) b.rules fs r)
@@ -424,8 +424,8 @@ alike-before c o cap b (line.Slot how) fs h =
 alike-before c o cap b (line.Slots s) fs h =
     slots-line c o cap b fs (slot.Leave s.leave) s.extent never_ends (expected_after s.extent) (nat_lt b.left (ended_slot_count (of_slots c o cap (slot.Leave s.leave) s.extent never_ends (with_faults [] b) (most s.extent)))) (λ at. refl) refl h
 alike-before c o cap b (line.Until s what) fs h =
-    slots-line c o cap b fs (slot.Leave s.leave) s.extent (comes c o b.taken (begun c b.past what)) (Some (begun c b.past what))
-    (nat_lt b.left (ended_slot_count (of_slots c o cap (slot.Leave s.leave) s.extent (comes c o b.taken (begun c b.past what)) (with_faults [] b) (most s.extent)))) (λ at. refl) refl h
+    slots-line c o cap b fs (slot.Leave s.leave) s.extent (comes c o b.taken (expected_begun c b.past what)) (Some (expected_begun c b.past what))
+    (nat_lt b.left (ended_slot_count (of_slots c o cap (slot.Leave s.leave) s.extent (comes c o b.taken (expected_begun c b.past what)) (with_faults [] b) (most s.extent)))) (λ at. refl) refl h
 alike-before c o cap b (line.While s what) fs h =
-    slots-line c o cap b fs (slot.Leave s.leave) s.extent (fails c o b.taken (length b.past) (begun c b.past what)) (Some (begun c b.past what))
-    (nat_lt b.left (ended_slot_count (of_slots c o cap (slot.Leave s.leave) s.extent (fails c o b.taken (length b.past) (begun c b.past what)) (with_faults [] b) (most s.extent)))) (λ at. refl) refl h
+    slots-line c o cap b fs (slot.Leave s.leave) s.extent (fails c o b.taken (length b.past) (expected_begun c b.past what)) (Some (expected_begun c b.past what))
+    (nat_lt b.left (ended_slot_count (of_slots c o cap (slot.Leave s.leave) s.extent (fails c o b.taken (length b.past) (expected_begun c b.past what)) (with_faults [] b) (most s.extent)))) (λ at. refl) refl h

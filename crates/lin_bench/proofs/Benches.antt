@@ -6,7 +6,7 @@ use Rattle.lin_core.specs.History.{time}
 use Rattle.lin_core.specs.declared.port.PortId.{PortId}
 use Rattle.lin_core.specs.declared.step.Step.{Step}
 use Rattle.lin_bench.specs.Bench.{BenchData, MakeFails, GivesVerdict, MakesBench, MakesLine, made_early, made_on, made_slots, ruled_of, state_of}
-use Rattle.lin_bench.specs.Made.{BenchState, begun, bench_with_verdict, ended_verdict, made, said, bench_after_steps, rule_verdict}
+use Rattle.lin_bench.specs.Made.{BenchState, expected_begun, bench_with_verdict, ended_verdict, made, steps_said, bench_after_steps, rule_verdict}
 use Rattle.lin_bench.specs.Making.{IsGrown, AreExecuted, MakesSteps, RuledData, SlotsFail, StepsFail, extent_on}
 use Rattle.lin_bench.specs.Rules.{has_rule, ruled, without_rule}
 use Rattle.lin_bench.specs.Slots.{Course, ended_slot_count}
@@ -81,7 +81,7 @@ slots-judged b mid new how extent ends what (Err OutOfMemory) made count taken s
 -- a step was made
 pub step-made : (b new : BenchData) (by : PortId) (step : Step) → AreExecuted (ruled_of b) ((by, step) ∷ []) (ruled_of new) → new.taken ≡ b.taken → new.left ≡ b.left
     → MakesLine b (line.Step by step) (Ok Nothing) new
-unfolding made said
+unfolding made steps_said
 step-made b new by step made taken left =
     let none : nat_lt b.left 0 ≡ false = le-ltb _ _ (omega arith) in
     let same : new.left ≡ b.left - 0 = omega arith in
@@ -89,7 +89,7 @@ step-made b new by step made taken left =
 
 pub step-fails : (fault : MakeFault) (b : BenchData) (by : PortId) (step : Step) → StepsFail fault (ruled_of b) ((by, step) ∷ [])
     → MakeFails fault (made_on b (line.Step by step)).0
-unfolding made said
+unfolding made steps_said
 step-fails LogFull b by step full = let none : nat_lt b.left 0 ≡ false = le-ltb _ _ (omega arith) in rw none full
 step-fails OutOfMemory b by step none = tt
 
@@ -105,14 +105,14 @@ other-verdict rules (rule.End e) h = absurd (h e refl)
 other-verdict rules r h = refl
 
 -- slots were made that end early, by what was expected as the line began
-pub until-made : (b new : BenchData) (s : Slots) (what from : Expected) (core : CoreData) (r : Result Verdict MakeFault) → core ≡ b.core → from ≡ begun core.cluster (past_of core) what
+pub until-made : (b new : BenchData) (s : Slots) (what from : Expected) (core : CoreData) (r : Result Verdict MakeFault) → core ≡ b.core → from ≡ expected_begun core.cluster (past_of core) what
     → MakesBench (made_early b (Leave s.leave) s.extent Until (Some from)) b r new → MakesLine b (line.Until s what) r new
-unfolding made said
+unfolding made steps_said
 until-made b new s what from core r same is h = rw (is, same) at h
 
-pub while-made : (b new : BenchData) (s : Slots) (what from : Expected) (core : CoreData) (r : Result Verdict MakeFault) → core ≡ b.core → from ≡ begun core.cluster (past_of core) what
+pub while-made : (b new : BenchData) (s : Slots) (what from : Expected) (core : CoreData) (r : Result Verdict MakeFault) → core ≡ b.core → from ≡ expected_begun core.cluster (past_of core) what
     → MakesBench (made_early b (Leave s.leave) s.extent While (Some from)) b r new → MakesLine b (line.While s what) r new
-unfolding made said
+unfolding made steps_said
 while-made b new s what from core r same is h = rw (is, same) at h
 
 -- single rules were put out of force

@@ -16,7 +16,7 @@ use Rattle.lin_core.specs.declared.reply.Refusal.{Refusal}
 use Rattle.lin_core.specs.declared.reply.Reply.TheVariants.{Done, Refused}
 use Rattle.lin_core.specs.declared.step.Step.{Step}
 use Rattle.lin_core.specs.declared.step.Step.TheVariants.{Open, Leave, Hurt, Finish}
-use Rattle.lin_bench.specs.Made.{BenchState, course_of, expects_from, bench_with_verdict, made, made_within, said, slots_made, bench_after_steps}
+use Rattle.lin_bench.specs.Made.{BenchState, course_of, expects_from, bench_with_verdict, made, made_within, steps_said, slots_made, bench_after_steps}
 use Rattle.lin_bench.specs.Faults.{disturbed_steps, struck}
 use Rattle.lin_bench.specs.Played.{first_under, in_turn, next, line_result}
 use Rattle.lin_bench.specs.Plays.{EndsWithFullLog, OverfillsUnder, PlayFails, PlaysUnder, has_rule, is_rule}
@@ -149,8 +149,8 @@ slots-at-most c o cap how goes (suc n) at =
     (λ h. one-slot c o cap how at.past h) (λ h. no-slot c o cap how at.past h) (slots-at-most c o cap how goes n (course_after c o cap at one))
 
 said-few : (c : Parts) (o cap : ℕ) (limit : Extent → ℕ) (b : BenchState) (l : ScriptLine) → IsSmall c
-    → length (said c o cap limit b l) ≤ most_steps * slots_made l (said c o cap limit b l) + 1
-unfolding said extent_steps
+    → length (steps_said c o cap limit b l) ≤ most_steps * slots_made l (steps_said c o cap limit b l) + 1
+unfolding steps_said extent_steps
 said-few c o cap limit b (line.Step by step) few = omega arith
 said-few c o cap limit b (line.Slot how) few = slots-few c o cap how _ _ (course_of b) few
 said-few c o cap limit b (line.Slots s) few = slots-few c o cap (slot.Leave s.leave) _ _ (course_of b) few
@@ -160,8 +160,8 @@ said-few c o cap limit b (line.Expect what) few = omega arith
 said-few c o cap limit b line.Forget few = omega arith
 said-few c o cap limit b (line.Rule rule) few = omega arith
 
-first-few : (c : Parts) (o cap n : ℕ) (b : BenchState) (l : ScriptLine) → slots_made l (said c o cap (λ e. n) b l) ≤ n
-unfolding said extent_steps
+first-few : (c : Parts) (o cap n : ℕ) (b : BenchState) (l : ScriptLine) → slots_made l (steps_said c o cap (λ e. n) b l) ≤ n
+unfolding steps_said extent_steps
 first-few c o cap n b (line.Step by step) = omega arith
 first-few c o cap n b (line.Slot how) = slots-at-most c o cap how _ n (course_of b)
 first-few c o cap n b (line.Slots s) = slots-at-most c o cap (slot.Leave s.leave) _ n (course_of b)
@@ -225,10 +225,10 @@ within-few c o cap b count steps first what false none h all some =
     rw h (judged-few c o (bench_after_steps c o cap b count steps) what (still_to_come b + 2) (stepped-few c o cap b count steps none few all))
 
 steps-few : (c : Parts) (o cap : ℕ) (b : BenchState) (l : ScriptLine) → IsSmall c → IsUnruled b.rules
-    → IsFew (made_within c o cap b (slots_made l (said c o cap most b l)) (said c o cap most b l) (said c o cap (λ e. b.left) b l) (expects_from c b.past l)).0 (still_to_come b + 2)
+    → IsFew (made_within c o cap b (slots_made l (steps_said c o cap most b l)) (steps_said c o cap most b l) (steps_said c o cap (λ e. b.left) b l) (expects_from c b.past l)).0 (still_to_come b + 2)
 steps-few c o cap b l few none =
-    let all = said c o cap most b l in
-    let some = said c o cap (λ e. b.left) b l in
+    let all = steps_said c o cap most b l in
+    let some = steps_said c o cap (λ e. b.left) b l in
     within-few c o cap b (slots_made l all) all some (expects_from c b.past l) (nat_lt b.left (slots_made l all)) none refl
     (said-few c o cap most b l few)
     (let e = said-few c o cap (λ e. b.left) b l few in omega (arith, e, first-few c o cap b.left b l))

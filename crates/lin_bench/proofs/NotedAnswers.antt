@@ -14,9 +14,9 @@ use Rattle.lin_core.specs.declared.log.LogEntry.{LogEntry}
 use Rattle.lin_parts.specs.declared.parts.Parts.{Parts}
 use Rattle.lin_core.specs.declared.port.PortId.{PortId}
 use Rattle.lin_core.specs.declared.step.Step.{Step}
-use Rattle.lin_bench.specs.Added.{arrived, send_of, went_to_all}
+use Rattle.lin_bench.specs.Added.{rules_after_arrivals, send_of, went_to_all}
 use Rattle.lin_bench.specs.Adding.{HasFinished, finish_of, good_in}
-use Rattle.lin_bench.specs.Rules.{after_event, after_events, is_due_at, kept_at, reacted, rule_for, sent_at, serving, state_of}
+use Rattle.lin_bench.specs.Rules.{after_event, after_events, is_due_at, kept_at, rules_after_reaction, rule_for, sent_at, serving, state_of}
 use Rattle.lin_bench.specs.declared.rules.Noted.{Noted}
 use Rattle.lin_bench.specs.declared.rules.Rules.{Rules}
 use Rattle.lin_bench.specs.declared.rules.When.{When}
@@ -36,7 +36,7 @@ went-is core by past s b fin went =
 pub arrived-is : (core : CoreData) (by : PortId) (past : List LogEntry) (s : Slot) (rules : Rules) (b : Bool) (new : Rules) → HasFinished core by past s
     → b ≡ option_map_or (λ bytes. slice_index bytes 0 == functional) (good_in (events (finish_of core past by))) false
     → new ≡ after_events (serving core.cluster rules.services) b (time core.cluster (past_of core)) rules (events (finish_of core past by))
-    → new ≡ arrived core.cluster (finish_of core past by) past rules
+    → new ≡ rules_after_arrivals core.cluster (finish_of core past by) past rules
 arrived-is core by past s rules b new fin went is =
     (rw fin.newest at is)
     ∙ ap (λ t. after_events (serving core.cluster rules.services) t (time core.cluster (finish_of core past by ∷ past)) rules (events (finish_of core past by)))
@@ -44,8 +44,8 @@ arrived-is core by past s rules b new fin went is =
 
 -- ---- messages change states and the answers that are noted, and no other rule
 reacted-kept : (served : Option Parts) (to : Bool) (t : ℕ) (rules : Rules) (node : ℕ) (message : List ℕ) (w : Option When)
-    → reacted served to t rules node message w
-    ≡ record rules { states = (reacted served to t rules node message w).states; noted = (reacted served to t rules node message w).noted }
+    → rules_after_reaction served to t rules node message w
+    ≡ record rules { states = (rules_after_reaction served to t rules node message w).states; noted = (rules_after_reaction served to t rules node message w).noted }
 reacted-kept served to t rules node message None = refl
 reacted-kept served to t rules node message (Some w) = refl
 
@@ -64,7 +64,7 @@ event-kept served to t rules (event.Put node answer) = refl
 event-kept served to t rules (event.Seen how) = refl
 event-kept served to t rules (event.Message from node bytes) =
     let w : Option When = rule_for rules.whens node (state_of rules.states node) bytes in
-    either-kept (from == 0) (reacted served to t rules node bytes w) rules (reacted-kept served to t rules node bytes w)
+    either-kept (from == 0) (rules_after_reaction served to t rules node bytes w) rules (reacted-kept served to t rules node bytes w)
 event-kept served to t rules (event.Sent host number) = refl
 event-kept served to t rules (event.Lost host number cause) = refl
 event-kept served to t rules event.Asleep = refl
@@ -78,7 +78,7 @@ events-kept served to t rules (e ∷ es) =
     events-kept served to t one es ∙ ap (λ (r : Rules). record r { states = all.states; noted = all.noted }) (event-kept served to t rules e)
 
 pub arrived-kept : (c : Parts) (e : LogEntry) (past : List LogEntry) (rules : Rules)
-    → arrived c e past rules ≡ record rules { states = (arrived c e past rules).states; noted = (arrived c e past rules).noted }
+    → rules_after_arrivals c e past rules ≡ record rules { states = (rules_after_arrivals c e past rules).states; noted = (rules_after_arrivals c e past rules).noted }
 arrived-kept c e past rules =
     events-kept (serving c rules.services) (option_map_or went_to_all (finished_slot e past) false) (time c (e ∷ past)) rules (events e)
 

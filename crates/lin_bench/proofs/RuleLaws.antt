@@ -9,7 +9,7 @@ use Rattle.lin_core.specs.Runs.{entry_of}
 use Rattle.lin_core.specs.declared.event.Event.{Event}
 use Rattle.lin_core.specs.declared.event.Event.TheVariants as event
 use Rattle.lin_core.specs.declared.log.LogEntry.{LogEntry}
-use Rattle.lin_bench.specs.Added.{added_steps, added_after, arrived, rules_after, went_to_all}
+use Rattle.lin_bench.specs.Added.{added_steps, added_after, rules_after_arrivals, rules_after, went_to_all}
 use Rattle.lin_core.specs.declared.port.PortId.{PortId}
 use Rattle.lin_core.specs.declared.step.Step.{Step}
 use Rattle.lin_bench.specs.Faults.{changed_steps, disturbed_steps, is_struck, slots_finished, struck, struck_by, target}
@@ -17,9 +17,9 @@ use Rattle.lin_bench.specs.Slots.{Course, after_made, course_after, past_after}
 use Rattle.lin_bench.specs.declared.faults.FaultKind.{FaultKind}
 use Rattle.lin_bench.specs.declared.faults.ArmedFault.{ArmedFault}
 use Rattle.lin_bench.specs.declared.rules.Rules.{Rules}
-use Rattle.lin_bench.specs.Made.{course_of, made, said}
+use Rattle.lin_bench.specs.Made.{course_of, made, steps_said}
 use Rattle.lin_bench.specs.RuleLaws.{AddedByAnyFinish, AddedByHistoryAndRules, NoRuleAddsNothing, NoRuleChangesNothing}
-use Rattle.lin_bench.specs.Rules.{after_event, after_events, no_rules, reacted, rule_for, state_of}
+use Rattle.lin_bench.specs.Rules.{after_event, after_events, no_rules, rules_after_reaction, rule_for, state_of}
 
 nothing-or : {A : Type 0} (b : Bool) (xs : List A) → xs ≡ [] → cond b xs [] ≡ []
 nothing-or true xs e = e
@@ -28,7 +28,7 @@ nothing-or false xs e = refl
 abbrev pub no_rules_under : List ArmedFault → Rules
 no_rules_under faults = record no_rules { faults = faults }
 
-react-nothing : (rules : Rules) (is_to_all : Bool) (t node : ℕ) (message : List ℕ) → reacted None is_to_all t rules node message None ≡ rules
+react-nothing : (rules : Rules) (is_to_all : Bool) (t node : ℕ) (message : List ℕ) → rules_after_reaction None is_to_all t rules node message None ≡ rules
 react-nothing rules true t node message = refl
 react-nothing rules false t node message = refl
 
@@ -48,8 +48,8 @@ event-nothing rules to t (event.Due node) h = refl
 event-nothing rules to t (event.Put node answer) h = refl
 event-nothing rules to t (event.Seen how) h = refl
 event-nothing rules to t (event.Message from node bytes) h =
-    let none = ap (λ ws. reacted None to t rules node bytes (rule_for ws node (state_of rules.states node) bytes)) h ∙ react-nothing rules to t node bytes in
-    same-either (from == 0) (reacted None to t rules node bytes (rule_for rules.whens node (state_of rules.states node) bytes)) rules none
+    let none = ap (λ ws. rules_after_reaction None to t rules node bytes (rule_for ws node (state_of rules.states node) bytes)) h ∙ react-nothing rules to t node bytes in
+    same-either (from == 0) (rules_after_reaction None to t rules node bytes (rule_for rules.whens node (state_of rules.states node) bytes)) rules none
 event-nothing rules to t (event.Sent host number) h = refl
 event-nothing rules to t (event.Lost host number cause) h = refl
 event-nothing rules to t event.Asleep h = refl
@@ -58,7 +58,7 @@ events-nothing : (rules : Rules) (is_to_all : Bool) (t : ℕ) (es : List Event) 
 events-nothing rules to t [] h = refl
 events-nothing rules to t (e ∷ es) h = ap (λ r. after_events None to t r es) (event-nothing rules to t e h) ∙ events-nothing rules to t es h
 
-arrived-nothing : (c : Parts) (e : LogEntry) (past : List LogEntry) (faults : List ArmedFault) → arrived c e past (no_rules_under faults) ≡ no_rules_under faults
+arrived-nothing : (c : Parts) (e : LogEntry) (past : List LogEntry) (faults : List ArmedFault) → rules_after_arrivals c e past (no_rules_under faults) ≡ no_rules_under faults
 arrived-nothing c e past faults =
     events-nothing (no_rules_under faults) (option_map_or went_to_all (finished_slot e past) false) (time c (e ∷ past)) (events e) refl
 
@@ -119,7 +119,7 @@ pub any-finish : AddedByAnyFinish
 any-finish c by other step reply past rules = refl
 
 pub by-history : AddedByHistoryAndRules
-unfolding made said
+unfolding made steps_said
 by-history c o cap a b by step p r =
     let x : nat_lt a.left 0 ≡ false = grind (arith, common_steps) in
     let y : nat_lt b.left 0 ≡ false = grind (arith, common_steps) in

@@ -8,7 +8,7 @@ use Rattle.lin_core.specs.declared.log.LogEntry.{LogEntry}
 use Rattle.lin_core.specs.declared.port.PortId.{PortId}
 use Rattle.lin_core.specs.declared.step.Step.{Step}
 use Rattle.lin_core.specs.declared.step.Step.TheVariants.{Send, Write, Open, Answer, Leave, Hurt, Finish, Timeout, Switch, AskSleep, Wake, Close}
-use Rattle.lin_bench.specs.Added.{added_after, arrived, has_time, rules_after, send_of, step_to_repeat, timeouts, with_kept}
+use Rattle.lin_bench.specs.Added.{added_after, rules_after_arrivals, has_time, rules_after, send_of, step_to_repeat, timeouts, with_kept}
 use Rattle.lin_bench.specs.Errors.{errors_told}
 use Rattle.lin_bench.specs.Adding.{AddsAfterFinish, AreAdded, HasFinished, MakesAdded, finish_of}
 use Rattle.lin_bench.specs.Making.{IsMadeSo, MakesUnchanged, RuledData}
@@ -25,7 +25,7 @@ use Rattle.lin_bench.proofs.RuleLaws.{no-rule}
 -- the core as it is when the answers to the finish are noted, and what is added there
 pub record IsReady (a i : RuledData) (by : PortId) (past : List LogEntry) (began now : ℕ) : Type 0 where
   pub core : i.core ≡ a.core
-  pub rules : i.rules ≡ arrived a.core.cluster (finish_of a.core past by) past a.rules
+  pub rules : i.rules ≡ rules_after_arrivals a.core.cluster (finish_of a.core past by) past a.rules
   pub began_is : began ≡ time a.core.cluster past
   pub now_is : now ≡ time i.core.cluster (past_of i.core)
 
@@ -45,10 +45,10 @@ all-rules : (a i : RuledData) (by : PortId) (past : List LogEntry) (s : Slot) (b
     → record i.rules { noted = kept_at now i.rules.noted } ≡ rules_after a.core.cluster (finish_of a.core past by) past a.rules
 all-rules a i by past s began now fin at =
     let is = finished-slot a.core.cluster a.core.opening a.core.capacity past by s fin.slot fin.may in
-    let kept : with_kept now i.rules ≡ with_kept (time a.core.cluster (finish_of a.core past by ∷ past)) (arrived a.core.cluster (finish_of a.core past by) past a.rules) =
+    let kept : with_kept now i.rules ≡ with_kept (time a.core.cluster (finish_of a.core past by ∷ past)) (rules_after_arrivals a.core.cluster (finish_of a.core past by) past a.rules) =
     rw (at.now_is, at.rules, at.core, fin.newest) refl in
     kept
-    ∙ ap (λ b. cond b (with_kept (time a.core.cluster (finish_of a.core past by ∷ past)) (arrived a.core.cluster (finish_of a.core past by) past a.rules)) a.rules)
+    ∙ ap (λ b. cond b (with_kept (time a.core.cluster (finish_of a.core past by ∷ past)) (rules_after_arrivals a.core.cluster (finish_of a.core past by) past a.rules)) a.rules)
     (sym (ap is_some is))
 
 in-turn : {X : Type 0} (a d : RuledData) (e : LogEntry) (past : List LogEntry) (steps : List (PortId × Step)) (r : Result X MakeFault)

@@ -11,7 +11,7 @@ use Rattle.lin_core.specs.Core.{CoreData, IsAlike}
 use Rattle.lin_core.specs.declared.log.LogEntry.{LogEntry}
 use Rattle.lin_bench.specs.Bench.{BenchData, new_bench, made_on, state_of}
 use Rattle.lin_bench.specs.Made.{BenchState, made}
-use Rattle.lin_bench.specs.Played.{bench_after, come_to, ended, ends_from, initial_bench, in_turn, is_limit, is_silent, judged_from, judged_up_to, judgements, next, nothing_expected, of_line, on_line, own, play_result, line_result, with_judgements}
+use Rattle.lin_bench.specs.Played.{bench_after, come_to, add_line_end, ends_from, initial_bench, in_turn, is_limit, is_silent, judged_from, judged_up_to, judgements, next, nothing_expected, of_line, on_line, own, play_result, line_result, with_judgements}
 use Rattle.lin_bench.specs.Plays.{Comes, IsTooLong, OverfillsOn, PlaysLine, PlaysOn, ends_on, judged_on, next_on}
 use Rattle.lin_bench.specs.Strict.{entries_since, left_out, speaks_of_last, strictly}
 use Rattle.lin_bench.specs.declared.line.ScriptLine.{ScriptLine}
@@ -98,13 +98,13 @@ told-limit n m b verdict.Nothing h = absurd (cc)
 told-limit n m b (verdict.Met what) h = absurd (cc)
 told-limit n m b (verdict.Unmet what got) h = absurd (cc)
 
-ended-open : (l : ℕ × ScriptLine) (b : BenchState) (v : Verdict) (more : List LineEnd) → is_limit v ≡ false → ended l (b, v) more ≡ record { line = l.0; entries = length b.past } ∷ more
+ended-open : (l : ℕ × ScriptLine) (b : BenchState) (v : Verdict) (more : List LineEnd) → is_limit v ≡ false → add_line_end l (b, v) more ≡ record { line = l.0; entries = length b.past } ∷ more
 ended-open l b verdict.SlotLimit more h = absurd (cc)
 ended-open l b verdict.Nothing more h = refl
 ended-open l b (verdict.Met what) more h = refl
 ended-open l b (verdict.Unmet what got) more h = refl
 
-ended-limit : (l : ℕ × ScriptLine) (b : BenchState) (v : Verdict) (more : List LineEnd) → is_limit v ≡ true → ended l (b, v) more ≡ []
+ended-limit : (l : ℕ × ScriptLine) (b : BenchState) (v : Verdict) (more : List LineEnd) → is_limit v ≡ true → add_line_end l (b, v) more ≡ []
 ended-limit l b verdict.SlotLimit more h = refl
 ended-limit l b verdict.Nothing more h = absurd (cc)
 ended-limit l b (verdict.Met what) more h = absurd (cc)

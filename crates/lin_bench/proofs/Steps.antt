@@ -22,7 +22,7 @@ use Rattle.lin_values.specs.Coded.{CodedData}
 use Rattle.lin_bench.specs.Plain.{HasNoMarks, NamedTexts, PlainScripts}
 use Rattle.lin_bench.specs.Words.{or_unmarked, read_worded_line, worded}
 use Rattle.lin_bench.proofs.Wordless.{wordless}
-use Rattle.lin_bench.specs.Made.{BenchState, course_of, made, said, bench_after_steps}
+use Rattle.lin_bench.specs.Made.{BenchState, course_of, made, steps_said, bench_after_steps}
 use Rattle.lin_bench.specs.Played.{come_to, initial_bench, in_turn, judged_from, next, with_judgements}
 use Rattle.lin_bench.specs.declared.got.Verdict.TheVariants.{Nothing}
 use Rattle.lin_bench.proofs.RuleLaws.{unchanged}
@@ -196,7 +196,7 @@ one-step c o room b s h =
 
 one-turn : (c : Parts) (o room : ℕ) (b : BenchState) (n : ℕ) (by : PortId) (step : Step) → b.rules ≡ no_rules
     → next c o room b (n, line.Step by step) ≡ Ok (record b { past = entry_of c o room b.past (by, step) ∷ b.past })
-unfolding made said
+unfolding made steps_said
 one-turn c o room b n by step h =
     let few : nat_lt b.left 0 ≡ false = grind (arith, common_steps) in
     rw few (ap (λ (x : BenchState). Ok x) (one-step c o room b (by, step) h))
@@ -210,7 +210,7 @@ turns c o room b (t ∷ ts) h =
 
 -- a step expects nothing
 no-verdict : (c : Parts) (o room : ℕ) (b : BenchState) (by : PortId) (step : Step) → (made c o room b (line.Step by step)).1 ≡ Nothing
-unfolding made said
+unfolding made steps_said
 no-verdict c o room b by step =
     let few : nat_lt b.left 0 ≡ false = grind (arith, common_steps) in
     rw few refl

@@ -60,8 +60,8 @@ abbrev pub went_to_all : Slot → Bool
 went_to_all s = option_map_or (λ bytes. slice_index bytes 0 == functional) (good s) false
 
 -- the rules after the messages of a finish arrived
-abbrev pub arrived : Parts → LogEntry → List LogEntry → Rules → Rules
-arrived c e past rules =
+abbrev pub rules_after_arrivals : Parts → LogEntry → List LogEntry → Rules → Rules
+rules_after_arrivals c e past rules =
     after_events (serving c rules.services) (option_map_or went_to_all (finished_slot e past) false)
     (time c (e ∷ past)) rules (events e)
 
@@ -90,7 +90,7 @@ abbrev pub added_after : Parts → LogEntry → List LogEntry → Rules → List
 added_after c e past rules =
     timeouts c (e ∷ past) rules.limit_ms
     ++ (errors_told c e past rules.errors
-    ++ (map send_of (sent_at (time c (e ∷ past)) (arrived c e past rules).noted)
+    ++ (map send_of (sent_at (time c (e ∷ past)) (rules_after_arrivals c e past rules).noted)
     ++ repeated_steps c e past rules))
 
 -- and after any other entry none
@@ -105,5 +105,5 @@ with_kept time rules = record rules { noted = kept_at time rules.noted }
 
 abbrev pub rules_after : Parts → LogEntry → List LogEntry → Rules → Rules
 rules_after c e past rules =
-    if is_some (finished_slot e past) then with_kept (time c (e ∷ past)) (arrived c e past rules)
+    if is_some (finished_slot e past) then with_kept (time c (e ∷ past)) (rules_after_arrivals c e past rules)
     else rules

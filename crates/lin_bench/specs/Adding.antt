@@ -17,7 +17,7 @@ use Rattle.lin_core.specs.declared.port.PortId.{PortId}
 use Rattle.lin_core.specs.declared.step.Step.{Step}
 use Rattle.lin_core.specs.declared.step.Step.TheVariants.{Finish}
 use Rattle.lin_transport.specs.Transport.{looks_at}
-use Rattle.lin_bench.specs.Added.{added_after, arrived, is_given_up, is_good_on, last_good, links_at, rules_after, timeout_step}
+use Rattle.lin_bench.specs.Added.{added_after, rules_after_arrivals, is_given_up, is_good_on, last_good, links_at, rules_after, timeout_step}
 use Rattle.lin_bench.specs.Errors.{errors_told, is_damaged_seen}
 use Rattle.lin_bench.specs.Faults.{slots_finished}
 pub use Rattle.lin_bench.specs.Making.{RuledData}
@@ -123,7 +123,7 @@ timeouts_of c past ms n =
 
 -- the rules of a core after the messages of a finish arrived
 abbrev pub with_arrived : RuledData → LogEntry → List LogEntry → Rules
-with_arrived a e past = arrived a.core.cluster e past a.rules
+with_arrived a e past = rules_after_arrivals a.core.cluster e past a.rules
 
 -- the steps by which errors are told after a finish, if a rule says so
 abbrev pub errors_after : RuledData → LogEntry → List LogEntry → List (PortId × Step)

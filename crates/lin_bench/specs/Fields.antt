@@ -51,6 +51,9 @@ all_fields line = log.fields false (map tab_as_space line)
 abbrev pub field_texts : List (Bor (List ℕ)) → List (List ℕ)
 field_texts fs = map (λ f. f.now) fs
 
+abbrev pub maybe_text : Option (Bor (List ℕ)) → Option (List ℕ)
+maybe_text field = option_map (λ f. f.now) field
+
 abbrev pub number_up_to : ℕ → List ℕ → Result ℕ Reason
 number_up_to most f = of_step (log.number_field most f)
 

@@ -5,8 +5,8 @@ use Rattle.lin_core.specs.declared.event.Event.{Event}
 use Rattle.lin_core.specs.declared.log.LogEntry.{LogEntry}
 use Rattle.lin_bench.specs.Searches.{IsSearchState, taken_by}
 use Rattle.lin_bench.specs.Verdicts.{first_so, is_loss_left, is_message_left, is_of_kind, same_kind}
-use Rattle.lin_bench.specs.declared.left_events.Sought.{Sought}
-use Rattle.lin_bench.specs.declared.left_events.Sought.TheVariants.{Losses, Messages}
+use Rattle.lin_bench.specs.declared.left_events.EventsSought.{EventsSought}
+use Rattle.lin_bench.specs.declared.left_events.EventsSought.TheVariants.{Losses, Messages}
 use Rattle.lin_bench.specs.declared.taken.EventKind.{EventKind}
 use Rattle.lin_bench.specs.declared.taken.TakenEvents.{TakenEvents}
 
@@ -31,7 +31,7 @@ TellsIfLeft taken kind entry before left =
     → left ≡ is_left (taken_by es taken) kind (events_before es entry before)
 
 -- whether an event, of which these stand before it, is one that a search is for, and isn't taken
-abbrev pub is_sought : Sought → List EventKind → List Event → Event → Bool
+abbrev pub is_sought : EventsSought → List EventKind → List Event → Event → Bool
 is_sought (Losses which) taken before e = is_loss_left which taken before e
 is_sought Messages taken before e = is_message_left taken before e
 

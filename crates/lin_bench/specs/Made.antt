@@ -47,10 +47,10 @@ condition_begun c past (condition.Changed node signal first) =
     condition.Changed node signal (value_seen c past node signal)
 condition_begun c past what = what
 
-abbrev pub begun : Parts → List LogEntry → Expected → Expected
-begun c past (expected.Is what) = expected.Is (condition_begun c past what)
-begun c past (expected.Not what) = expected.Not (condition_begun c past what)
-begun c past what = what
+abbrev pub expected_begun : Parts → List LogEntry → Expected → Expected
+expected_begun c past (expected.Is what) = expected.Is (condition_begun c past what)
+expected_begun c past (expected.Not what) = expected.Not (condition_begun c past what)
+expected_begun c past what = what
 
 -- what is waited for comes: where it speaks of messages or of what became of them, there is one that
 -- isn't taken, right or wrong; and otherwise it is so
@@ -69,21 +69,21 @@ never_ends at = false
 
 -- the steps that a line says on a bench, without those that the rules add; where they are slots, at
 -- most as many as a limit of their extent allows
-unfoldable pub said : Parts → ℕ → ℕ → (Extent → ℕ) → BenchState → ScriptLine → List (PortId × Step)
-said c opening capacity limit b (line.Step by step) = (by, step) ∷ []
-said c opening capacity limit b (line.Slot how) =
+unfoldable pub steps_said : Parts → ℕ → ℕ → (Extent → ℕ) → BenchState → ScriptLine → List (PortId × Step)
+steps_said c opening capacity limit b (line.Step by step) = (by, step) ∷ []
+steps_said c opening capacity limit b (line.Slot how) =
     extent_steps c opening capacity how (Count 1) never_ends (limit (Count 1)) (course_of b)
-said c opening capacity limit b (line.Slots s) =
+steps_said c opening capacity limit b (line.Slots s) =
     extent_steps c opening capacity (Leave s.leave) s.extent never_ends (limit s.extent) (course_of b)
-said c opening capacity limit b (line.Until s what) =
+steps_said c opening capacity limit b (line.Until s what) =
     extent_steps c opening capacity (Leave s.leave) s.extent
-    (comes c opening b.taken (begun c b.past what)) (limit s.extent) (course_of b)
-said c opening capacity limit b (line.While s what) =
+    (comes c opening b.taken (expected_begun c b.past what)) (limit s.extent) (course_of b)
+steps_said c opening capacity limit b (line.While s what) =
     extent_steps c opening capacity (Leave s.leave) s.extent
-    (fails c opening b.taken (length b.past) (begun c b.past what)) (limit s.extent) (course_of b)
-said c opening capacity limit b (line.Expect what) = []
-said c opening capacity limit b line.Forget = []
-said c opening capacity limit b (line.Rule r) = []
+    (fails c opening b.taken (length b.past) (expected_begun c b.past what)) (limit s.extent) (course_of b)
+steps_said c opening capacity limit b (line.Expect what) = []
+steps_said c opening capacity limit b line.Forget = []
+steps_said c opening capacity limit b (line.Rule r) = []
 
 -- how many slots a line of slots made by these steps; no other line makes any
 abbrev pub slots_made : ScriptLine → List (PortId × Step) → ℕ
@@ -111,8 +111,8 @@ expects line = None
 
 -- likewise of a line that begins in this history
 abbrev pub expects_from : Parts → List LogEntry → ScriptLine → Option Expected
-expects_from c past (line.Until s what) = Some (begun c past what)
-expects_from c past (line.While s what) = Some (begun c past what)
+expects_from c past (line.Until s what) = Some (expected_begun c past what)
+expects_from c past (line.While s what) = Some (expected_begun c past what)
 expects_from c past line = expects line
 
 abbrev pub met_or : Expected → Option Got → Verdict
@@ -163,6 +163,6 @@ unfoldable pub made : Parts → ℕ → ℕ → BenchState → ScriptLine → Be
 made c opening capacity b line.Forget = (forgotten b, Nothing)
 made c opening capacity b (line.Rule r) = (with_rule c b r, rule_verdict b.rules r)
 made c opening capacity b line =
-    let steps = said c opening capacity most b line
+    let steps = steps_said c opening capacity most b line
     in made_within c opening capacity b (slots_made line steps) steps
-    (said c opening capacity (λ extent. b.left) b line) (expects_from c b.past line)
+    (steps_said c opening capacity (λ extent. b.left) b line) (expects_from c b.past line)

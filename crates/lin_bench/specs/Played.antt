@@ -137,15 +137,15 @@ play_result strict c opening capacity ls = played_under strict c opening capacit
 -- ---- the ends of lines
 -- how many entries the log had after each of these lines on a bench, up to one that makes more slots
 -- than are left
-abbrev pub ended : ℕ × ScriptLine → BenchState × Verdict → List LineEnd → List LineEnd
-ended l (b, SlotLimit) more = []
-ended l (b, verdict) more = record { line = l.0; entries = length b.past } ∷ more
+abbrev pub add_line_end : ℕ × ScriptLine → BenchState × Verdict → List LineEnd → List LineEnd
+add_line_end l (b, SlotLimit) more = []
+add_line_end l (b, verdict) more = record { line = l.0; entries = length b.past } ∷ more
 
 abbrev pub ends_from : Parts → ℕ → ℕ → BenchState → List (ℕ × ScriptLine) → List LineEnd
 ends_from c opening capacity b [] = []
 ends_from c opening capacity b (l ∷ ls) =
     let m = made c opening capacity b l.1
-    in ended l m (ends_from c opening capacity m.0 ls)
+    in add_line_end l m (ends_from c opening capacity m.0 ls)
 
 abbrev pub ends_under : Parts → ℕ → ℕ → List SlotFault → List (ℕ × ScriptLine) → List LineEnd
 ends_under c opening capacity fs ls = ends_from c opening capacity (first_under fs) ls

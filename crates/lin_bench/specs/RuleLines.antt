@@ -222,9 +222,9 @@ ends_rule last None = bytes_eq last (codes "off")
 ends_rule last (Some s) = false
 
 -- a pattern of one field at least, and `silent`, or `off` alone
-abbrev pub unanswered : Parts → List ℕ → Option (List ℕ) → List (List ℕ) → Option (List ℕ)
+abbrev pub silent_or_end : Parts → List ℕ → Option (List ℕ) → List (List ℕ) → Option (List ℕ)
     → Result Rule Reason
-unanswered c n s fs next =
+silent_or_end c n s fs next =
     if nat_le (length fs) 1 then Err WhenForm
     else if bytes_eq (last_field fs) (codes "silent")
     then when_of c n s (fields_before fs) (answers_of None) next
@@ -236,7 +236,7 @@ abbrev pub when_by : Parts → List ℕ → Option (List ℕ) → List ℕ → L
     → Option (List (List ℕ) × List (List ℕ))
     → Result Rule Reason
 when_by c n s f fs next (Some p) = when_of c n s (f ∷ p.0) (answers_of (Some p.1)) next
-when_by c n s f fs next None = unanswered c n s (f ∷ fs) next
+when_by c n s f fs next None = silent_or_end c n s (f ∷ fs) next
 
 abbrev pub when_entering : Parts → List ℕ → Option (List ℕ) → List (List ℕ) × Option (List ℕ)
     → Result Rule Reason

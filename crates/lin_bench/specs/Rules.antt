@@ -202,27 +202,29 @@ all_noted noted (n ∷ ns) = all_noted (noted_with noted n) ns
 -- ---- what an event of a finish at a time changes: a message from host 0 is answered by the rule for it,
 -- and its responder enters the state that the rule names; if no rule is for it, the responder answers by
 -- itself. A message to all responders isn't answered
-abbrev pub entered : List NodeState → ℕ → Option (List ℕ) → List NodeState
-entered states node None = states
-entered states node (Some name) = with_state states node name
+abbrev pub states_after_entering : List NodeState → ℕ → Option (List ℕ) → List NodeState
+states_after_entering states node None = states
+states_after_entering states node (Some name) = with_state states node name
 
-abbrev pub answered : Bool → List Noted → List Noted → List Noted
-answered is_to_all noted more = if is_to_all then noted else all_noted noted more
+abbrev pub with_answers : Bool → List Noted → List Noted → List Noted
+with_answers is_to_all noted more = if is_to_all then noted else all_noted noted more
 
-abbrev pub reacted : Option Parts → Bool → ℕ → Rules → ℕ → List ℕ → Option When → Rules
-reacted served is_to_all time rules node message None =
-    record rules { noted = answered is_to_all rules.noted (service_notes served time node message) }
-reacted served is_to_all time rules node message (Some w) = record rules {
-  states = entered rules.states node w.enter;
-  noted = answered is_to_all rules.noted (noted_answers time node message w.answers);
+abbrev pub rules_after_reaction : Option Parts → Bool → ℕ → Rules → ℕ → List ℕ → Option When → Rules
+rules_after_reaction served is_to_all time rules node message None =
+    record rules { noted = with_answers is_to_all rules.noted (service_notes served time node message) }
+rules_after_reaction served is_to_all time rules node message (Some w) = record rules {
+  states = states_after_entering rules.states node w.enter;
+  noted = with_answers is_to_all rules.noted (noted_answers time node message w.answers);
 }
+
+abbrev pub rules_after_message : Option Parts → Bool → ℕ → Rules → ℕ → List ℕ → Rules
+rules_after_message served is_to_all time rules node message =
+    rules_after_reaction served is_to_all time rules node message
+    (rule_for rules.whens node (state_of rules.states node) message)
 
 abbrev pub after_event : Option Parts → Bool → ℕ → Rules → Event → Rules
 after_event served is_to_all time rules (Message from to message) =
-    if from == 0
-    then reacted served is_to_all time rules to message
-    (rule_for rules.whens to (state_of rules.states to) message)
-    else rules
+    if from == 0 then rules_after_message served is_to_all time rules to message else rules
 after_event served is_to_all time rules event = rules
 
 -- and what all events change, each on what those before it left

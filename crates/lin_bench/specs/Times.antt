@@ -9,13 +9,13 @@ use Rattle.lin_bench.specs.declared.reason.Reason.{Reason}
 use Rattle.lin_bench.specs.declared.reason.Reason.TheVariants.{NoTime}
 
 -- the microseconds that one to three digits after the point of milliseconds spell
-abbrev pub scaled : ℕ → ℕ → Option ℕ
-scaled places count =
+abbrev pub thousandths_of : ℕ → ℕ → Option ℕ
+thousandths_of places count =
     if places == 1 then Some (100 * count) else if places == 2 then Some (10 * count)
     else if places == 3 then Some count else None
 
 abbrev pub thousandths : List ℕ → Option ℕ
-thousandths digits = option_and_then (scaled (length digits)) (number 999 digits)
+thousandths digits = option_and_then (thousandths_of (length digits)) (number 999 digits)
 
 -- at most 1,000,000 milliseconds
 abbrev pub up_to_limit : ℕ → Option ℕ

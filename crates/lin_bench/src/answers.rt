@@ -8,8 +8,8 @@ ghost use Rattle.std.specs.Option.{option_copied, option_map_or};
 ghost use Rattle.lin_parts.specs.Cluster.{nodes};
 ghost use Rattle.lin_bench.specs.Rules.{all_noted, answer_bytes, fits, fits_byte, has_length, noted_with, noted_answers};
 ghost use Rattle.lin_bench.specs.Rules.{is_below, is_rule_for, more_specific, rank_at, rule_for};
-ghost use Rattle.lin_bench.specs.Rules.{after_event, after_events, answered, entered, is_below_pattern};
-ghost use Rattle.lin_bench.specs.Rules.{part_byte, reacted, same_byte, same_pattern, same_rule, state_of};
+ghost use Rattle.lin_bench.specs.Rules.{after_event, after_events, with_answers, states_after_entering, is_below_pattern};
+ghost use Rattle.lin_bench.specs.Rules.{part_byte, rules_after_message, same_byte, same_pattern, same_rule};
 ghost use Rattle.lin_bench.specs.Rules.{data_by, request_byte, request_of, service_answer};
 ghost use Rattle.lin_bench.specs.Rules.{service_data, service_notes, whens_with};
 
@@ -327,8 +327,8 @@ fn apply(
     noted: &mut Many<Noted>,
     at: Arrival<'_>,
 ) -> Result<(), AllocError>
-    ensures states { OnOk result (states.new ≡ entered states.old at.entry.node when.now.enter) }
-    ensures noted { OnOk result (noted.new ≡ answered at.entry.to_all noted.old
+    ensures states { OnOk result (states.new ≡ states_after_entering states.old at.entry.node when.now.enter) }
+    ensures noted { OnOk result (noted.new ≡ with_answers at.entry.to_all noted.old
         (noted_answers at.entry.time at.entry.node at.entry.message.now when.now.answers)) }
 {
     enter(alloc, states, at.node, &when.enter)?;
@@ -348,10 +348,8 @@ fn apply(
 
 /// Changes what a message changes that arrived at a responder.
 fn react(alloc: Global, rules: &mut Rules, at: Arrival<'_>) -> Result<(), AllocError>
-    ensures { OnOk result (rules.new ≡ reacted (option_copied at.entry.served) at.entry.to_all
-        at.entry.time rules.old at.entry.node at.entry.message.now
-        (rule_for rules.old.whens at.entry.node (state_of rules.old.states at.entry.node)
-        at.entry.message.now)) }
+    ensures { OnOk result (rules.new ≡ rules_after_message (option_copied at.entry.served) at.entry.to_all
+        at.entry.time rules.old at.entry.node at.entry.message.now) }
 {
     let whens = rules.whens.as_slice();
     let state = state_of(rules.states.as_slice(), at.node);

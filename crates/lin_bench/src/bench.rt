@@ -338,7 +338,7 @@ impl Bench {
     /// for more lines.
     /// - `LogFull`: the line's steps are more than fit;
     /// - `OutOfMemory`.
-    #[tactic(auto, unfolding(crate::specs::Made::made, crate::specs::Made::said))]
+    #[tactic(auto, unfolding(crate::specs::Made::made, crate::specs::Made::steps_said))]
     pub fn make(&mut self, alloc: Global, line: ScriptLine) -> Result<Verdict, MakeFault>
         ensures { MakesLine self.old line result self.new }
     {

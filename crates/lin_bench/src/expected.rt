@@ -2,7 +2,7 @@
 
 ghost use Rattle.std.specs.Prelude.{◌≡◌};
 ghost use Rattle.lin_core.specs.Core.{past_of};
-ghost use Rattle.lin_bench.specs.Made.{begun, condition_begun};
+ghost use Rattle.lin_bench.specs.Made.{expected_begun, condition_begun};
 ghost use Rattle.lin_bench.specs.Words.{meant_by, meant_condition};
 
 use crate::conditions::value_seen;
@@ -280,7 +280,7 @@ impl Drop for Expected {
 impl Expected {
     /// What is expected of a line that begins now.
     pub(crate) fn begun(self, core: &Core) -> Expected
-        ensures { result ≡ begun core.now.cluster (past_of core.now) self }
+        ensures { result ≡ expected_begun core.now.cluster (past_of core.now) self }
     {
         match self {
             Expected::Is(what) => Expected::Is(what.begun(core)),

@@ -12,7 +12,7 @@ use lin_core::{Event, Log};
 
 /// Events that a search is for.
 #[derive(Clone, Copy)]
-pub(crate) enum Sought {
+pub(crate) enum EventsSought {
     /// Losses, of a message of this host where there is one.
     Losses(Option<u8>),
     /// Messages of all hosts.
@@ -118,7 +118,7 @@ fn is_message_left(taken: &TakenEvents, entry: usize, before: &[Event], event: &
 /// Whether an event is one that a search is for, and isn't taken.
 fn is_sought(
     taken: &TakenEvents,
-    sought: Sought,
+    sought: EventsSought,
     entry: usize,
     before: &[Event],
     event: &Event,
@@ -126,15 +126,15 @@ fn is_sought(
     ensures { TellsIfSo (is_sought sought) taken.now entry before.now event.now result }
 {
     match sought {
-        Sought::Losses(which) => is_loss_left(taken, which, entry, before, event),
-        Sought::Messages => is_message_left(taken, entry, before, event),
+        EventsSought::Losses(which) => is_loss_left(taken, which, entry, before, event),
+        EventsSought::Messages => is_message_left(taken, entry, before, event),
     }
 }
 
 /// The first among the events of an entry that a search is for, and that isn't taken.
 pub(crate) fn first_in<'a>(
     taken: &TakenEvents,
-    sought: Sought,
+    sought: EventsSought,
     entry: usize,
     told: &'a [Event],
 ) -> Option<&'a Event>
@@ -156,7 +156,7 @@ pub(crate) fn first_message<'a>(log: &'a Log, taken: &TakenEvents) -> Option<&'a
 {
     for index in taken.forgotten..log.len() {
         let told = events_of(log.entry(index));
-        if let Some(event) = first_in(taken, Sought::Messages, index, told) {
+        if let Some(event) = first_in(taken, EventsSought::Messages, index, told) {
             return Some(event);
         }
     }

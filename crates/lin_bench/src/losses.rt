@@ -4,7 +4,7 @@ ghost use Rattle.std.specs.Prelude.{◌≡◌, option_map, reverse};
 ghost use Rattle.lin_bench.specs.Searches.{AreClear, IsSearchState, taken_by};
 ghost use Rattle.lin_bench.specs.Verdicts.{first_loss};
 
-use crate::left_events::{Sought, first_in};
+use crate::left_events::{EventsSought, first_in};
 use crate::taken::{TakenEvents, events_of};
 use lin_core::{Event, Log};
 
@@ -18,7 +18,7 @@ fn find_loss<'a>(log: &'a Log, taken: &TakenEvents, which: Option<u8>) -> (Optio
 {
     for index in taken.cleared.before(which)..log.len() {
         let told = events_of(log.entry(index));
-        if let Some(event) = first_in(taken, Sought::Losses(which), index, told) {
+        if let Some(event) = first_in(taken, EventsSought::Losses(which), index, told) {
             return (Some(event), index);
         }
     }

@@ -5,11 +5,11 @@ ghost use Rattle.std.specs.Prelude.{IfOk, IfSome};
 ghost use Rattle.std.specs.List.{list_all};
 ghost use Rattle.std.specs.Str.{bytes_eq};
 ghost use Rattle.hex.specs.Hex.{hex_digit_value};
-ghost use Rattle.lin_bench.specs.Fields.{line_fields, field_texts};
+ghost use Rattle.lin_bench.specs.Fields.{field_texts, line_fields, maybe_text};
 ghost use Rattle.lin_bench.specs.Read.{Gives};
 ghost use Rattle.lin_bench.specs.RuleLines.{AddsRow, answer_form, answer_parts, answers_form, answers_of, copied_part};
 ghost use Rattle.lin_bench.specs.RuleLines.{after_state, before_enter, errors_form, errors_on, every_off, is_digit, is_letter};
-ghost use Rattle.lin_bench.specs.RuleLines.{ends_rule, is_name, is_name_sign, is_only, maybe_name, name_field, state_form, state_of_node, unanswered};
+ghost use Rattle.lin_bench.specs.RuleLines.{ends_rule, is_name, is_name_sign, is_only, maybe_name, name_field, state_form, state_of_node, silent_or_end};
 ghost use Rattle.lin_bench.specs.RuleLines.{when_end, when_in, whens_end};
 ghost use Rattle.lin_bench.specs.RuleLines.{services_form, services_on, has_several_bits, every_fields, every_form, has_star, hex_byte, hex_part};
 ghost use Rattle.lin_bench.specs.RuleLines.{all_parts, last_field, parts_field, parts_fields, pattern_byte};
@@ -332,7 +332,7 @@ fn name(alloc: Global, field: &[u8]) -> Result<Text, LineFault>
 
 /// A name, if there is a field for it.
 fn maybe_name(alloc: Global, field: Option<&[u8]>) -> Result<Option<Text>, LineFault>
-    ensures { Gives (λ n. n) result (maybe_name (option_map (λ f. f.now) field.entry)) }
+    ensures { Gives (λ n. n) result (maybe_name (maybe_text field.entry)) }
 {
     match field {
         Some(field) => Ok(Some(name(alloc, field)?)),
@@ -358,9 +358,9 @@ fn when_with(
     next: Option<&[u8]>,
 ) -> Result<Rule, LineFault>
     ensures { Gives (λ r. r) result (when_of cluster.now whose.entry.node.now
-        (option_map (λ f. f.now) whose.entry.state) (field_texts fields.now)
+        (maybe_text whose.entry.state) (field_texts fields.now)
         (answers_of (option_map (λ fs. field_texts fs.now) answers_in.entry))
-        (option_map (λ f. f.now) next.entry)) }
+        (maybe_text next.entry)) }
 {
     let node = responder(alloc, cluster, whose.node)?;
     let state = maybe_name(alloc, whose.state)?;
@@ -387,7 +387,7 @@ fn when_end(
     rows: &[&[u8]],
 ) -> Result<Rule, LineFault>
     ensures { Gives (λ r. r) result (when_end cluster.now whose.entry.node.now
-        (option_map (λ f. f.now) whose.entry.state) (field_texts rows.now)) }
+        (maybe_text whose.entry.state) (field_texts rows.now)) }
 {
     let node = responder(alloc, cluster, whose.node)?;
     let state = maybe_name(alloc, whose.state)?;
@@ -449,7 +449,7 @@ fn before_enter<'a>(fields: &'a [&'a [u8]]) -> (&'a [&'a [u8]], Option<&'a [u8]>
 
 /// Whether the last field is `off`, and no state is entered.
 fn ends_rule(last: &[u8], next: Option<&[u8]>) -> bool
-    ensures { result ≡ ends_rule last.now (option_map (λ f. f.now) next.entry) }
+    ensures { result ≡ ends_rule last.now (maybe_text next.entry) }
 {
     match next {
         None => last == b"off".as_slice(),
@@ -465,9 +465,9 @@ fn unanswered(
     fields: &[&[u8]],
     next: Option<&[u8]>,
 ) -> Result<Rule, LineFault>
-    ensures { Gives (λ r. r) result (unanswered cluster.now whose.entry.node.now
-        (option_map (λ f. f.now) whose.entry.state) (field_texts fields.now)
-        (option_map (λ f. f.now) next.entry)) }
+    ensures { Gives (λ r. r) result (silent_or_end cluster.now whose.entry.node.now
+        (maybe_text whose.entry.state) (field_texts fields.now)
+        (maybe_text next.entry)) }
 {
     let [pattern @ .., last] = fields else {
         return Err(LineFault::Bad(Reason::WhenForm));
@@ -492,7 +492,7 @@ fn when_in(
     fields: &[&[u8]],
 ) -> Result<Rule, LineFault>
     ensures { Gives (λ r. r) result (when_in cluster.now whose.entry.node.now
-        (option_map (λ f. f.now) whose.entry.state, field_texts fields.now)) }
+        (maybe_text whose.entry.state, field_texts fields.now)) }
 {
     let (fields, next) = before_enter(fields);
     let [_, rest @ ..] = fields else {

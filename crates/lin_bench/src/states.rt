@@ -1,7 +1,7 @@
 //! States of responders.
 
 ghost use Rattle.std.specs.Prelude.{◌≡◌, filter, find, not, option_map, OnOk};
-ghost use Rattle.lin_bench.specs.Rules.{entered, is_for_state, is_state_of, same_state};
+ghost use Rattle.lin_bench.specs.Rules.{states_after_entering, is_for_state, is_state_of, same_state};
 ghost use Rattle.lin_bench.specs.Rules.{state_of, with_state};
 
 use crate::rules::NodeState;
@@ -90,7 +90,7 @@ pub(crate) fn enter(
     node: u8,
     name: &Option<Text>,
 ) -> Result<(), AllocError>
-    ensures { OnOk result (states.new ≡ entered states.old node name.now) }
+    ensures { OnOk result (states.new ≡ states_after_entering states.old node name.now) }
 {
     match name {
         Some(name) => set_state(alloc, states, node, name.as_slice()),

@@ -8,7 +8,7 @@ use Rattle.lin_core.specs.Runs.{entry_of}
 use Rattle.lin_core.specs.declared.log.LogEntry.{LogEntry}
 use Rattle.lin_core.specs.declared.port.PortId.{PortId}
 use Rattle.lin_core.specs.declared.step.Step.{Step}
-use Rattle.lin_bench.specs.Made.{BenchState, course_of, expects_from, bench_with_verdict, made, made_within, said, slots_made, bench_after_steps}
+use Rattle.lin_bench.specs.Made.{BenchState, course_of, expects_from, bench_with_verdict, made, made_within, steps_said, slots_made, bench_after_steps}
 use Rattle.lin_bench.specs.Added.{added_steps}
 use Rattle.lin_bench.specs.Faults.{disturbed_steps}
 use Rattle.lin_bench.specs.Slots.{Course, course_after as after_steps, after_made, most, past_after, with_entry, with_struck}
@@ -84,11 +84,11 @@ kept-within c opening capacity P keeps b count steps first what h =
     ]
 
 kept-line : (c : Parts) (opening capacity : ℕ) (P : List LogEntry → Type 0) → Keeps c opening capacity P → (b : BenchState) (l : ScriptLine) → P b.past
-    → P (made_within c opening capacity b (slots_made l (said c opening capacity most b l)) (said c opening capacity most b l)
-    (said c opening capacity (λ extent. b.left) b l) (expects_from c b.past l)).0.past
+    → P (made_within c opening capacity b (slots_made l (steps_said c opening capacity most b l)) (steps_said c opening capacity most b l)
+    (steps_said c opening capacity (λ extent. b.left) b l) (expects_from c b.past l)).0.past
 kept-line c opening capacity P keeps b l h =
-    let steps = said c opening capacity most b l in
-    kept-within c opening capacity P keeps b (slots_made l steps) steps (said c opening capacity (λ extent. b.left) b l) (expects_from c b.past l) h
+    let steps = steps_said c opening capacity most b l in
+    kept-within c opening capacity P keeps b (slots_made l steps) steps (steps_said c opening capacity (λ extent. b.left) b l) (expects_from c b.past l) h
 
 pub kept-made : (c : Parts) (opening capacity : ℕ) (P : List LogEntry → Type 0) → Keeps c opening capacity P → (b : BenchState) (l : ScriptLine) → P b.past
     → P (made c opening capacity b l).0.past

@@ -11,7 +11,7 @@ use Rattle.lin_core.specs.declared.step.Step.{Step}
 use Rattle.lin_values.specs.Coded.{CodedData}
 use Rattle.lin_bench.specs.Fields.{line_fields}
 use Rattle.lin_bench.specs.Scripts.{Script, read_lines, with_read_line}
-use Rattle.lin_bench.specs.Made.{BenchState, expects_from, bench_with_verdict, made, made_within, said as steps_said, slots_made, bench_after_steps}
+use Rattle.lin_bench.specs.Made.{BenchState, expects_from, bench_with_verdict, made, made_within, steps_said, slots_made, bench_after_steps}
 use Rattle.lin_bench.specs.Played.{Run, come_to, initial_bench, in_turn, is_unmet as is_missed, judged_from, judgements, next, on_line, own, some_unmet, line_result as run_told, with_judgements}
 use Rattle.lin_bench.specs.Slots.{most, slot_limit}
 use Rattle.lin_bench.specs.Words.{read_worded_line}

@@ -1,6 +1,6 @@
 use Rattle.std.proofs.Common.{◌≡◌, ◌∙◌, Some, None, refl, ap, Result, Ok, Err, OnOk}
 use Rattle.std.specs.Option.{option_copied}
-use Rattle.lin_bench.specs.Rules.{all_noted, answered, entered, noted_answers, reacted, rule_for, service_notes, state_of}
+use Rattle.lin_bench.specs.Rules.{all_noted, with_answers, states_after_entering, noted_answers, rules_after_reaction, rule_for, service_notes, state_of}
 use Rattle.lin_bench.proofs.answers.react.Goals as goal
 
 on-both : {T E P Q R : Type 0} (r : Result T E) → (P → Q → R) → OnOk r P → OnOk r Q → OnOk r R
@@ -18,8 +18,8 @@ returns-in-Some c =
     let found = rw (c.as_slice-whens.ensures, c.state_of-state.ensures, c.as_slice.ensures) at c.rule_for.ensures in
     let is : Some c.in-Some.when.now ≡ rule_for rules.whens at.node (state_of rules.states at.node) at.message.now = rw c.in-Some.is at found in
     on-both c.apply.result
-    (λ (s : c.apply.new.states ≡ entered rules.states at.node c.in-Some.when.now.enter)
-    (n : c.apply.new.noted ≡ answered at.to_all rules.noted (noted_answers at.time at.node at.message.now c.in-Some.when.now.answers)).
+    (λ (s : c.apply.new.states ≡ states_after_entering rules.states at.node c.in-Some.when.now.enter)
+    (n : c.apply.new.noted ≡ with_answers at.to_all rules.noted (noted_answers at.time at.node at.message.now c.in-Some.when.now.answers)).
     rw (← is, s, n) refl)
     c.apply.ensures.states c.apply.ensures.noted
 

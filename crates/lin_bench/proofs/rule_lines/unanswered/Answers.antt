@@ -7,7 +7,7 @@ use Rattle.std.proofs.lemmas.Grind.{common_steps}
 use Rattle.std.proofs.lemmas.List.{length-map}
 use Rattle.lin_parts.specs.declared.parts.Parts.{Parts}
 use Rattle.lin_bench.specs.Fields.{field_texts}
-use Rattle.lin_bench.specs.RuleLines.{answers_of, ends_rule, unanswered, when_end, when_of}
+use Rattle.lin_bench.specs.RuleLines.{answers_of, ends_rule, silent_or_end, when_end, when_of}
 use Rattle.lin_bench.specs.declared.reason.Reason.TheVariants.{WhenForm}
 use Rattle.lin_bench.proofs.Rows.{words-before, words-last}
 use Rattle.lin_bench.proofs.rule_lines.unanswered.Goals as goal
@@ -24,13 +24,13 @@ long fs h =
     grind (arith, nat_tests, l, h)
 
 silent : (c : Parts) (n : List ℕ) (s next : Option (List ℕ)) (fs : List (Bor (List ℕ))) → 1 < length fs → true ≡ bytes_eq (last fs) (codes "silent")
-    → unanswered c n s (field_texts fs) next ≡ when_of c n s (field_texts (take (length fs - 1) fs)) (answers_of None) next
+    → silent_or_end c n s (field_texts fs) next ≡ when_of c n s (field_texts (take (length fs - 1) fs)) (answers_of None) next
 silent c n s next fs h e =
     let is = e ∙ ap (λ l. bytes_eq l (codes "silent")) (words-last fs none (omega (arith, h))) in
     (rw (long fs h, ← is) refl) ∙ ap (λ l. when_of c n s l (answers_of None) next) (sym (words-before fs (omega (arith, h))))
 
 ended : (c : Parts) (n : List ℕ) (s next : Option (List ℕ)) (fs : List (Bor (List ℕ))) → 1 < length fs → false ≡ bytes_eq (last fs) (codes "silent") → true ≡ ends_rule (last fs) next
-    → unanswered c n s (field_texts fs) next ≡ when_end c n s (field_texts (take (length fs - 1) fs))
+    → silent_or_end c n s (field_texts fs) next ≡ when_end c n s (field_texts (take (length fs - 1) fs))
 ended c n s next fs h e k =
     let end = words-last fs none (omega (arith, h)) in
     let not = e ∙ ap (λ l. bytes_eq l (codes "silent")) end in
@@ -38,7 +38,7 @@ ended c n s next fs h e k =
     (rw (long fs h, ← not, ← is) refl) ∙ ap (when_end c n s) (sym (words-before fs (omega (arith, h))))
 
 neither : (c : Parts) (n : List ℕ) (s next : Option (List ℕ)) (fs : List (Bor (List ℕ))) → 1 < length fs → false ≡ bytes_eq (last fs) (codes "silent") → false ≡ ends_rule (last fs) next
-    → unanswered c n s (field_texts fs) next ≡ Err WhenForm
+    → silent_or_end c n s (field_texts fs) next ≡ Err WhenForm
 neither c n s next fs h e k =
     let end = words-last fs none (omega (arith, h)) in
     let not = e ∙ ap (λ l. bytes_eq l (codes "silent")) end in

@@ -6,7 +6,7 @@ use Rattle.std.specs.Str.{bytes_eq}
 use Rattle.std.proofs.lemmas.List.{length-drop, take_all}
 use Rattle.lin_parts.specs.declared.parts.Parts.{Parts}
 use Rattle.lin_bench.specs.Fields.{field_texts}
-use Rattle.lin_bench.specs.RuleLines.{answers_of, before_enter, cut_at_answer, unanswered, when_by, when_entering, when_in, when_of}
+use Rattle.lin_bench.specs.RuleLines.{answers_of, before_enter, cut_at_answer, silent_or_end, when_by, when_entering, when_in, when_of}
 use Rattle.lin_bench.proofs.Appending.{head-and-rest}
 use Rattle.lin_bench.proofs.Places.{cut-at, cut-nowhere, is-answer}
 use Rattle.lin_bench.proofs.rule_lines.when_in.Goals as goal
@@ -39,12 +39,12 @@ answered c n s next fields d i k e =
     ∙ ap (λ l. when_of c n s (field_texts (take (i + 1) fields)) (answers_of (Some (field_texts l))) next) (sym whole)
 
 not-answered : (c : Parts) (n : List ℕ) (s next : Option (List ℕ)) (fields : List (Bor (List ℕ))) (d : Bor (List ℕ)) → 1 ≤ length fields → None ≡ position is-answer (rest-of fields)
-    → when_entering c n s (field_texts fields, next) ≡ unanswered c n s (field_texts fields) next
+    → when_entering c n s (field_texts fields, next) ≡ silent_or_end c n s (field_texts fields) next
 not-answered c n s next fields d k e =
     let f = get_or fields 0 d in
     let rest = rest-of fields in
     by-fields c n s next fields d k ∙ ap (when_by c n s f.now (field_texts rest) next) (cut-nowhere rest d e)
-    ∙ ap (λ l. unanswered c n s (field_texts l) next) (sym (head-and-rest fields d k))
+    ∙ ap (λ l. silent_or_end c n s (field_texts l) next) (sym (head-and-rest fields d k))
 
 -- the fields before a state that is entered
 entering : (c : Parts) (n : List ℕ) (s next : Option (List ℕ)) (all fields : List (Bor (List ℕ))) → (field_texts fields, next) ≡ before_enter (field_texts all)
