@@ -7,7 +7,7 @@ use Rattle.std.proofs.lemmas.List.Elements.{filter-append}
 use Rattle.lin_sections.specs.Differences.{difference_data, differences_data, DifferenceData}
 use Rattle.lin_sections.specs.declared.diff.difference.Difference.{Difference}
 use Rattle.lin_sections.specs.ListedDifferences.{difference_line, difference_lines, lists_class}
-use Rattle.lin_sections.specs.declared.diff.lines.Classes.{Classes}
+use Rattle.lin_sections.specs.declared.diff.difference_lines.Classes.{Classes}
 
 both-lines : (old_file new_file : List ℕ) (classes : Classes) (ds es : List DifferenceData)
     → difference_lines old_file new_file classes (ds ++ es)

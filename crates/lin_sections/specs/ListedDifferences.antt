@@ -9,7 +9,7 @@ use Rattle.lin_sections.specs.declared.diff.difference.Difference.{Difference}
 use Rattle.lin_sections.specs.Facts.{class_word, kind_word}
 use Rattle.lin_sections.specs.declared.diff.fact.Class.{Class}
 use Rattle.lin_sections.specs.declared.diff.fact.Class.TheVariants.{Bytes, Timing, Meaning, Compatible, Names}
-use Rattle.lin_sections.specs.declared.diff.lines.Classes.{Classes}
+use Rattle.lin_sections.specs.declared.diff.difference_lines.Classes.{Classes}
 
 abbrev pub lists_class : Classes → Class → Bool
 lists_class classes Bytes = classes.bytes

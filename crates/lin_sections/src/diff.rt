@@ -8,6 +8,7 @@ ghost use Rattle.lin_sections.specs.Things.{all_things, compared_data, IsReadOf}
 mod chain;
 mod compared;
 mod difference;
+mod difference_lines;
 mod encoding_facts;
 mod entry_pairs;
 mod fact;
@@ -16,7 +17,6 @@ mod fact_text;
 mod frame_facts;
 mod header_facts;
 mod index;
-mod lines;
 mod new_names;
 mod node_facts;
 mod numbering;
@@ -31,10 +31,10 @@ use crate::diff::compared::LdfFacts;
 use crate::diff::renames::Renames;
 pub use compared::ComparedLdf;
 pub use difference::Difference;
+pub use difference_lines::{Classes, is_any_listed, write_differences};
 pub use fact::{Bits, Class, EntryFact, Fact, Thing, ThingKind};
 pub use fact_text::FactText;
 use lin_text::Many;
-pub use lines::{Classes, is_any_listed, write_differences};
 use std::alloc::{AllocError, Global};
 pub use thing_pairs::differences;
 

@@ -9,7 +9,7 @@ use Rattle.lin_cluster.specs.declared.finding.Finding.{Finding}
 use Rattle.lin_cluster.proofs.CheckedDescriptions.{free-from-none, some-found}
 use Rattle.lin_cluster.proofs.FindingsOrder.{one_answer}
 use Rattle.lin_sections.specs.ListedDifferences.{lists_class}
-use Rattle.lin_sections.specs.declared.diff.lines.Classes.{Classes}
+use Rattle.lin_sections.specs.declared.diff.difference_lines.Classes.{Classes}
 use Rattle.lin_field.specs.declared.normalizing.Normalized.{Normalized}
 use Rattle.lin_sections.specs.Differences.{all_differences, difference_data, differences_data, DifferenceData}
 use Rattle.lin_sections.specs.NewNames.{no_renames}

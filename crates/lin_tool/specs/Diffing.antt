@@ -5,7 +5,7 @@ use Rattle.std.specs.List.{list_any}
 use Rattle.lin_cluster.specs.Described.{parts_of}
 use Rattle.lin_export.specs.TableLoads.{table_loads}
 use Rattle.lin_sections.specs.ListedDifferences.{difference_lines, lists_class}
-use Rattle.lin_sections.specs.declared.diff.lines.Classes.{Classes}
+use Rattle.lin_sections.specs.declared.diff.difference_lines.Classes.{Classes}
 use Rattle.lin_field.specs.Checks.{IsFieldFree, IsRefusalOf}
 use Rattle.lin_field.specs.declared.field_check.FieldFault.TheVariants as check
 use Rattle.lin_field.specs.declared.normalizing.Normalized.{Normalized}

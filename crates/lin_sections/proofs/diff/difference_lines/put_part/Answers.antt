@@ -1,7 +1,7 @@
 use Rattle.std.proofs.Common.{◌≡◌, ◌<◌, ℕ, List, [], ◌∷◌, length, arith, refl}
 use Rattle.lin_text.proofs.Growing.{grows-more, same-growth}
 use Rattle.lin_sections.specs.ListedDifferences.{part}
-use Rattle.lin_sections.proofs.diff.lines.put_part.Goals as goal
+use Rattle.lin_sections.proofs.diff.difference_lines.put_part.Goals as goal
 
 part-of : (word : List ℕ) → 0 < length word → 32 ∷ word ≡ part word
 part-of [] lt = absurd (omega arith)

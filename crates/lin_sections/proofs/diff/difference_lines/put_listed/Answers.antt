@@ -4,7 +4,7 @@ use Rattle.lin_text.proofs.Growing.{grows-more, grows-nothing, same-growth}
 use Rattle.lin_sections.specs.Differences.{differences_data}
 use Rattle.lin_sections.specs.ListedDifferences.{difference_lines}
 use Rattle.lin_sections.proofs.DifferenceLines.{lines-more}
-use Rattle.lin_sections.proofs.diff.lines.put_listed.Goals as goal
+use Rattle.lin_sections.proofs.diff.difference_lines.put_listed.Goals as goal
 
 pub loop-difference-init : goal.loop-difference-init
 loop-difference-init g c = grows-nothing c.args.out.now

@@ -1,5 +1,5 @@
 use Rattle.lin_text.proofs.Growing.{grows-more}
-use Rattle.lin_sections.proofs.diff.lines.put_difference.Goals as goal
+use Rattle.lin_sections.proofs.diff.difference_lines.put_difference.Goals as goal
 
 pub returns : goal.returns
 returns g c =

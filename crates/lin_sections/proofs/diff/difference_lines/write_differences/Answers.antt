@@ -1,6 +1,6 @@
 use Rattle.std.proofs.Common.{sym, ◌∙◌, rules}
 use Rattle.lin_text.proofs.Growing.{text-written}
-use Rattle.lin_sections.proofs.diff.lines.write_differences.Goals as goal
+use Rattle.lin_sections.proofs.diff.difference_lines.write_differences.Goals as goal
 
 pub returns : goal.returns
 returns g c =

@@ -3,7 +3,7 @@ use Rattle.std.specs.Prelude.{option_map}
 use Rattle.lin_sections.specs.ListedDifferences.{after_space}
 use Rattle.lin_text.proofs.Growing.{grows-more, same-growth}
 use Rattle.lin_sections.specs.ListedDifferences.{fact_value_word}
-use Rattle.lin_sections.proofs.diff.lines.put_value.Goals as goal
+use Rattle.lin_sections.proofs.diff.difference_lines.put_value.Goals as goal
 
 pub returns-in-Some : goal.returns-in-Some
 returns-in-Some g c =

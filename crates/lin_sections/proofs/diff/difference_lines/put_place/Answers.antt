@@ -2,7 +2,7 @@ use Rattle.std.proofs.Common.{ap, sym}
 use Rattle.lin_sections.specs.ListedDifferences.{after_space}
 use Rattle.lin_text.proofs.Growing.{grows-more, same-growth}
 use Rattle.lin_sections.specs.ListedDifferences.{file_place}
-use Rattle.lin_sections.proofs.diff.lines.put_place.Goals as goal
+use Rattle.lin_sections.proofs.diff.difference_lines.put_place.Goals as goal
 
 pub returns-in-Some : goal.returns-in-Some
 returns-in-Some g c =
