@@ -52,7 +52,8 @@ impl Model for Bench {
 }
 
 /// Judges what is expected.
-fn judge(
+#[inline(never)]
+fn judge_on(
     alloc: Global,
     ruled: &RuledCore,
     taken: &mut TakenEvents,
@@ -170,6 +171,7 @@ impl Bench {
 
     /// The hosts of which messages wait, and then the nodes of which answers are noted, and how
     /// many. An error means out of memory.
+    #[inline(never)]
     pub fn pending(&self, alloc: Global) -> Result<Vec<Pending>, AllocError>
         ensures { IfOk result (λ v. v.items
             ≡ pending self.now.core.cluster (past_of self.now.core) self.now.rules.noted) }
@@ -181,6 +183,7 @@ impl Bench {
     /// first lines of a node, a state and a pattern, then `timeouts`, `response_errors on`, `services on`,
     /// `every` in the order of the lines, and the states that aren't `default`. An error means out of
     /// memory.
+    #[inline(never)]
     pub fn rules(&self, alloc: Global) -> Result<Vec<Text>, AllocError>
         ensures { IfOk result (λ lines. lines.items
             ≡ lines_of_rules self.now.core.cluster self.now.rules) }
@@ -237,12 +240,13 @@ impl Bench {
     }
 
     /// Judges what is expected, if something is.
+    #[inline(always)]
     fn judge(&mut self, alloc: Global, expected: Option<Expected>) -> Result<Verdict, MakeFault>
         ensures { GivesVerdict self.old expected result self.new }
     {
         match expected {
             None => Ok(Verdict::Nothing),
-            Some(expected) => Ok(judge(alloc, &self.ruled, &mut self.taken, expected)?),
+            Some(expected) => Ok(judge_on(alloc, &self.ruled, &mut self.taken, expected)?),
         }
     }
 
@@ -259,6 +263,7 @@ impl Bench {
     }
 
     /// Makes slots, which may end early by what is expected after them, and judges that.
+    #[inline(always)]
     fn slots(
         &mut self,
         alloc: Global,
@@ -305,6 +310,34 @@ impl Bench {
         self.slots(alloc, &Disturbance::Leave(leave), extent, expected, early)
     }
 
+    /// Makes slots until what is expected comes, and judges it.
+    #[inline(never)]
+    fn slots_until(
+        &mut self,
+        alloc: Global,
+        slots: Slots,
+        expected: Expected,
+    ) -> Result<Verdict, MakeFault>
+        ensures { MakesLine self.old (ScriptLine.Until slots expected) result self.new }
+    {
+        let expected = expected.begun(self.core());
+        self.line_of_slots(alloc, slots, Some(expected), Early::Until)
+    }
+
+    /// Makes slots as long as what is expected holds after each of them, and judges it.
+    #[inline(never)]
+    fn slots_while(
+        &mut self,
+        alloc: Global,
+        slots: Slots,
+        expected: Expected,
+    ) -> Result<Verdict, MakeFault>
+        ensures { MakesLine self.old (ScriptLine.While slots expected) result self.new }
+    {
+        let expected = expected.begun(self.core());
+        self.line_of_slots(alloc, slots, Some(expected), Early::While)
+    }
+
     /// Puts single rules out of force. The verdict is that there are none, if so.
     #[tactic(auto, unfolding(crate::specs::Made::made))]
     fn end_rules(&mut self, alloc: Global, end: RuleEnd) -> Result<Verdict, MakeFault>
@@ -316,6 +349,7 @@ impl Bench {
     }
 
     /// Puts a rule in force, or out of it.
+    #[inline(never)]
     #[tactic(auto, unfolding(crate::specs::Made::made))]
     fn rule(&mut self, alloc: Global, rule: Rule) -> Result<Verdict, MakeFault>
         ensures { MakesLine self.old (ScriptLine.Rule rule) result self.new }
@@ -352,14 +386,8 @@ impl Bench {
                 let expected = expected_after(slots.extent);
                 self.line_of_slots(alloc, slots, expected, Early::Never)
             }
-            ScriptLine::Until(slots, expected) => {
-                let expected = expected.begun(self.core());
-                self.line_of_slots(alloc, slots, Some(expected), Early::Until)
-            }
-            ScriptLine::While(slots, expected) => {
-                let expected = expected.begun(self.core());
-                self.line_of_slots(alloc, slots, Some(expected), Early::While)
-            }
+            ScriptLine::Until(slots, expected) => self.slots_until(alloc, slots, expected),
+            ScriptLine::While(slots, expected) => self.slots_while(alloc, slots, expected),
             ScriptLine::Expect(expected) => self.judge(alloc, Some(expected)),
             ScriptLine::Forget => {
                 self.forget(alloc);

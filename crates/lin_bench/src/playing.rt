@@ -104,6 +104,7 @@ fn play_line(
 }
 
 /// The same, where the play is strict, by whether the next line speaks of the line's last step.
+#[inline(never)]
 fn play_strictly(
     alloc: Global,
     bench: &mut Bench,

@@ -260,6 +260,7 @@ fn is_going(
 
 /// Makes the slots of a line, and answers how many are left of those that may still be made; none
 /// where the line makes more than these, which are made then. What ends them isn't taken.
+#[inline(never)]
 #[tactic(auto, unfolding(crate::specs::Slots::extent_steps))]
 pub(crate) fn slots(
     alloc: Global,

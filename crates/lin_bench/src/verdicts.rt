@@ -1,16 +1,18 @@
 //! Verdicts on what is expected.
 
-ghost use Rattle.std.specs.Prelude.{◌≡◌, ◌==◌, ◌≤◌, ◌&&◌, IfOk, OnOk, None, option_and_then, option_map};
+ghost use Rattle.std.specs.Prelude.{◌≡◌, ◌==◌, ◌≤◌, ◌&&◌, IfOk, OnOk, None, Some, if◌then◌else◌, option_and_then, option_map};
 ghost use Rattle.lin_core.specs.Core.{past_of};
 ghost use Rattle.lin_bench.specs.Made.{comes};
 ghost use Rattle.lin_bench.specs.Searches.{IsSearchState, taken_by};
 ghost use Rattle.lin_bench.specs.Making.{course_on};
 ghost use Rattle.lin_bench.specs.Slots.{pending};
-ghost use Rattle.lin_bench.specs.Verdicts.{bytes_verdict, done_verdict, first_message, idle_verdict, judged_so};
+ghost use Rattle.lin_bench.specs.Verdicts.{bytes_verdict, done_verdict, first_message, got_unless, idle_verdict, judged_so};
 ghost use Rattle.lin_bench.specs.Verdicts.{kind_taken, lost_verdict, message_kind, message_verdict, newest_reply};
 ghost use Rattle.lin_bench.specs.Verdicts.{next_event, next_message_verdict, no_lost_verdict, no_message_verdict};
 ghost use Rattle.lin_bench.specs.Verdicts.{refused_verdict, running_table, sent_verdict, table_verdict, taking};
 ghost use Rattle.lin_bench.specs.Verdicts.{time_taken, tolerance, verdict, with_taken, within_verdict};
+ghost use Rattle.lin_bench.specs.declared.got.Got.TheVariants.{Asleep, Awake};
+ghost use Rattle.lin_bench.specs.declared.taken.EventKind.TheVariants.{Messages};
 
 use crate::answers::fits;
 use crate::arrivals::{self, EarlierMessages};
@@ -268,6 +270,25 @@ fn idle(alloc: Global, ruled: &RuledCore) -> Result<Option<Got>, AllocError>
     Ok(Some(Got::StillPending(Many::new(all))))
 }
 
+fn asleep(is_asleep: bool) -> Option<Got>
+    ensures { result ≡ got_unless is_asleep Awake }
+{
+    if is_asleep { None } else { Some(Got::Awake) }
+}
+
+fn awake(is_asleep: bool) -> Option<Got>
+    ensures { result ≡ (if is_asleep then Some Asleep else None) }
+{
+    if is_asleep { Some(Got::Asleep) } else { None }
+}
+
+/// The kind of the messages from one host to another.
+fn messages(from: u8, to: u8) -> EventKind
+    ensures { result ≡ Messages from to }
+{
+    EventKind::Messages { from, to }
+}
+
 /// The oldest event of a kind that isn't taken.
 fn look_for<'a>(
     core: &'a Core,
@@ -320,10 +341,7 @@ fn message_kind(event: Option<&Event>) -> Option<EventKind>
     ensures { result ≡ option_and_then message_kind (option_map (λ e. e.now) event.entry) }
 {
     match event {
-        Some(Event::Message { from, to, .. }) => Some(EventKind::Messages {
-            from: *from,
-            to: *to,
-        }),
+        Some(Event::Message { from, to, .. }) => Some(messages(*from, *to)),
         _ => None,
     }
 }
@@ -355,12 +373,9 @@ fn kind_taken(core: &Core, taken: &TakenEvents, expected: &Expected) -> Option<E
         ≡ kind_taken (past_of core.now) (taken_by core.now.log taken.now) expected.now }
 {
     match expected {
-        Expected::Message { from, to, .. } | Expected::MessageWithin { from, to, .. } => Some(
-            EventKind::Messages {
-                from: *from,
-                to: *to,
-            },
-        ),
+        Expected::Message { from, to, .. } | Expected::MessageWithin { from, to, .. } => {
+            Some(messages(*from, *to))
+        }
         Expected::NextMessage { .. } => message_kind(first_message(core.log(), taken)),
         Expected::Sent { host } | Expected::Lost { host, .. } => {
             Some(EventKind::Fates { host: *host })
@@ -412,11 +427,7 @@ pub(crate) fn verdict(
         Expected::Is(what) => Ok(judged(found(alloc, core, taken, what)?, true)),
         Expected::Not(what) => Ok(judged(found(alloc, core, taken, what)?, false)),
         Expected::Message { from, to, pattern } => {
-            let kind = EventKind::Messages {
-                from: *from,
-                to: *to,
-            };
-            let event = take_next(core, taken, kind)?;
+            let event = take_next(core, taken, messages(*from, *to))?;
             message(alloc, event, pattern)
         }
         Expected::MessageWithin {
@@ -427,11 +438,7 @@ pub(crate) fn verdict(
             since,
         } => {
             let took = time_taken(core, taken, *since, *from, *to);
-            let kind = EventKind::Messages {
-                from: *from,
-                to: *to,
-            };
-            let event = take_next(core, taken, kind)?;
+            let event = take_next(core, taken, messages(*from, *to))?;
             Ok(within(message(alloc, event, pattern)?, *most_ms, took))
         }
         Expected::NextMessage { from, to, pattern } => {
@@ -439,11 +446,8 @@ pub(crate) fn verdict(
             next_message(alloc, event, *from, *to, pattern)
         }
         Expected::NoMessage { from, to } => {
-            let kind = EventKind::Messages {
-                from: *from,
-                to: *to,
-            };
-            no_message(alloc, look_for(core, taken, kind)?)
+            let event = look_for(core, taken, messages(*from, *to))?;
+            no_message(alloc, event)
         }
         Expected::NoLost { host } => Ok(no_lost(first_loss(core.log(), taken, *host))),
         Expected::Sent { host } => {
@@ -462,16 +466,8 @@ pub(crate) fn verdict(
         Expected::Table(number) => Ok(table(running_table(alloc, core)?, *number)),
         Expected::Done => Ok(done(newest_reply(core))),
         Expected::Refused(why) => Ok(refused(newest_reply(core), *why)),
-        Expected::Asleep => Ok(if core.asleep() {
-            None
-        } else {
-            Some(Got::Awake)
-        }),
-        Expected::Awake => Ok(if core.asleep() {
-            Some(Got::Asleep)
-        } else {
-            None
-        }),
+        Expected::Asleep => Ok(asleep(core.asleep())),
+        Expected::Awake => Ok(awake(core.asleep())),
         Expected::Idle => idle(alloc, ruled),
         Expected::HasRule(_) => Ok(Some(Got::NoRule)),
     }

@@ -1,6 +1,7 @@
 //! Lines that say values of signals in words: what stands behind `=` or `~`.
 
 ghost use Rattle.std.specs.Prelude.{◌≡◌, ◌<◌, IfOk, drop, is_some, length, option_map, position, true};
+ghost use Rattle.std.specs.List.{list_any};
 ghost use Rattle.std.specs.Str.{bytes_eq};
 ghost use Rattle.lin_log.specs.Words.{value_word};
 ghost use Rattle.lin_bench.specs.Fields.{line_fields, field_texts};
@@ -24,7 +25,7 @@ use crate::reason::Reason;
 use crate::said_values::{Said, expected_values, joined, nearest_value, only_value};
 use crate::unmarked::read_unworded;
 use lin_frame::Value;
-use lin_log::{NumberNaming, Word, put_shown};
+use lin_log::{NumberNaming, Word, first_field, put_shown};
 use lin_parts::Cluster;
 use lin_text::{Text, TextBuffer, TextWriter};
 use lin_values::Coded;
@@ -107,7 +108,7 @@ fn wish_of(before: &[&[u8]], mark: &[u8]) -> Option<Wish>
 fn mark_at(all: &[&[u8]]) -> Option<usize>
     ensures { result ≡ position (λ f. is_value_mark f.now) all.now }
 {
-    all.iter().position(|field| *field == b"=".as_slice() || *field == b"~".as_slice())
+    all.iter().position(|field| is_value_mark(*field))
 }
 
 /// The parts of a line with words, if it is one.
@@ -378,10 +379,34 @@ fn read_worded(
     with_words(alloc, cluster, coded, line, zero, signal)
 }
 
+/// Whether a field is `=` or `~`.
+fn is_value_mark(field: &[u8]) -> bool
+    ensures { result ≡ is_value_mark field.now }
+{
+    field == b"=".as_slice() || field == b"~".as_slice()
+}
+
+/// Whether a field of a line is `=` or `~`.
+fn has_mark(cluster: &Cluster, line: &[u8]) -> bool
+    ensures { result ≡ list_any is_value_mark (line_fields line.now) }
+{
+    let mut left = line;
+    while let Some((field, rest)) = first_field(cluster, left) {
+        if is_value_mark(field) {
+            return true;
+        }
+        left = rest;
+    }
+    false
+}
+
 /// Whether a line has words. An error means out of memory.
 fn has_words(alloc: Global, cluster: &Cluster, line: &[u8]) -> Result<bool, AllocError>
     ensures { IfOk result (λ found. found ≡ is_some (worded (line_fields line.now))) }
 {
+    if !has_mark(cluster, line) {
+        return Ok(false);
+    }
     let all = fields(alloc, cluster, line)?;
     Ok(worded_parts(all.as_slice()).is_some())
 }

@@ -1,7 +1,7 @@
 use Rattle.std.proofs.Common.{refl}
 use Rattle.std.proofs.lemmas.Result.{err_from_is_err_and}
 use Rattle.lin_bench.specs.Bench.{bench_data}
-use Rattle.lin_bench.proofs.Benches.{step-fails, step-made, steps-grown, until-made, while-made}
+use Rattle.lin_bench.proofs.Benches.{step-fails, step-made, steps-grown}
 use Rattle.lin_bench.proofs.Searches.{known-grown, taken-grown}
 use Rattle.lin_bench.proofs.bench.Bench.make.Goals as goal
 
@@ -22,15 +22,3 @@ returns-in_ok-make-in-Step c =
     rw (c.in-Step.is, ← c.self.view_is)
     (step-made (bench_data c.self.inside) _ c.in-Step.by c.in-Step.step c.in_ok-make-in-Step.ensures
     (taken-grown _ _ _ (steps-grown _ _ _ c.make.result c.make.ensures) c.self.invariant) refl)
-
-pub returns-in-Until : goal.returns-in-Until
-returns-in-Until c =
-    rw c.in-Until.is
-    (until-made c.args.self.now c.line_of_slots-in-Until.new.self c.in-Until.slots c.in-Until.expected c.begun-expected.result c.core.result.now c.line_of_slots-in-Until.result
-    c.core.ensures c.begun-expected.ensures c.line_of_slots-in-Until.ensures)
-
-pub returns-in-While : goal.returns-in-While
-returns-in-While c =
-    rw c.in-While.is
-    (while-made c.args.self.now c.line_of_slots-in-While.new.self c.in-While.slots c.in-While.expected c.begun-expected-in-While.result c.core-in-While.result.now c.line_of_slots-in-While.result
-    c.core-in-While.ensures c.begun-expected-in-While.ensures c.line_of_slots-in-While.ensures)

@@ -1,0 +1,7 @@
+use Rattle.lin_bench.proofs.Benches.{while-made}
+use Rattle.lin_bench.proofs.bench.Bench.slots_while.Goals as goal
+
+pub returns : goal.returns
+returns c =
+    while-made c.args.self.now c.line_of_slots.new.self c.args.slots c.args.expected c.begun-expected.result c.core.result.now c.line_of_slots.result
+    c.core.ensures c.begun-expected.ensures c.line_of_slots.ensures
