@@ -23,22 +23,17 @@ use Rattle.lin_bench.specs.Slots.{slot_limit}
 use Rattle.lin_bench.specs.declared.marks.Mark.{Mark}
 use Rattle.lin_bench.specs.declared.line.ScriptLine.{ScriptLine}
 use Rattle.lin_export.specs.declared.jsonl.Opening.{Opening}
-use Rattle.lin_live.specs.Hand.{AreItsMarks, IfHeard, IsNoLater, IsOpening, gone_to, held_of, mark_items, marks_of, as_marked, other_marks, with_marks, with_named}
-use Rattle.lin_live.specs.Asked.{Gives}
-use Rattle.lin_live.specs.Heard.{IsHeard}
+use Rattle.lin_live.specs.Hand.{AreItsMarks, IsNoLater, IsOpening, gone_to, held_of, mark_items, marks_of, as_marked, other_marks, with_marks, with_named}
 use Rattle.lin_live.specs.Held.{new_hand}
 use Rattle.lin_live.specs.Marking.{Marked, bench_at_place, is_other, mark_place, start_name, with_mark}
 use Rattle.lin_live.specs.Serving.{WritesAnswer}
-use Rattle.lin_live.specs.Told.{Bad, Fine, HandData, Is, IsFullFor, asked_value, bad_reply, ending_text, gone_back, heard_answer, heard_as, heard_reply, without_byte_order_mark, written}
+use Rattle.lin_live.specs.Told.{Bad, Fine, HandData, Is, IsFullFor, asked_value, bad_reply, ending_text, gone_back, heard_answer, heard_reply, without_byte_order_mark, written}
 use Rattle.lin_live.specs.declared.answer_format.AnswerFormat.{AnswerFormat}
 use Rattle.lin_live.specs.declared.fault.Fault.{Fault}
 use Rattle.lin_live.specs.declared.fault.Fault.TheVariants.{LogFull, OutOfMemory, ReadFailed, WriteFailed}
 use Rattle.lin_live.specs.declared.hand.NamedMark.{NamedMark}
-use Rattle.lin_live.specs.declared.heard.Heard.{Heard}
 use Rattle.lin_live.specs.declared.heard.Heard.TheVariants.{GoBack, Make, SetMark}
 use Rattle.lin_live.specs.declared.question.Question.{Question}
-use Rattle.lin_live.specs.declared.reason.LineFault.{LineFault}
-use Rattle.lin_live.specs.declared.reason.LineFault.TheVariants.{Bad as BadLine, OutOfMemory as NoMemory}
 use Rattle.lin_live.specs.declared.reason.Reason.{Reason}
 use Rattle.lin_live.specs.declared.reason.Reason.TheVariants.{NoMark}
 use Rattle.lin_live.proofs.Growth.{grown-made}
@@ -429,19 +424,22 @@ pub within : (o : Option HandData) (v : Option (Vec NamedMark)) (h u : HandData)
     → place < length u.marks → place < length w.items
 within o v h u w place some known is in' = let n = known-length o v h u w some known is in omega (arith, n, in')
 
--- what a line says was heard
-heard-so : (r : Result (Option Heard) LineFault) (P : Type 0) → P → IfHeard r P
-heard-so (Ok said) P p = p
-heard-so (Err (BadLine why)) P p = p
-heard-so (Err NoMemory) P p = tt
+-- a line was begun
+pub begins : (o : Option HandData) (v : Option (Vec NamedMark)) (h u t : HandData) (line begun : Option (List ℕ)) → o ≡ Some h → with_marks (held_of o) (mark_items v) ≡ u
+    → begun ≡ without_byte_order_mark h line → t ≡ record h { begun = true }
+    → (begun ≡ without_byte_order_mark u line) × (with_marks t (mark_items v) ≡ record u { begun = true })
+begins o v h u t line begun some is l e =
+    let view = view-of o (mark_items v) h u some is in (
+      l ∙ ap (λ (x : HandData). without_byte_order_mark x line) view,
+      ap (λ (x : HandData). with_marks x (mark_items v)) e ∙ ap (λ (x : HandData). record x { begun = true }) view,
+    )
 
-pub listens : (o : Option HandData) (v : Option (Vec NamedMark)) (h u t : HandData) (line : Option (List ℕ)) (r : Result (Option Heard) LineFault) → o ≡ Some h → with_marks (held_of o) (mark_items v) ≡ u
-    → Gives r (heard_as h.cluster h.coded (without_byte_order_mark h line)) → IfOk r (λ said. IfSome said (IsHeard h.cluster)) → t ≡ record h { begun = true }
-    → Gives r (heard_as u.cluster u.coded (without_byte_order_mark u line)) × IfOk r (λ said. IfSome said (IsHeard u.cluster)) × IfHeard r (with_marks t (mark_items v) ≡ record u { begun = true })
-listens o v h u t line r some is heard askable begun =
-    subst (λ (x : HandData). Gives r (heard_as x.cluster x.coded (without_byte_order_mark x line)) × IfOk r (λ said. IfSome said (IsHeard x.cluster)) × IfHeard r (with_marks t (mark_items v) ≡ record x { begun = true }))
-    (view-of o (mark_items v) h u some is)
-    (heard, askable, heard-so r (with_marks t (mark_items v) ≡ record (with_marks h (mark_items v)) { begun = true }) (ap (λ (x : HandData). with_marks x (mark_items v)) begun))
+-- the cluster and the encodings of a session
+pub held-cluster : (o : Option HandData) (v : Option (Vec NamedMark)) (h u : HandData) → o ≡ Some h → with_marks (held_of o) (mark_items v) ≡ u → h.cluster ≡ u.cluster
+held-cluster o v h u some is = ap (λ (x : HandData). x.cluster) (view-of o (mark_items v) h u some is)
+
+pub held-coded : (o : Option HandData) (v : Option (Vec NamedMark)) (h u : HandData) → o ≡ Some h → with_marks (held_of o) (mark_items v) ≡ u → h.coded ≡ u.coded
+held-coded o v h u some is = ap (λ (x : HandData). x.coded) (view-of o (mark_items v) h u some is)
 
 -- the place of a mark
 pub places : (o : Option HandData) (v : Option (Vec NamedMark)) (u : HandData) (w : Vec NamedMark) (ms : List NamedMark) (name : List ℕ) (r : Option ℕ) → v ≡ Some w → with_marks (held_of o) (mark_items v) ≡ u → ms ≡ w.items

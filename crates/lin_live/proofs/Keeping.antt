@@ -1,9 +1,9 @@
 -- What is kept of a line says what the line is.
-use Rattle.std.proofs.Common.{◌≡◌, ℕ, ◌+◌, ◌-◌, ◌<◌, ◌≤◌, ◌==◌, Bool, true, false, cond, List, ◌++◌, length, take, Some, None, sym, ap, ◌∙◌, inl, inr, arith}
+use Rattle.std.proofs.Common.{◌≡◌, ℕ, ◌+◌, ◌-◌, ◌<◌, ◌≤◌, ◌==◌, Bool, true, false, cond, List, [], ◌++◌, length, take, Option, Some, None, sym, ap, ◌∙◌, inl, inr, arith}
 use Rattle.std.specs.Str.Lines.{strip_carriage_return}
 use Rattle.std.proofs.lemmas.Bool.{lt-leb}
 use Rattle.std.proofs.lemmas.Bool.Decides.{leb_tells, nat_tests}
-use Rattle.std.proofs.lemmas.List.{length-take-le, length-append}
+use Rattle.std.proofs.lemmas.List.{length-take-le, length-append, nil_from_length}
 use Rattle.lin_live.specs.Transcript.{short}
 use Rattle.lin_live.specs.Begun.{with_bytes, ended_line, bytes_within_line, is_nothing}
 
@@ -42,3 +42,14 @@ held-nothing bytes =
       | inl h ↦ ap (λ b. is_nothing (cond b (Some bytes) None)) h.0
       | inr h ↦ let long = h.1 in ap is_nothing (too-long bytes h.1) ∙ grind (arith, nat_tests)
     ]
+
+-- a line of which no byte has come
+pub nothing-begun : (begun : Option (List ℕ)) → is_nothing begun ≡ true → begun ≡ Some []
+nothing-begun None h = absurd (cc)
+nothing-begun (Some bytes) h = let none : length bytes ≡ 0 = grind (arith, nat_tests, h) in ap Some (nil_from_length bytes none)
+
+pub nothing-before : (begun : Option (List ℕ)) (bytes : List ℕ) → begun ≡ bytes_within_line bytes → is_nothing begun ≡ true → bytes ≡ []
+nothing-before begun bytes e h =
+    let empty = sym (held-nothing bytes) ∙ ap is_nothing (sym e) ∙ h in
+    let none : length bytes ≡ 0 = grind (arith, nat_tests, empty) in
+    nil_from_length bytes none

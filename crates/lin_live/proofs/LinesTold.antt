@@ -1,5 +1,5 @@
 -- What is told of a line that was made.
-use Rattle.std.proofs.Common.{◌≡◌, ◌≤◌, ◌<◌, ◌-◌, ◌^◌, ◌∙◌, ◌++◌, ◌||◌, ℕ, Err, List, [], None, Ok, Option, Result, Some, ap, arith, drop, length, refl, reverse, subst, sym, take}
+use Rattle.std.proofs.Common.{◌≡◌, ◌≤◌, ◌<◌, ◌-◌, ◌^◌, ◌∙◌, ◌++◌, ◌||◌, ℕ, Err, List, [], None, Ok, Option, Result, Some, ap, arith, drop, false, length, refl, reverse, subst, sym, take}
 use Rattle.std.specs.Prelude.{Box, IfSome}
 use Rattle.std.specs.Global.{Global}
 use Rattle.std.proofs.lemmas.List.{length-append, length-reverse, reverse-reverse, take-append-le}
@@ -17,13 +17,14 @@ use Rattle.lin_bench.specs.declared.fault.MakeFault.{MakeFault}
 use Rattle.lin_bench.specs.declared.fault.MakeFault.TheVariants as makes
 use Rattle.lin_bench.specs.Made.{BenchState}
 use Rattle.lin_bench.specs.declared.got.Verdict.{Verdict}
+use Rattle.lin_bench.specs.declared.got.Verdict.TheVariants.{Met, Nothing, SlotLimit, Unmet}
 use Rattle.lin_bench.specs.declared.line.ScriptLine.{ScriptLine}
 use Rattle.lin_values.specs.Coded.{CodedData}
-use Rattle.lin_live.specs.Held.{IsBoxedTrackOf, IsFollowed, IsKept, earlier, entries_from, fault_of, held_data, hash_line_ending, line_text}
+use Rattle.lin_live.specs.Held.{IsBoxedTrack, IsBoxedTrackOf, IsFollowed, IsKept, earlier, entries_from, fault_of, held_data, hash_line_ending, line_text}
 use Rattle.lin_text.specs.Written.{WritesText}
 use Rattle.lin_live.specs.Serving.{WritesAlone, WritesAnswer}
 use Rattle.lin_live.specs.Told.{HandData, Is, after_line, ending_text, entries_text, hash_ending, last_line, object_ending, verdict_with_meaning, is_limit, is_unmet_verdict, shown_coding, verdict_ending, written}
-use Rattle.lin_live.specs.Values.{as_said}
+use Rattle.lin_live.specs.Values.{IsBoxedKeptOf, as_said}
 use Rattle.lin_live.specs.declared.answer_value.AnswerValue.{AnswerValue}
 use Rattle.lin_live.specs.declared.answer_format.AnswerFormat.TheVariants.{Log, Named, Jsonl}
 use Rattle.lin_live.specs.declared.fault.Fault.{Fault}
@@ -94,7 +95,7 @@ kept-there a before new line v from k is makes is_from same_track same_objects h
     ap (λ n. earlier n (past_of new.core)) (is_from ∙ sym (length-reverse a.bench.core.log))
     ∙ earlier-was (past_of a.bench.core) (past_of new.core) (line-grown a before new line v is makes) in
     let old : IsKept a.bench.core.cluster (past_of a.bench.core) k = record {
-      track = subst (λ (o : Option TrackData). IfSome o (λ t. t ≡ track_of a.bench.core.cluster (past_of a.bench.core))) (sym same_track) h.track;
+      track = subst (λ (o : Option (Box TrackData Global)). IfSome o (IsBoxedTrack a.bench.core.cluster (past_of a.bench.core))) (sym same_track) h.track;
       objects = subst (λ (o : Option (Box ObjectTrackData Global)). IfSome o (IsBoxedTrackOf a.bench.core.cluster (past_of a.bench.core))) (sym same_objects) h.objects;
     } in
     subst (λ (x : Parts). IsKept x (earlier from (past_of new.core)) k) (sym c)
@@ -108,23 +109,23 @@ kept-longer c es more l h =
       h.1 ∙ ap (λ (x : List LogEntry). track_of c (reverse x)) (sym (take-append-le l.entries es more within)),
     )
 
-some-longer : (c : Parts) (es more : List LogEntry) (o : Option LastSlotData) → IfSome o (IsKeptOf c es) → IfSome o (IsKeptOf c (es ++ more))
+some-longer : (c : Parts) (es more : List LogEntry) (o : Option (Box LastSlotData Global)) → IfSome o (IsBoxedKeptOf c es) → IfSome o (IsBoxedKeptOf c (es ++ more))
 some-longer c es more None h = h
-some-longer c es more (Some l) h = kept-longer c es more l h
+some-longer c es more (Some l) h = kept-longer c es more l.value h
 
 -- the slot that had ended last
-pub slot-there : (a : Inside) (before new : BenchData) (line : ScriptLine) (v : Verdict) (o : Option LastSlotData)
+pub slot-there : (a : Inside) (before new : BenchData) (line : ScriptLine) (v : Verdict) (o : Option (Box LastSlotData Global))
     → before ≡ with_all_slots a.bench → MakesLine before line (Ok v) new → o ≡ a.last_slot → IsFollowed a
-    → IfSome o (IsKeptOf new.core.cluster new.core.log)
+    → IfSome o (IsBoxedKeptOf new.core.cluster new.core.log)
 slot-there a before new line v o is makes same h =
     let c : new.core.cluster ≡ a.bench.core.cluster = makes.1.0 ∙ ap (λ (b : BenchData). b.core.cluster) is in
     let g = line-grown a before new line v is makes in
     let log : new.core.log ≡ a.bench.core.log ++ g.0 =
     sym (reverse-reverse new.core.log) ∙ g.1 ∙ ap (λ (l : List LogEntry). l ++ g.0) (reverse-reverse a.bench.core.log) in
-    let old : IfSome o (IsKeptOf a.bench.core.cluster (a.bench.core.log ++ g.0)) =
-    some-longer a.bench.core.cluster a.bench.core.log g.0 o (subst (λ (x : Option LastSlotData). IfSome x (IsKeptOf a.bench.core.cluster a.bench.core.log)) (sym same) h.slot) in
-    subst (λ (x : Parts). IfSome o (IsKeptOf x new.core.log)) (sym c)
-    (subst (λ (l : List LogEntry). IfSome o (IsKeptOf a.bench.core.cluster l)) (sym log) old)
+    let old : IfSome o (IsBoxedKeptOf a.bench.core.cluster (a.bench.core.log ++ g.0)) =
+    some-longer a.bench.core.cluster a.bench.core.log g.0 o (subst (λ (x : Option (Box LastSlotData Global)). IfSome x (IsBoxedKeptOf a.bench.core.cluster a.bench.core.log)) (sym same) h.slot) in
+    subst (λ (x : Parts). IfSome o (IsBoxedKeptOf x new.core.log)) (sym c)
+    (subst (λ (l : List LogEntry). IfSome o (IsBoxedKeptOf a.bench.core.cluster l)) (sym log) old)
 
 same-core : (a : Inside) (new : BenchData) (v : Verdict) → new.core.cluster ≡ a.bench.core.cluster → new.core.opening ≡ a.bench.core.opening
     → new.core.capacity ≡ a.bench.core.capacity → made_hand a new v ≡ (after_line (held_data a) (state_of new, v)).0
@@ -148,6 +149,14 @@ line-told-so a before new line v w from u is makes is_from is_u is_w =
     ∙ ap (λ x. telling (after_line h m).0 (length h.bench.past) x)
     (is_w ∙ ap (λ (x : BenchState × Verdict). verdict_with_meaning a.coded x.1) all)
     ∙ line-told h m (grown-made h.cluster h.opening h.capacity h.bench line)
+
+-- a verdict that isn't of a failed expectation has no meaning beside
+pub same-verdict : (k : Option CodedData) (v : Verdict) → is_unmet_verdict v ≡ false → verdict_with_meaning k v ≡ v
+same-verdict None v h = refl
+same-verdict (Some k) Nothing h = refl
+same-verdict (Some k) (Met what) h = refl
+same-verdict (Some k) SlotLimit h = refl
+same-verdict (Some k) (Unmet what got) h = absurd (cc)
 
 -- ---- the text of entries, as the code has it
 pub log-told : (h : HandData) (from : ℕ) (v : Verdict) (core : CoreData) → h.format ≡ Log → core.cluster ≡ h.cluster → core.log ≡ reverse h.bench.past

@@ -1,15 +1,21 @@
 -- The reply to a line, by what it says.
-use Rattle.std.proofs.Common.{◌≡◌, ◌<◌, ◌-◌, ◌^◌, ◌++◌, ℕ, true, List, [], Option, Result, Ok, Err, ap, length, refl, subst, sym}
+use Rattle.std.proofs.Common.{◌≡◌, ◌<◌, ◌-◌, ◌^◌, ◌++◌, ℕ, true, List, [], None, Option, Some, Result, Ok, Err, ap, length, refl, subst, sym}
 use Rattle.lin_parts.specs.declared.parts.Parts.{Parts}
 use Rattle.lin_core.specs.declared.log.LogEntry.{LogEntry}
 use Rattle.lin_values.specs.Coded.{CodedData}
+use Rattle.lin_live.specs.Asked.{◌>>=◌, Fails}
 use Rattle.lin_live.specs.Serving.{Replies, WritesAnswer}
-use Rattle.lin_live.specs.Told.{Ending, HandData, IsFull, ending_text, entries_text, heard_as, reply, answer_without_step, shown_coding, heard_answer, without_byte_order_mark, written}
+use Rattle.lin_live.specs.Hand.{AnswersSaid}
+use Rattle.lin_live.specs.Told.{Bad, Ending, Fine, HandData, Is, IsFull, asked_value, bad_reply, ending_text, entries_text, heard_as, reply, answer_without_step, shown_coding, heard_answer, without_byte_order_mark, written}
 use Rattle.lin_live.specs.declared.answer_format.AnswerFormat.{AnswerFormat}
 use Rattle.lin_live.specs.declared.answer_format.AnswerFormat.TheVariants.{Log, Named, Jsonl}
 use Rattle.lin_live.specs.declared.fault.Fault.{Fault}
 use Rattle.lin_live.specs.declared.fault.Fault.TheVariants.{LogFull, OutOfMemory, ReadFailed, WriteFailed}
 use Rattle.lin_live.specs.declared.heard.Heard.{Heard}
+use Rattle.lin_live.specs.declared.heard.Heard.TheVariants.{Ask}
+use Rattle.lin_live.specs.declared.question.Question.{Question}
+use Rattle.lin_live.specs.declared.reason.LineFault.{LineFault}
+use Rattle.lin_live.specs.declared.reason.LineFault.TheVariants.{Bad as BadLine, OutOfMemory as NoMemory}
 use Rattle.lin_live.specs.declared.reason.Reason.{Reason}
 
 -- where there is always a place
@@ -47,3 +53,30 @@ replies-so h b line said t old new result is_b is_said k =
     ap (λ r. written (begun_of h) (heard_answer (begun_of h) r)) is_said in
     subst (λ (p : HandData × List ℕ). WritesAnswer p (2 ^ 32 - 1 < length p.0.bench.past) t old new result) (sym is)
     (subst (λ (x : HandData). WritesAnswer (written x (heard_answer x said)) (2 ^ 32 - 1 < length (heard_answer x said).0.bench.past) t old new result) is_b k)
+
+-- ---- the answer to what a line says
+pub answers-so : (h : HandData) (said same : Result (Option Heard) Reason) (t : HandData) (old new : Option (List ℕ)) (result : Result Unit Fault)
+    → said ≡ same → AnswersSaid h same t old new result → AnswersSaid h said t old new result
+answers-so h said same t old new result e k = subst (λ s. AnswersSaid h s t old new result) (sym e) k
+
+pub says-nothing : (h t : HandData) (old new : Option (List ℕ)) (result : Result Unit Fault)
+    → WritesAnswer (h, ending_text h Fine) ⊥ t old new result → AnswersSaid h (Ok None) t old new result
+says-nothing h t old new result k = tells-ending h h Fine _ t old new result (tells-anyway _ _ t old new result k)
+
+pub says-badly : (h t : HandData) (why : Reason) (old new : Option (List ℕ)) (result : Result Unit Fault)
+    → WritesAnswer (bad_reply h why) ⊥ t old new result → AnswersSaid h (Err why) t old new result
+says-badly h t why old new result k = tells-ending h (record h { was_bad = true }) (Bad why) _ t old new result (tells-anyway _ _ t old new result k)
+
+pub says-question : (h t : HandData) (q : Question) (old new : Option (List ℕ)) (result : Result Unit Fault)
+    → WritesAnswer (h, ending_text h (Is (asked_value h q))) ⊥ t old new result → AnswersSaid h (Ok (Some (Ask q))) t old new result
+says-question h t q old new result k = tells-ending h h (Is (asked_value h q)) _ t old new result (tells-anyway _ _ t old new result k)
+
+-- a bad line, by its fault
+pub fails-so : (h t : HandData) (why : Reason) (said : Result (Option Heard) Reason) (old new : Option (List ℕ)) (result : Result Unit Fault)
+    → said ≡ Err why → WritesAnswer (bad_reply h why) ⊥ t old new result → AnswersSaid h said t old new result
+fails-so h t why said old new result e k = answers-so h said (Err why) t old new result e (says-badly h t why old new result k)
+
+-- what isn't read isn't heard
+pub fails-more : {X : Type 0} (e : LineFault) (r : Result X Reason) (f : X → Result (Option Heard) Reason) → Fails e r → Fails e (r >>= f)
+fails-more (BadLine why) r f h = ap (λ x. x >>= f) h
+fails-more NoMemory r f h = tt

@@ -1,5 +1,5 @@
 -- Questions: what is asked by the fields after `?`.
-use Rattle.std.specs.Prelude.{◌≡◌, ℕ, ◌<◌, if◌then◌else◌, List, [], ◌∷◌, length}
+use Rattle.std.specs.Prelude.{◌≡◌, ℕ, ◌<◌, ◌||◌, Bool, if◌then◌else◌, List, [], ◌∷◌, Option, Some, None, length}
 use Rattle.std.specs.Prelude.{Result, Ok, Err, codes}
 use Rattle.std.specs.Str.{bytes_eq}
 use Rattle.lin_parts.specs.Cluster.{nodes}
@@ -43,24 +43,33 @@ abbrev pub waiting_question : Parts → List (List ℕ) → List (List ℕ) → 
 waiting_question c all (n ∷ []) = script_field (present_node c n) >>= (λ host. Ok (Waiting host))
 waiting_question c all fs = Err (UnknownQuestion all)
 
-abbrev pub lone_question : List (List ℕ) → Question → List (List ℕ) → Result Question Reason
-lone_question all what [] = Ok what
-lone_question all what (f ∷ fs) = Err (UnknownQuestion all)
+abbrev pub lone_question : List (List ℕ) → Option Question → List (List ℕ) → Result Question Reason
+lone_question all (Some what) [] = Ok what
+lone_question all what fs = Err (UnknownQuestion all)
+
+-- whether fields stand after the word of a question
+abbrev pub has_fields : List ℕ → Bool
+has_fields word = bytes_eq word (codes "signal") || bytes_eq word (codes "waiting")
+
+-- the question that a word asks without a field after it
+abbrev pub asked_alone : List ℕ → Option Question
+asked_alone word =
+    if bytes_eq word (codes "idle") then Some Idle
+    else if bytes_eq word (codes "time") then Some Time
+    else if bytes_eq word (codes "asleep") then Some Asleep
+    else if bytes_eq word (codes "next") then Some Next
+    else if bytes_eq word (codes "version") then Some Version
+    else if bytes_eq word (codes "nodes") then Some Nodes
+    else if bytes_eq word (codes "slot") then Some LastSlot
+    else if bytes_eq word (codes "rules") then Some Rules
+    else None
 
 -- the question that a word names, with the fields after it
 abbrev pub word_question : Parts → List (List ℕ) → List ℕ → List (List ℕ) → Result Question Reason
 word_question c all word fs =
     if bytes_eq word (codes "signal") then signal_question c all fs
     else if bytes_eq word (codes "waiting") then waiting_question c all fs
-    else if bytes_eq word (codes "idle") then lone_question all Idle fs
-    else if bytes_eq word (codes "time") then lone_question all Time fs
-    else if bytes_eq word (codes "asleep") then lone_question all Asleep fs
-    else if bytes_eq word (codes "next") then lone_question all Next fs
-    else if bytes_eq word (codes "version") then lone_question all Version fs
-    else if bytes_eq word (codes "nodes") then lone_question all Nodes fs
-    else if bytes_eq word (codes "slot") then lone_question all LastSlot fs
-    else if bytes_eq word (codes "rules") then lone_question all Rules fs
-    else Err (UnknownQuestion all)
+    else lone_question all (asked_alone word) fs
 
 -- what is asked, by the fields after `?`
 unfoldable pub question : Parts → List (List ℕ) → Result Question Reason

@@ -1,5 +1,5 @@
 -- What contracts see of a session and its marks.
-use Rattle.std.specs.Prelude.{◌≡◌, ◌≤◌, ◌<◌, false, IfSome, ℕ, List, [], ◌∷◌, ◌++◌, filter, length, map, not, option_map, reverse, Option, Some, None, Result, Err}
+use Rattle.std.specs.Prelude.{◌≡◌, ◌≤◌, ◌<◌, ◌-◌, ◌^◌, false, IfSome, ℕ, List, [], ◌∷◌, ◌++◌, filter, length, map, not, option_map, reverse, Option, Some, None, Result}
 use Rattle.std.specs.Global.{Vec}
 use Rattle.std.specs.List.{All, AllPairs}
 use Rattle.std.specs.Str.{bytes_eq}
@@ -9,10 +9,12 @@ use Rattle.lin_bench.specs.Marks.{IsMarkOf, state_at}
 use Rattle.lin_export.specs.declared.jsonl.Opening.{Opening}
 use Rattle.lin_live.specs.Held.{new_hand}
 use Rattle.lin_live.specs.Marking.{Marked, bench_at_place}
-use Rattle.lin_live.specs.Told.{HandData, gone_back}
+use Rattle.lin_live.specs.Serving.{WritesAnswer}
+use Rattle.lin_live.specs.Told.{HandData, gone_back, heard_answer, written}
 use Rattle.lin_live.specs.declared.answer_format.AnswerFormat.TheVariants.{Log}
-use Rattle.lin_live.specs.declared.reason.LineFault.{LineFault}
-use Rattle.lin_live.specs.declared.reason.LineFault.TheVariants.{OutOfMemory}
+use Rattle.lin_live.specs.declared.fault.Fault.{Fault}
+use Rattle.lin_live.specs.declared.heard.Heard.{Heard}
+use Rattle.lin_live.specs.declared.reason.Reason.{Reason}
 use Rattle.lin_live.specs.declared.hand.NamedMark.{NamedMark}
 use Rattle.lin_live.specs.declared.hand.Hand.TheInside.{Inside}
 
@@ -88,7 +90,7 @@ with_named ms m = other_marks ms m ++ m ∷ []
 abbrev pub gone_to : HandData → ℕ → HandData
 gone_to h i = (gone_back h [] (bench_at_place h.marks i)).0
 
--- if there was memory for what a line says
-abbrev pub IfHeard : {X : Type 0} → Result X LineFault → Type 0 → Type 0
-IfHeard (Err OutOfMemory) Holds = Unit {0}
-IfHeard result Holds = Holds
+-- what a line that says this made of a session, and the answer to it, were written; or what of it was
+abbrev pub AnswersSaid : HandData → Result (Option Heard) Reason → HandData → Option (List ℕ) → Option (List ℕ) → Result Unit Fault → Type 0
+AnswersSaid h said t old new result =
+    WritesAnswer (written h (heard_answer h said)) (2 ^ 32 - 1 < length (heard_answer h said).0.bench.past) t old new result

@@ -20,15 +20,25 @@ of_script (Ok None) = Ok None
 of_script (Ok (Some line)) = Ok (Some (Make line))
 of_script (Err why) = Err (Script why)
 
+-- what is asked, which mark is set, and which one is gone back to, by the fields after the first one
+abbrev pub question_heard : Parts → List (List ℕ) → Result (Option Heard) Reason
+question_heard c fs = question c fs >>= (λ asked. Ok (Some (Ask asked)))
+
+abbrev pub mark_heard : List (List ℕ) → Result (Option Heard) Reason
+mark_heard fs = mark_name fs >>= (λ name. Ok (Some (SetMark name)))
+
+abbrev pub back_heard : List (List ℕ) → Result (Option Heard) Reason
+back_heard fs = back_name fs >>= (λ name. Ok (Some (GoBack name)))
+
 -- by the first field, what is asked by those after a `?`, the mark that is set or gone back to, or what a
 -- bench script says
 abbrev pub heard_in : Parts → Option CodedData → List ℕ → List (List ℕ)
     → Result (Option Heard) Reason
 heard_in c k line [] = of_script (read_worded_line c k line)
 heard_in c k line (word ∷ fs) =
-    if bytes_eq word (codes "?") then question c fs >>= (λ asked. Ok (Some (Ask asked)))
-    else if bytes_eq word (codes "mark") then mark_name fs >>= (λ name. Ok (Some (SetMark name)))
-    else if bytes_eq word (codes "back") then back_name fs >>= (λ name. Ok (Some (GoBack name)))
+    if bytes_eq word (codes "?") then question_heard c fs
+    else if bytes_eq word (codes "mark") then mark_heard fs
+    else if bytes_eq word (codes "back") then back_heard fs
     else of_script (read_worded_line c k line)
 
 -- what a line says, nothing where it has no field or begins with `>`

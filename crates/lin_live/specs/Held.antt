@@ -11,14 +11,13 @@ use Rattle.lin_bench.specs.declared.fault.MakeFault.{MakeFault}
 use Rattle.lin_bench.specs.declared.fault.MakeFault.TheVariants as makes
 use Rattle.lin_bench.specs.declared.got.Verdict.{Verdict}
 use Rattle.lin_export.specs.Jsonl.{IsObjectTrackOf, ObjectTrackData}
-use Rattle.lin_export.specs.LastSlot.{IsKeptOf}
-use Rattle.lin_export.specs.Track.{track_of}
+use Rattle.lin_export.specs.Track.{TrackData, track_of}
 use Rattle.lin_export.specs.WhereTold.{given_coding}
 use Rattle.lin_text.specs.Written.{WritesText}
 use Rattle.lin_text.specs.declared.fault.WriteFailed.{WriteFailed}
 use Rattle.lin_live.specs.Told.{Ending, Failed, Fine, Is, Limit, Refused}
 use Rattle.lin_live.specs.Told.{HandData, ending_text, entries_text, hash_ending, object_ending, shown_coding, verdict_ending}
-use Rattle.lin_live.specs.Values.{as_said}
+use Rattle.lin_live.specs.Values.{IsBoxedKeptOf, as_said}
 use Rattle.lin_live.specs.declared.answer_format.AnswerFormat.{AnswerFormat}
 use Rattle.lin_live.specs.declared.answer_objects.LineEnding.{LineEnding}
 use Rattle.lin_live.specs.declared.answer_value.AnswerValue.{AnswerValue}
@@ -89,20 +88,24 @@ line_text h from verdict =
     ++ ending_text h (verdict_ending h.cluster verdict (drop from (reverse h.bench.past)))
 
 -- the track in a box is that of a history
+abbrev pub IsBoxedTrack : Parts → List LogEntry → Box TrackData Global → Type 0
+IsBoxedTrack c past b = b.value ≡ track_of c past
+
+-- also that for objects
 abbrev pub IsBoxedTrackOf : Parts → List LogEntry → Box ObjectTrackData Global → Type 0
 IsBoxedTrackOf c past b = IsObjectTrackOf c past b.value
 
 -- the tracks for writing further entries, if they are at hand, are those of a history
 pub record IsKept (c : Parts) (past : List LogEntry) (kept : KeptTracks) : Type 0 where
-  pub track : IfSome kept.track (λ t. t ≡ track_of c past)
+  pub track : IfSome kept.track (IsBoxedTrack c past)
   pub objects : IfSome kept.objects (IsBoxedTrackOf c past)
 
 -- the tracks, if they are at hand, are those of the whole log, and the slot that ended last is kept of a
 -- beginning of the log
 pub record IsFollowed (a : Inside) : Type 0 where
-  pub track : IfSome a.track (λ t. t ≡ track_of a.bench.core.cluster (reverse a.bench.core.log))
+  pub track : IfSome a.track (IsBoxedTrack a.bench.core.cluster (reverse a.bench.core.log))
   pub objects : IfSome a.objects (IsBoxedTrackOf a.bench.core.cluster (reverse a.bench.core.log))
-  pub slot : IfSome a.last_slot (IsKeptOf a.bench.core.cluster a.bench.core.log)
+  pub slot : IfSome a.last_slot (IsBoxedKeptOf a.bench.core.cluster a.bench.core.log)
 
 -- a bench in hand on which no line was made
 abbrev pub new_hand : AnswerFormat → Option CodedData → Bool → Parts → ℕ → ℕ → HandData

@@ -99,12 +99,12 @@ abbrev pub RepliesTo : {S : Type 0} → (S → Option (List ℕ) → S × List �
 RepliesTo reply full s t old new line result =
     Replies reply full s t old new (option_map (λ l. l.now) line) result
 
-abbrev pub AnswersBegun : {A S W : Type 0} → (S → Option (List ℕ) → S × List ℕ)
+abbrev pub EndsBegun : {A S W : Type 0} → (S → Option (List ℕ) → S × List ℕ)
     → (S → Option (List ℕ) → Type 0) → (A → S) → (W → Option (List ℕ)) → A → A → W → W
-    → Option (List ℕ) → Result Unit Fault → Type 0
-AnswersBegun reply full state contents a b old new begun result =
+    → Option (List ℕ) → List ℕ → Result Unit Fault → Type 0
+EndsBegun reply full state contents a b old new begun more result =
     (bytes : List ℕ) → begun ≡ bytes_within_line bytes
-    → IsAnswered reply full (state a) (state b) (contents old) (contents new) bytes result
+    → IsAnswered reply full (state a) (state b) (contents old) (contents new) (bytes ++ more) result
 
 abbrev pub FeedsBegun : {A S W : Type 0} → (S → Option (List ℕ) → S × List ℕ)
     → (S → Option (List ℕ) → Type 0) → (A → S) → (W → Option (List ℕ)) → A → A → W → W

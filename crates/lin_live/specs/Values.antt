@@ -1,6 +1,7 @@
 -- The answers to questions, as words and as members of an object of JSON.
 use Rattle.std.specs.Prelude.{ℕ, ◌==◌, Bool, true, if◌then◌else◌, IfSome, List, [], ◌∷◌, ◌++◌, codes, drop, flat_map, length, map}
-use Rattle.std.specs.Prelude.{Option}
+use Rattle.std.specs.Prelude.{Box, Option, option_map}
+use Rattle.std.specs.Global.{Global}
 use Rattle.std.specs.Fmt.{decimal}
 use Rattle.std.specs.Option.{option_map_or, option_to_list}
 use Rattle.lin_frame.specs.Words.{numbers}
@@ -29,7 +30,7 @@ use Rattle.lin_bench.specs.RulesInForce.{lines_of_rules}
 use Rattle.lin_bench.specs.declared.rules.Rules.{Rules as RulesInForce}
 use Rattle.lin_export.specs.Json.{json_array, member, object, printable_text, quoted_text}
 use Rattle.lin_export.specs.Jsonl.{meant_members, nad_value, node_text, signal_value}
-use Rattle.lin_export.specs.LastSlot.{EndedSlot, IsKeptOf, kept_slot, last_slot, last_slot_value, last_slot_words}
+use Rattle.lin_export.specs.LastSlot.{EndedSlot, IsKeptOf, LastSlotData, kept_slot, last_slot, last_slot_value, last_slot_words}
 use Rattle.lin_export.specs.Listing.{address_word}
 use Rattle.lin_export.specs.Named.{slot_names}
 use Rattle.lin_export.specs.WhereTold.{where_told}
@@ -86,6 +87,13 @@ value_said c opening past rules Rules = RuleLines (lines_of_rules c rules)
 abbrev pub said_of : BenchData → Question → SaidValue
 said_of bench asked = value_said bench.core.cluster bench.core.opening (past_of bench.core) bench.rules asked
 
+-- what is kept of the slot that ended last, in a box
+abbrev pub slot_in_box : Option (Box LastSlotData Global) → Option LastSlotData
+slot_in_box last = option_map (λ b. b.value) last
+
+abbrev pub IsBoxedKeptOf : Parts → List LogEntry → Box LastSlotData Global → Type 0
+IsBoxedKeptOf c es b = IsKeptOf c es b.value
+
 -- the answer that a value of the code stands for
 abbrev pub as_said : Parts → AnswerValue → SaidValue
 as_said c (code.Signal signal value) = SignalValue signal value
@@ -96,12 +104,12 @@ as_said c code.Open = Words (Fixed (codes "open") ∷ [])
 as_said c (code.Slot table entry header) = Words (slot_words c (table, entry) header)
 as_said c code.Version = Versions
 as_said c code.Nodes = AllNodes
-as_said c (code.LastSlot last) = Ended (kept_slot last)
+as_said c (code.LastSlot last) = Ended (kept_slot (slot_in_box last))
 as_said c (code.Rules lines) = RuleLines lines
 
 -- if the slot that ended last was asked for, it is that of a beginning of these entries
 abbrev pub KeepsLastSlot : Parts → List LogEntry → AnswerValue → Type 0
-KeepsLastSlot c es (code.LastSlot last) = IfSome last (IsKeptOf c es)
+KeepsLastSlot c es (code.LastSlot last) = IfSome last (IsBoxedKeptOf c es)
 KeepsLastSlot c es value = Unit {0}
 
 -- ---- the versions of the program, and of its objects

@@ -19,7 +19,7 @@ ghost use Rattle.lin_live.specs.Values.{as_said, node_value, said_members, said_
 ghost use Rattle.lin_values.specs.Coded.{CodedData};
 
 use crate::answer_texts::{put_answer, put_why};
-use crate::answer_value::AnswerValue;
+use crate::answer_value::{AnswerValue, unboxed};
 use crate::check_texts::{found_text, what_text, without_space};
 use crate::fault::Fault;
 use crate::reason::Reason;
@@ -186,7 +186,7 @@ fn put_said<W: Write>(
         }
         AnswerValue::LastSlot(last) => {
             put_key(out, "value");
-            put_last_slot_value(out, cluster, last.as_ref());
+            put_last_slot_value(out, cluster, unboxed(last));
         }
         AnswerValue::Rules(lines) => {
             put_key(out, "value");
@@ -222,6 +222,7 @@ fn write_said<W: Write>(
 }
 
 /// Writes the answer to a question.
+#[inline(never)]
 pub(crate) fn write_value_object<W: Write>(
     alloc: Global,
     writer: &mut W,
@@ -239,6 +240,7 @@ pub(crate) fn write_value_object<W: Write>(
 }
 
 /// Returns the track of the entries of a log before one. An error means out of memory.
+#[inline(never)]
 fn boxed_track(alloc: Global, core: &Core, from: usize) -> Result<Box<ObjectTrack>, AllocError>
     requires { from ≤ length core.now.log }
     ensures { IfOk result (IsBoxedTrackOf core.now.cluster (reverse (take from core.now.log))) }
@@ -292,6 +294,7 @@ fn steps_ending(refusal: Option<Refusal>) -> LineEnding
 }
 
 /// How a line ends, whose entries are those of the log from one on. An error means out of memory.
+#[inline(never)]
 pub(crate) fn line_ending(
     alloc: Global,
     core: &Core,
@@ -314,6 +317,7 @@ pub(crate) fn line_ending(
 }
 
 /// Writes how a line ends, after the objects of its entries.
+#[inline(never)]
 pub(crate) fn write_line_object<W: Write>(
     writer: &mut W,
     buffer: &mut TextBuffer,

@@ -3,17 +3,16 @@
 ghost use Rattle.std.specs.Prelude.{◌≡◌, ◌∷◌, ◌≤◌, ◌<◌, ◌==◌, [], IfOk, IfSome, Option, codes, drop};
 ghost use Rattle.std.specs.Prelude.{flat_map, if◌then◌else◌, length, map, reverse, take};
 ghost use Rattle.lin_export.specs.Named.{named_from};
-ghost use Rattle.lin_export.specs.Track.{track_of};
 ghost use Rattle.lin_export.specs.WhereTold.{given_coding};
 ghost use Rattle.lin_frame.specs.Words.{numbers};
-ghost use Rattle.lin_log.specs.Language.{named_language, plain};
+ghost use Rattle.lin_log.specs.Language.{Language, named_language, plain};
 ghost use Rattle.lin_log.specs.Shown.{as_word};
 ghost use Rattle.lin_log.specs.Words.{text};
 ghost use Rattle.lin_log.specs.Words.Word.{Fixed};
 ghost use Rattle.lin_parts.specs.Cluster.{nodes};
 ghost use Rattle.lin_parts.specs.declared.parts.Parts.{Parts};
 ghost use Rattle.lin_text.specs.Written.{Grows, WritesText};
-ghost use Rattle.lin_live.specs.Held.{WritesLine, hash_line_ending, value_line};
+ghost use Rattle.lin_live.specs.Held.{IsBoxedTrack, WritesLine, hash_line_ending, value_line};
 ghost use Rattle.lin_bench.specs.LineWords.{spaced_words};
 ghost use Rattle.lin_live.specs.Told.{bad_line_words, hash_ending, hash_line, question_reason_text, question_reason_words};
 ghost use Rattle.lin_live.specs.Told.{steps_ending};
@@ -21,7 +20,7 @@ ghost use Rattle.lin_live.specs.Values.{addressed_node, as_said, idle_words, nod
 ghost use Rattle.lin_live.specs.Values.{slot_words, value_words};
 ghost use Rattle.lin_values.specs.Coded.{CodedData};
 
-use crate::answer_value::AnswerValue;
+use crate::answer_value::{AnswerValue, unboxed};
 use crate::reason::Reason;
 use crate::versions::{OBJECTS_VERSION, PROGRAM_VERSION};
 use lin_bench::{
@@ -50,13 +49,21 @@ fn put_hash_line<N: Naming, W: Write>(out: &mut TextWriter<'_, W>, names: &N, wo
     out.put_byte(b'\n');
 }
 
+/// A last line that nothing was refused.
+fn put_ok<W: Write>(out: &mut TextWriter<'_, W>)
+    ensures { (l : Language) → Grows W.contents out.old out.new
+        (hash_line l (Fixed (codes "ok") ∷ [])) }
+{
+    out.put_text("# ok\n");
+}
+
 /// Writes that nothing was refused.
 pub(crate) fn write_ok<W: Write>(writer: &mut W, buffer: &mut TextBuffer) -> Result<(), WriteFailed>
     ensures { WritesText (W.contents writer.old) (W.contents writer.new) result
         (hash_line plain (Fixed (codes "ok") ∷ [])) }
 {
     let mut out = TextWriter::new(writer, buffer);
-    put_hash_line(&mut out, &NumberNaming, &[Word::Fixed("ok")]);
+    put_ok(&mut out);
     out.finish()
 }
 
@@ -114,6 +121,7 @@ pub(crate) fn write_bad<W: Write>(
 }
 
 /// What waits, and what is noted, after a space.
+#[inline(never)]
 fn put_idle<W: Write>(out: &mut TextWriter<'_, W>, cluster: &Cluster, pending: &[Pending])
     ensures { Grows W.contents out.old out.new
         (spaced_words (named_language cluster.now) (idle_words pending.now)) }
@@ -128,6 +136,7 @@ fn put_idle<W: Write>(out: &mut TextWriter<'_, W>, cluster: &Cluster, pending: &
 }
 
 /// The table, the entry and the frame of a slot, after a space.
+#[inline(never)]
 fn put_slot<W: Write>(
     out: &mut TextWriter<'_, W>,
     cluster: &Cluster,
@@ -149,6 +158,7 @@ fn put_slot<W: Write>(
 }
 
 /// A value of a signal and, if the encodings are given, its meaning, each after a space.
+#[inline(never)]
 fn put_signal<W: Write>(
     out: &mut TextWriter<'_, W>,
     cluster: &Cluster,
@@ -190,6 +200,7 @@ fn put_gap<W: Write>(out: &mut TextWriter<'_, W>, node: usize)
 }
 
 /// The nodes with their diagnostic addresses, after a space.
+#[inline(never)]
 fn put_nodes<W: Write>(out: &mut TextWriter<'_, W>, cluster: &Cluster)
     ensures { Grows W.contents out.old out.new (spaced_words (named_language cluster.now)
         (flat_map (node_words cluster.now) (numbers (nodes cluster.now)))) }
@@ -201,6 +212,7 @@ fn put_nodes<W: Write>(out: &mut TextWriter<'_, W>, cluster: &Cluster)
 }
 
 /// The lines of rules, after a space.
+#[inline(never)]
 fn put_rules<W: Write>(out: &mut TextWriter<'_, W>, cluster: &Cluster, lines: &[Text])
     ensures { Grows W.contents out.old out.new
         (spaced_words (named_language cluster.now) (rule_words lines.now)) }
@@ -223,7 +235,7 @@ pub(crate) fn put_answer<W: Write>(
 {
     match value {
         AnswerValue::Signal { signal, value } => put_signal(out, cluster, coded, *signal, value),
-        AnswerValue::Number(number) => put_all_after(out, cluster, &[Word::Number(*number)]),
+        AnswerValue::Number(number) => put_number(out, *number),
         AnswerValue::Pending(pending) => put_idle(out, cluster, pending.as_slice()),
         AnswerValue::Asleep(true) => out.put_text(" asleep"),
         AnswerValue::Asleep(false) => out.put_text(" awake"),
@@ -242,7 +254,7 @@ pub(crate) fn put_answer<W: Write>(
             ],
         ),
         AnswerValue::Nodes => put_nodes(out, cluster),
-        AnswerValue::LastSlot(last) => put_last_slot(out, cluster, last.as_ref()),
+        AnswerValue::LastSlot(last) => put_last_slot(out, cluster, unboxed(last)),
         AnswerValue::Rules(lines) => put_rules(out, cluster, lines.as_slice()),
     }
 }
@@ -271,7 +283,7 @@ fn put_steps_ending<W: Write>(out: &mut TextWriter<'_, W>, refusal: Option<Refus
         (hash_ending c k (steps_ending refusal)) }
 {
     match refusal {
-        None => put_hash_line(out, &NumberNaming, &[Word::Fixed("ok")]),
+        None => put_ok(out),
         Some(refusal) => put_hash_line(
             out,
             &NumberNaming,
@@ -324,29 +336,36 @@ pub(crate) fn write_line<W: Write>(
     out.finish()
 }
 
-/// The text of the entries of a log from one on with names, and what is kept of all entries then.
-/// What is kept of those before is made, where it isn't at hand. The error is that it is out of
-/// memory.
+/// Returns the track of the entries of a log before one. An error means out of memory.
+#[inline(never)]
+fn boxed_track(alloc: Global, core: &Core, from: usize) -> Result<Box<Track>, AllocError>
+    requires { from ≤ length core.now.log }
+    ensures { IfOk result (IsBoxedTrack core.now.cluster (reverse (take from core.now.log))) }
+{
+    let track = Track::up_to(alloc, core.cluster(), core.log(), from)?;
+    Ok(Box::new(alloc, track)?)
+}
+
+/// Returns the text of the entries of a log from one on with names, and the track of all entries. The entries
+/// before are read again if their track isn't at hand. An error means out of memory.
 pub(crate) fn with_names(
     alloc: Global,
     core: &Core,
     coded: Option<&Coded>,
-    track: Option<Track>,
+    track: Option<Box<Track>>,
     from: usize,
-) -> Result<(Vec<u8>, Track), AllocError>
+) -> Result<(Vec<u8>, Box<Track>), AllocError>
     requires there { from ≤ length core.now.log }
-    requires track { IfSome track (λ track.
-        track ≡ track_of core.now.cluster (reverse (take from core.now.log))) }
+    requires track { IfSome track (IsBoxedTrack core.now.cluster (reverse (take from core.now.log))) }
     ensures text { IfOk result (λ made. made.0.items
         ≡ named_from core.now.cluster (given_coding coded.entry) core.now.log from) }
-    ensures track { IfOk result (λ made.
-        made.1 ≡ track_of core.now.cluster (reverse core.now.log)) }
+    ensures track { IfOk result (λ made. IsBoxedTrack core.now.cluster (reverse core.now.log) made.1) }
 {
     let mut track = match track {
         Some(track) => track,
-        None => Track::up_to(alloc, core.cluster(), core.log(), from)?,
+        None => boxed_track(alloc, core, from)?,
     };
-    let text = named_text(alloc, &mut track, core.cluster(), coded, core.log(), from)?;
+    let text = named_text(alloc, &mut *track, core.cluster(), coded, core.log(), from)?;
     Ok((text, track))
 }
 

@@ -1,10 +1,11 @@
 //! Answers to questions.
 
-ghost use Rattle.std.specs.Prelude.{◌≡◌, IfOk, IfSome};
+ghost use Rattle.std.specs.Prelude.{◌≡◌, IfOk, IfSome, option_map};
 ghost use Rattle.lin_core.specs.Core.{past_of};
-ghost use Rattle.lin_export.specs.LastSlot.{IsKeptOf};
+ghost use Rattle.lin_export.specs.LastSlot.{kept_slot, last_slot};
 ghost use Rattle.lin_live.specs.Asked.{IsAskable};
-ghost use Rattle.lin_live.specs.Values.{KeepsLastSlot, Words, as_said, next_words, said_of};
+ghost use Rattle.lin_live.specs.Values.{IsBoxedKeptOf, KeepsLastSlot, Words, as_said, next_words, said_of};
+ghost use Rattle.lin_live.specs.Values.{slot_in_box};
 
 use crate::question::Question;
 use lin_bench::{Bench, Pending};
@@ -40,7 +41,7 @@ pub(crate) enum AnswerValue {
     /// The nodes of the cluster.
     Nodes,
     /// The slot that ended last.
-    LastSlot(Option<LastSlot>),
+    LastSlot(Option<Box<LastSlot>>),
     /// The lines that make the rules in force.
     Rules(Many<Text>),
 }
@@ -63,15 +64,47 @@ fn next(core: &Core) -> AnswerValue
     }
 }
 
+/// The slot in a box.
+pub(crate) fn unboxed(last: &Option<Box<LastSlot>>) -> Option<&LastSlot>
+    ensures { option_map (λ l. l.now) result ≡ slot_in_box last.now }
+{
+    match last {
+        Some(last) => Some(&**last),
+        None => None,
+    }
+}
+
+/// The slot that ended last, from what was found before. An error means out of memory.
+#[inline(never)]
+fn last_slot(
+    alloc: Global,
+    core: &Core,
+    known: Option<Box<LastSlot>>,
+) -> Result<Option<Box<LastSlot>>, AllocError>
+    requires { IfSome known (IsBoxedKeptOf core.now.cluster core.now.log) }
+    ensures slot { IfOk result (λ last. kept_slot (slot_in_box last)
+        ≡ last_slot core.now.cluster (past_of core.now)) }
+    ensures kept { IfOk result (λ last. IfSome last (IsBoxedKeptOf core.now.cluster core.now.log)) }
+{
+    let known = match known {
+        Some(known) => Some(Box::into_inner(known)),
+        None => None,
+    };
+    match LastSlot::find(alloc, core.cluster(), core.log(), known)? {
+        Some(last) => Ok(Some(Box::new(alloc, last)?)),
+        None => Ok(None),
+    }
+}
+
 /// The answer to a question to a bench. The slot that ended last is found from what was found before.
 pub(crate) fn value_of(
     alloc: Global,
     bench: &Bench,
-    known: Option<LastSlot>,
+    known: Option<Box<LastSlot>>,
     question: Question,
 ) -> Result<AnswerValue, AllocError>
     requires askable { IsAskable bench.now.core.cluster question }
-    requires known { IfSome known (IsKeptOf bench.now.core.cluster bench.now.core.log) }
+    requires known { IfSome known (IsBoxedKeptOf bench.now.core.cluster bench.now.core.log) }
     ensures said { IfOk result
         (λ value. as_said bench.now.core.cluster value ≡ said_of bench.now question) }
     ensures last { IfOk result (KeepsLastSlot bench.now.core.cluster bench.now.core.log) }
@@ -89,10 +122,7 @@ pub(crate) fn value_of(
         Question::Next => Ok(next(core)),
         Question::Version => Ok(AnswerValue::Version),
         Question::Nodes => Ok(AnswerValue::Nodes),
-        Question::LastSlot => {
-            let last = LastSlot::find(alloc, core.cluster(), core.log(), known)?;
-            Ok(AnswerValue::LastSlot(last))
-        }
+        Question::LastSlot => Ok(AnswerValue::LastSlot(last_slot(alloc, core, known)?)),
         Question::Rules => Ok(AnswerValue::Rules(Many::new(bench.rules(alloc)?))),
     }
 }

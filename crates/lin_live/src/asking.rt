@@ -1,8 +1,9 @@
 //! The forms of questions.
 
-ghost use Rattle.std.specs.Prelude.{◌≡◌, IfOk, true};
+ghost use Rattle.std.specs.Prelude.{◌≡◌, IfOk, IfSome, Ok, true};
 ghost use Rattle.lin_log.specs.Said.{fields};
-ghost use Rattle.lin_live.specs.Asked.{Gives, IsAskable, lone_question, question};
+ghost use Rattle.lin_parts.specs.declared.parts.Parts.{Parts};
+ghost use Rattle.lin_live.specs.Asked.{Gives, IsAskable, asked_alone, has_fields, question};
 ghost use Rattle.lin_live.specs.Asked.{signal_asked, signal_question, waiting_question};
 ghost use Rattle.lin_live.specs.Asked.{word_question};
 ghost use Rattle.lin_live.specs.declared.reason.LineFault.{LineFault};
@@ -16,6 +17,7 @@ use lin_parts::Cluster;
 use std::alloc::{AllocError, Global};
 
 /// There is no form of these fields after `?`.
+#[inline(never)]
 fn no_form(alloc: Global, cluster: &Cluster, all: &[u8]) -> Result<LineFault, AllocError>
     ensures { IfOk result
         (λ fault. fault ≡ LineFault.Bad (Reason.UnknownQuestion (fields true all.now))) }
@@ -69,22 +71,57 @@ fn waiting(alloc: Global, cluster: &Cluster, all: &[u8], line: &[u8]) -> Result<
     })
 }
 
-/// What is asked, where no field stands after its word.
-fn lone(
+/// Whether the question that a word names has fields after the word.
+fn has_fields(word: &[u8]) -> bool
+    ensures { result ≡ has_fields word.now }
+{
+    word == b"signal".as_slice() || word == b"waiting".as_slice()
+}
+
+/// The question that such a word names, with the fields after it; `all` are the line of the word and these.
+#[inline(never)]
+fn with_fields(
     alloc: Global,
     cluster: &Cluster,
-    what: Question,
     all: &[u8],
+    word: &[u8],
     line: &[u8],
 ) -> Result<Question, LineFault>
-    requires { IsAskable cluster.now what }
-    ensures asked { Gives result (lone_question (fields true all.now) what (fields true line.now)) }
+    requires { has_fields word.now ≡ true }
+    ensures asked { Gives result
+        (word_question cluster.now (fields true all.now) word.now (fields true line.now)) }
     ensures askable { IfOk result (IsAskable cluster.now) }
 {
-    if is_over(cluster, line) {
-        Ok(what)
+    if word == b"signal".as_slice() {
+        signal(alloc, cluster, all, line)
     } else {
-        Err(no_form(alloc, cluster, all)?)
+        waiting(alloc, cluster, all, line)
+    }
+}
+
+/// The question that a word asks without a field after it.
+fn asked_alone(word: &[u8]) -> Option<Question>
+    ensures asked { result ≡ asked_alone word.now }
+    ensures askable { (c : Parts) → IfSome result (IsAskable c) }
+{
+    if word == b"idle".as_slice() {
+        Some(Question::Idle)
+    } else if word == b"time".as_slice() {
+        Some(Question::Time)
+    } else if word == b"asleep".as_slice() {
+        Some(Question::Asleep)
+    } else if word == b"next".as_slice() {
+        Some(Question::Next)
+    } else if word == b"version".as_slice() {
+        Some(Question::Version)
+    } else if word == b"nodes".as_slice() {
+        Some(Question::Nodes)
+    } else if word == b"slot".as_slice() {
+        Some(Question::LastSlot)
+    } else if word == b"rules".as_slice() {
+        Some(Question::Rules)
+    } else {
+        None
     }
 }
 
@@ -100,29 +137,27 @@ fn of_word(
         (word_question cluster.now (fields true all.now) word.now (fields true line.now)) }
     ensures askable { IfOk result (IsAskable cluster.now) }
 {
-    if word == b"signal".as_slice() {
-        signal(alloc, cluster, all, line)
-    } else if word == b"waiting".as_slice() {
-        waiting(alloc, cluster, all, line)
-    } else if word == b"idle".as_slice() {
-        lone(alloc, cluster, Question::Idle, all, line)
-    } else if word == b"time".as_slice() {
-        lone(alloc, cluster, Question::Time, all, line)
-    } else if word == b"asleep".as_slice() {
-        lone(alloc, cluster, Question::Asleep, all, line)
-    } else if word == b"next".as_slice() {
-        lone(alloc, cluster, Question::Next, all, line)
-    } else if word == b"version".as_slice() {
-        lone(alloc, cluster, Question::Version, all, line)
-    } else if word == b"nodes".as_slice() {
-        lone(alloc, cluster, Question::Nodes, all, line)
-    } else if word == b"slot".as_slice() {
-        lone(alloc, cluster, Question::LastSlot, all, line)
-    } else if word == b"rules".as_slice() {
-        lone(alloc, cluster, Question::Rules, all, line)
-    } else {
-        Err(no_form(alloc, cluster, all)?)
+    if has_fields(word) {
+        return with_fields(alloc, cluster, all, word, line);
     }
+    match asked_alone(word) {
+        Some(what) if is_over(cluster, line) => Ok(what),
+        _ => Err(no_form(alloc, cluster, all)?),
+    }
+}
+
+/// What is asked, by the fields after `?`, if a word alone asks it.
+// (Most questions are asked so, and a fault takes much more room than a question.)
+#[tactic(auto, unfolding(crate::specs::Asked::question))]
+pub(crate) fn question_alone(cluster: &Cluster, line: &[u8]) -> Option<Question>
+    ensures asked { IfSome result (λ asked. question cluster.now (fields true line.now) ≡ Ok asked) }
+    ensures askable { IfSome result (IsAskable cluster.now) }
+{
+    let (word, rest) = first_field(cluster, line)?;
+    if has_fields(word) || !is_over(cluster, rest) {
+        return None;
+    }
+    asked_alone(word)
 }
 
 /// What is asked, by the fields after `?`.

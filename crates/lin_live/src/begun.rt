@@ -1,7 +1,9 @@
 //! The line that isn't ended yet.
 
-ghost use Rattle.std.specs.Prelude.{◌≡◌, [], OnOk, Some, option_map};
+ghost use Rattle.std.specs.Prelude.{◌≡◌, ◌≤◌, [], IfSome, OnOk, Some, length, option_map};
+ghost use Rattle.std.specs.Str.Lines.{strip_carriage_return};
 ghost use Rattle.lin_live.specs.Begun.{with_bytes, ended_line, is_nothing};
+ghost use Rattle.lin_live.specs.Transcript.{short};
 
 use lin_log::without_return;
 use std::alloc::{AllocError, Global};
@@ -12,6 +14,15 @@ const LIMIT: usize = 16_777_216;
 
 /// One more than the limit, for the CR that belongs to no line.
 const KEPT: usize = 16_777_217;
+
+/// The line that ends after these bytes; none where it is too long.
+pub(crate) fn ended_line(bytes: &[u8]) -> Option<&[u8]>
+    ensures line { option_map (λ l. l.now) result ≡ short (strip_carriage_return bytes.now) }
+    ensures short { IfSome result (λ l. length l.now ≤ 16777216) }
+{
+    let line = without_return(bytes);
+    if line.len() > LIMIT { None } else { Some(line) }
+}
 
 /// The bytes of a line that isn't ended yet, as far as they can be those of a line and a CR. Of a
 /// line that is too long nothing is kept, and contracts see none.
@@ -65,13 +76,13 @@ impl Begun {
 
     /// The line, where it ends here; none where it is too long.
     pub(crate) fn line(&self) -> Option<&[u8]>
-        ensures { option_map (λ l. l.now) result ≡ ended_line self.now }
+        ensures line { option_map (λ l. l.now) result ≡ ended_line self.now }
+        ensures short { IfSome result (λ l. length l.now ≤ 16777216) }
     {
         if self.is_long {
             return None;
         }
-        let line = without_return(self.bytes.as_slice());
-        if line.len() > LIMIT { None } else { Some(line) }
+        ended_line(self.bytes.as_slice())
     }
 
     /// A line begins.

@@ -14,6 +14,7 @@ use std::alloc::{AllocError, Global};
 ///
 /// # Errors
 /// Out of memory.
+#[inline(never)]
 pub fn what_text(alloc: Global, cluster: &Cluster, judged: &Judged) -> Result<Vec<u8>, AllocError>
     ensures { IfOk result (λ v. v.items ≡ spaced_word (what_text cluster.now judged.now)) }
 {
@@ -31,6 +32,7 @@ pub fn what_text(alloc: Global, cluster: &Cluster, judged: &Judged) -> Result<Ve
 ///
 /// # Errors
 /// Out of memory.
+#[inline(never)]
 pub fn found_text(alloc: Global, cluster: &Cluster, judged: &Judged) -> Result<Vec<u8>, AllocError>
     ensures { IfOk result (λ v. v.items
         ≡ option_map_or spaced_word (found_text cluster.now judged.now) []) }

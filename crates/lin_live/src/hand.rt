@@ -1,30 +1,36 @@
 //! Interactive sessions, and their marks.
 
-ghost use Rattle.std.specs.Prelude.{◌≡◌, ◌≤◌, ◌<◌, [], IfOk, IfSome, OnErr, OnOk, length, option_map};
+ghost use Rattle.std.specs.Prelude.{◌≡◌, ◌≤◌, ◌<◌, [], IfOk, IfSome, OnErr, OnOk, Option, Result, length, option_map};
 ghost use Rattle.std.specs.Prelude.{position, reverse, true};
 ghost use Rattle.std.specs.Str.{bytes_eq};
 ghost use Rattle.lin_bench.specs.Played.{initial_bench};
-ghost use Rattle.lin_live.specs.Asked.{Gives, IsAskable};
-ghost use Rattle.lin_live.specs.Hand.{IfHeard, gone_to, other_marks, with_named};
-ghost use Rattle.lin_live.specs.Heard.{IsHeard};
+ghost use Rattle.lin_bench.specs.Fields.{line_fields};
+ghost use Rattle.lin_bench.specs.Words.{read_worded_line};
+ghost use Rattle.lin_live.specs.Asked.{Fails, IsAskable};
+ghost use Rattle.lin_live.specs.Hand.{AnswersSaid, gone_to, other_marks, with_named};
+ghost use Rattle.lin_live.specs.Heard.{back_heard, line_heard, mark_heard, of_script, question_heard};
 ghost use Rattle.lin_live.specs.Held.{new_hand};
 ghost use Rattle.lin_live.specs.Marking.{mark_place, with_mark};
 ghost use Rattle.lin_live.specs.Serving.{WritesAnswer};
 ghost use Rattle.lin_live.specs.Told.{Fine, HandData, Is, IsFull, IsFullFor, asked_value, bad_reply, ending_text};
-ghost use Rattle.lin_live.specs.Told.{heard_as, heard_reply, reply, without_byte_order_mark};
+ghost use Rattle.lin_live.specs.Told.{heard_reply, reply, without_byte_order_mark};
+ghost use Rattle.lin_live.specs.declared.heard.Heard.{Heard};
 ghost use Rattle.lin_live.specs.declared.heard.Heard.TheVariants.{GoBack, Make, SetMark};
+ghost use Rattle.lin_live.specs.declared.reason.Reason.{Reason};
+ghost use Rattle.lin_live.specs.declared.reason.Reason.TheVariants.{TooLong};
 
 use crate::answer_format::AnswerFormat;
 use crate::answering::Answering;
+use crate::asking::{question, question_alone};
 use crate::fault::Fault;
-use crate::heard::Heard;
 use crate::held::HeldBench;
-use crate::marking::START;
+use crate::marking::{START, back_name, mark_name};
 use crate::question::Question;
 use crate::reason::{LineFault, Reason};
 use lin_bench::{Mark, ScriptLine};
 use lin_core::{Core, Log};
 use lin_export::Opening;
+use lin_log::first_field;
 use lin_parts::Cluster;
 use lin_text::{Text, TextBuffer};
 use lin_values::Coded;
@@ -142,6 +148,7 @@ impl Hand {
     }
 
     /// Tells that a line says nothing.
+    #[inline(never)]
     fn pass<W: Write>(&self, writer: &mut W, buffer: &mut TextBuffer) -> Result<(), Fault>
         ensures { WritesAnswer (self.now, ending_text self.now Fine)
             ⊥ self.now (W.contents writer.old) (W.contents writer.new) result }
@@ -311,17 +318,185 @@ impl Hand {
         self.pass(writer, buffer)
     }
 
-    /// Parses a line. `None` is a line that is too long.
-    fn listen(&mut self, alloc: Global, line: Option<&[u8]>) -> Result<Option<Heard>, LineFault>
-        ensures heard { Gives result (heard_as self.old.cluster self.old.coded
-            (without_byte_order_mark self.old (option_map (λ l. l.now) line.entry))) }
-        ensures askable { IfOk result (λ said. IfSome said (IsHeard self.old.cluster)) }
-        ensures begun { IfHeard result (self.new ≡ record self.old { begun = true }) }
+    /// Begins a line: returns it without a byte order mark. `None` is a line that is too long. An error means that
+    /// the session ran out of memory before.
+    fn begin<'l>(&mut self, line: Option<&'l [u8]>) -> Result<Option<&'l [u8]>, AllocError>
+        ensures line { IfOk result (λ begun. option_map (λ l. l.now) begun
+            ≡ without_byte_order_mark self.old (option_map (λ l. l.now) line.entry)) }
+        ensures begun { OnOk result (self.new ≡ record self.old { begun = true }) }
     {
         let Some(held) = &mut self.held else {
-            return Err(LineFault::OutOfMemory);
+            return Err(AllocError);
         };
-        held.listen(alloc, line)
+        Ok(held.begin(line))
+    }
+
+    /// Answers a line that isn't read, for this fault.
+    #[inline(never)]
+    fn answer_fault<W: Write>(
+        &mut self,
+        alloc: Global,
+        fault: &LineFault,
+        writer: &mut W,
+        buffer: &mut TextBuffer,
+    ) -> Result<(), Fault>
+        ensures { (said : Result (Option Heard) Reason) → Fails fault.now said
+            → AnswersSaid self.old said self.new
+            (W.contents writer.old) (W.contents writer.new) result }
+    {
+        match fault {
+            LineFault::Bad(reason) => self.refuse(alloc, reason, writer, buffer),
+            LineFault::OutOfMemory => Err(Fault::OutOfMemory),
+        }
+    }
+
+    /// Answers a question, by the fields after `?`, whatever they are.
+    #[inline(never)]
+    fn answer_any_question<W: Write>(
+        &mut self,
+        alloc: Global,
+        line: &[u8],
+        writer: &mut W,
+        buffer: &mut TextBuffer,
+    ) -> Result<(), Fault>
+        ensures { AnswersSaid self.old (question_heard self.old.cluster (line_fields line.now))
+            self.new (W.contents writer.old) (W.contents writer.new) result }
+    {
+        let Some(held) = &self.held else {
+            return Err(Fault::OutOfMemory);
+        };
+        let asked = question(alloc, held.cluster(), line);
+        match &asked {
+            Ok(question) => self.ask(alloc, *question, writer, buffer),
+            Err(fault) => self.answer_fault(alloc, fault, writer, buffer),
+        }
+    }
+
+    /// Answers a question, by the fields after `?`.
+    #[inline(never)]
+    fn answer_question<W: Write>(
+        &mut self,
+        alloc: Global,
+        line: &[u8],
+        writer: &mut W,
+        buffer: &mut TextBuffer,
+    ) -> Result<(), Fault>
+        ensures { AnswersSaid self.old (question_heard self.old.cluster (line_fields line.now))
+            self.new (W.contents writer.old) (W.contents writer.new) result }
+    {
+        let Some(held) = &self.held else {
+            return Err(Fault::OutOfMemory);
+        };
+        match question_alone(held.cluster(), line) {
+            Some(question) => self.ask(alloc, question, writer, buffer),
+            None => self.answer_any_question(alloc, line, writer, buffer),
+        }
+    }
+
+    /// Sets a mark, by the fields after `mark`, and answers so.
+    #[inline(never)]
+    fn answer_mark<W: Write>(
+        &mut self,
+        alloc: Global,
+        line: &[u8],
+        writer: &mut W,
+        buffer: &mut TextBuffer,
+    ) -> Result<(), Fault>
+        ensures { AnswersSaid self.old (mark_heard (line_fields line.now))
+            self.new (W.contents writer.old) (W.contents writer.new) result }
+    {
+        let Some(held) = &self.held else {
+            return Err(Fault::OutOfMemory);
+        };
+        match mark_name(alloc, held.cluster(), line) {
+            Ok(name) => self.mark(alloc, name, writer, buffer),
+            Err(fault) => self.answer_fault(alloc, &fault, writer, buffer),
+        }
+    }
+
+    /// Goes back to a mark, by the fields after `back`, and answers so.
+    #[inline(never)]
+    fn answer_back<W: Write>(
+        &mut self,
+        alloc: Global,
+        line: &[u8],
+        writer: &mut W,
+        buffer: &mut TextBuffer,
+    ) -> Result<(), Fault>
+        ensures { AnswersSaid self.old (back_heard (line_fields line.now))
+            self.new (W.contents writer.old) (W.contents writer.new) result }
+    {
+        let Some(held) = &self.held else {
+            return Err(Fault::OutOfMemory);
+        };
+        match back_name(alloc, held.cluster(), line) {
+            Ok(name) => self.go_back(alloc, name, writer, buffer),
+            Err(fault) => self.answer_fault(alloc, &fault, writer, buffer),
+        }
+    }
+
+    /// Makes a line of a bench script, and answers so.
+    #[inline(never)]
+    fn answer_script<W: Write>(
+        &mut self,
+        alloc: Global,
+        line: &[u8],
+        writer: &mut W,
+        buffer: &mut TextBuffer,
+    ) -> Result<(), Fault>
+        ensures { AnswersSaid self.old (of_script (read_worded_line self.old.cluster self.old.coded line.now))
+            self.new (W.contents writer.old) (W.contents writer.new) result }
+    {
+        let Some(held) = &self.held else {
+            return Err(Fault::OutOfMemory);
+        };
+        match held.script_line(alloc, line) {
+            Ok(Some(line)) => self.make(alloc, line, writer, buffer),
+            Ok(None) => self.pass(writer, buffer),
+            Err(fault) => self.answer_fault(alloc, &LineFault::from(fault), writer, buffer),
+        }
+    }
+
+    /// Answers a line without its byte order mark.
+    fn answer_line<W: Write>(
+        &mut self,
+        alloc: Global,
+        line: &[u8],
+        writer: &mut W,
+        buffer: &mut TextBuffer,
+    ) -> Result<(), Fault>
+        ensures { AnswersSaid self.old (line_heard self.old.cluster self.old.coded line.now)
+            self.new (W.contents writer.old) (W.contents writer.new) result }
+    {
+        let Some(held) = &self.held else {
+            return Err(Fault::OutOfMemory);
+        };
+        match first_field(held.cluster(), line) {
+            Some((word, rest)) if word == b"?".as_slice() => {
+                self.answer_question(alloc, rest, writer, buffer)
+            }
+            Some((word, rest)) if word == b"mark".as_slice() => {
+                self.answer_mark(alloc, rest, writer, buffer)
+            }
+            Some((word, rest)) if word == b"back".as_slice() => {
+                self.answer_back(alloc, rest, writer, buffer)
+            }
+            _ => self.answer_script(alloc, line, writer, buffer),
+        }
+    }
+
+    /// Answers a line that is too long.
+    #[inline(never)]
+    fn answer_long<W: Write>(
+        &mut self,
+        alloc: Global,
+        writer: &mut W,
+        buffer: &mut TextBuffer,
+    ) -> Result<(), Fault>
+        ensures { WritesAnswer (bad_reply self.old TooLong)
+            ⊥ self.new (W.contents writer.old) (W.contents writer.new) result }
+    {
+        self.refuse(alloc, &Reason::TooLong, writer, buffer)
     }
 }
 
@@ -341,14 +516,9 @@ impl Answering for Hand {
         writer: &mut W,
         buffer: &mut TextBuffer,
     ) -> Result<(), Fault> {
-        match self.listen(alloc, line) {
-            Err(LineFault::OutOfMemory) => Err(Fault::OutOfMemory),
-            Err(LineFault::Bad(reason)) => self.refuse(alloc, &reason, writer, buffer),
-            Ok(None) => self.pass(writer, buffer),
-            Ok(Some(Heard::Ask(question))) => self.ask(alloc, question, writer, buffer),
-            Ok(Some(Heard::SetMark(name))) => self.mark(alloc, name, writer, buffer),
-            Ok(Some(Heard::GoBack(name))) => self.go_back(alloc, name, writer, buffer),
-            Ok(Some(Heard::Make(line))) => self.make(alloc, line, writer, buffer),
+        match self.begin(line)? {
+            Some(line) => self.answer_line(alloc, line, writer, buffer),
+            None => self.answer_long(alloc, writer, buffer),
         }
     }
 }

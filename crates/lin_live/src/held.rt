@@ -3,18 +3,17 @@
 ghost use Rattle.std.specs.Prelude.{◌≡◌, ◌≤◌, ◌||◌, [], IfOk, IfSome, None, if◌then◌else◌};
 ghost use Rattle.std.specs.Prelude.{length, option_map, reverse, true};
 ghost use Rattle.lin_bench.specs.Marks.{IsMarkOf, state_at};
+ghost use Rattle.lin_bench.specs.Read.{Gives as ReadsLine};
 ghost use Rattle.lin_bench.specs.Scripts.{without_mark};
-ghost use Rattle.lin_export.specs.LastSlot.{IsKeptOf};
-ghost use Rattle.lin_export.specs.Track.{track_of};
-ghost use Rattle.lin_live.specs.Asked.{Gives, IsAskable};
+ghost use Rattle.lin_bench.specs.Words.{read_worded_line};
+ghost use Rattle.lin_live.specs.Asked.{IsAskable};
 ghost use Rattle.lin_live.specs.Hand.{IsOpening};
-ghost use Rattle.lin_live.specs.Heard.{IsHeard};
-ghost use Rattle.lin_live.specs.Held.{IsBoxedTrackOf, IsKept, earlier, entries_from, line_text};
+ghost use Rattle.lin_live.specs.Held.{IsBoxedTrack, IsBoxedTrackOf, IsKept, earlier, entries_from, line_text};
 ghost use Rattle.lin_live.specs.Serving.{WritesAlone, WritesAnswer};
 ghost use Rattle.lin_live.specs.Told.{Fine, HandData, Is, IsFullFor, asked_value, bad_reply, ending_text};
-ghost use Rattle.lin_live.specs.Told.{heard_as, heard_reply, is_limit, is_unmet_verdict};
+ghost use Rattle.lin_live.specs.Told.{heard_reply, is_limit, is_unmet_verdict};
 ghost use Rattle.lin_live.specs.Told.{verdict_with_meaning, without_byte_order_mark};
-ghost use Rattle.lin_live.specs.Values.{KeepsLastSlot, as_said};
+ghost use Rattle.lin_live.specs.Values.{IsBoxedKeptOf, KeepsLastSlot, as_said};
 ghost use Rattle.lin_live.specs.declared.answer_format.AnswerFormat.TheVariants.{Jsonl, Named};
 ghost use Rattle.lin_live.specs.declared.heard.Heard.TheVariants.{Make};
 
@@ -28,12 +27,12 @@ use crate::answer_texts::{
 };
 use crate::answer_value::{AnswerValue, value_of};
 use crate::fault::Fault;
-use crate::heard::{Heard, hear};
 use crate::question::Question;
-use crate::reason::{LineFault, Reason};
-use lin_bench::{Bench, Mark, ScriptLine, Verdict, told_meaning, without_mark};
+use crate::reason::Reason;
+use lin_bench::{Bench, Mark, ScriptLine, Verdict, read_worded_line, told_meaning, without_mark};
 use lin_core::{Core, Log};
 use lin_export::{LastSlot, ObjectTrack, Opening, Track};
+use lin_parts::Cluster;
 use lin_text::TextBuffer;
 use lin_values::Coded;
 use std::alloc::{AllocError, Global};
@@ -52,12 +51,12 @@ pub(crate) struct HeldBench {
     coded: Option<Coded>,
     /// Whether answers also have physical values.
     is_physical: bool,
-    /// The state for writing further entries with names, if it is kept.
-    track: Option<Track>,
-    /// The same for objects, in a box: it has 1 KiB, and each line moves it.
+    /// The state for writing further entries with names, if it is kept; in a box, since each line moves it.
+    track: Option<Box<Track>>,
+    /// The same for objects.
     objects: Option<Box<ObjectTrack>>,
     /// The slot that had ended last when it was last asked for.
-    last_slot: Option<LastSlot>,
+    last_slot: Option<Box<LastSlot>>,
     /// Whether there was a line.
     begun: bool,
     was_bad: bool,
@@ -81,7 +80,7 @@ impl Model for HeldBench {
 struct KeptTracks {
     /// The place of this entry, from which on entries are written.
     from: usize,
-    track: Option<Track>,
+    track: Option<Box<Track>>,
     objects: Option<Box<ObjectTrack>>,
 }
 
@@ -183,37 +182,33 @@ impl HeldBench {
         }
     }
 
-    /// Parses a line without a byte order mark. `None` is a line that is too long.
-    fn hear(&self, alloc: Global, line: Option<&[u8]>) -> Result<Option<Heard>, LineFault>
-        ensures heard { Gives result
-            (heard_as self.now.cluster self.now.coded (option_map (λ l. l.now) line.entry)) }
-        ensures askable { IfOk result (λ said. IfSome said (IsHeard self.now.cluster)) }
+    /// The cluster.
+    pub(crate) fn cluster(&self) -> &Cluster
+        ensures { result.now ≡ self.now.cluster }
     {
-        match line {
-            None => Err(LineFault::Bad(Reason::TooLong)),
-            Some(line) => hear(
-                alloc,
-                self.bench.core().cluster(),
-                self.coded.as_ref(),
-                line,
-            ),
-        }
+        self.bench.core().cluster()
     }
 
-    /// Parses a line. `None` is a line that is too long.
-    pub(crate) fn listen(
-        &mut self,
-        alloc: Global,
-        line: Option<&[u8]>,
-    ) -> Result<Option<Heard>, LineFault>
-        ensures heard { Gives result (heard_as self.old.cluster self.old.coded
-            (without_byte_order_mark self.old (option_map (λ l. l.now) line.entry))) }
-        ensures askable { IfOk result (λ said. IfSome said (IsHeard self.old.cluster)) }
+    /// Begins a line: returns it without a byte order mark. `None` is a line that is too long.
+    pub(crate) fn begin<'l>(&mut self, line: Option<&'l [u8]>) -> Option<&'l [u8]>
+        ensures line { option_map (λ l. l.now) result
+            ≡ without_byte_order_mark self.old (option_map (λ l. l.now) line.entry) }
         ensures begun { self.new ≡ record self.old { begun = true } }
     {
         let line = self.unmarked(line);
         self.begun = true;
-        self.hear(alloc, line)
+        line
+    }
+
+    /// Reads a line of a bench script.
+    pub(crate) fn script_line(
+        &self,
+        alloc: Global,
+        line: &[u8],
+    ) -> Result<Option<ScriptLine>, lin_bench::LineFault>
+        ensures { ReadsLine (λ l. l) result (read_worded_line self.now.cluster self.now.coded line.now) }
+    {
+        read_worded_line(alloc, self.cluster(), self.coded.as_ref(), line)
     }
 
     /// Returns a mark of the bench as it is. An error means out of memory.
@@ -283,9 +278,9 @@ impl HeldBench {
     }
 
     /// Takes the slot that had ended last, if a question asks for it.
-    fn take_slot(&mut self, question: Question) -> Option<LastSlot>
+    fn take_slot(&mut self, question: Question) -> Option<Box<LastSlot>>
         ensures same { self.new ≡ self.old }
-        ensures kept { IfSome result (IsKeptOf self.old.cluster (reverse self.old.bench.past)) }
+        ensures kept { IfSome result (IsBoxedKeptOf self.old.cluster (reverse self.old.bench.past)) }
     {
         if !matches!(question, Question::LastSlot) {
             return None;
@@ -359,14 +354,15 @@ impl HeldBench {
 
     /// Returns the text of the entries from one on with names, and keeps the track of all. An error
     /// means out of memory.
+    #[inline(never)]
     fn names_from(
         &mut self,
         alloc: Global,
-        track: Option<Track>,
+        track: Option<Box<Track>>,
         from: usize,
     ) -> Result<Vec<u8>, AllocError>
         requires there { from ≤ length self.old.bench.past }
-        requires track { IfSome track (λ t. t ≡ track_of self.old.cluster (earlier from self.old.bench.past)) }
+        requires track { IfSome track (IsBoxedTrack self.old.cluster (earlier from self.old.bench.past)) }
         ensures same { self.new ≡ self.old }
         ensures text { IfOk result (λ text. text.items ≡ entries_from Named self.old from) }
     {
@@ -378,6 +374,7 @@ impl HeldBench {
 
     /// Returns the objects of the entries from one on, and keeps the track of all. An error means out of
     /// memory.
+    #[inline(never)]
     fn objects_from(
         &mut self,
         alloc: Global,
@@ -441,6 +438,28 @@ impl HeldBench {
         }
     }
 
+    /// Writes the answer to a line that was made and expects what isn't so.
+    #[inline(never)]
+    fn write_unmet<W: Write>(
+        &mut self,
+        alloc: Global,
+        kept: KeptTracks,
+        verdict: Verdict,
+        writer: &mut W,
+        buffer: &mut TextBuffer,
+    ) -> Result<(), Fault>
+        requires there { kept.from ≤ length self.old.bench.past }
+        requires kept { IsKept self.old.cluster (earlier kept.from self.old.bench.past) kept }
+        ensures { WritesAnswer (
+          self.old,
+          line_text self.old kept.from (verdict_with_meaning self.old.coded verdict),
+        )
+            ⊥ self.new (W.contents writer.old) (W.contents writer.new) result }
+    {
+        let told = self.in_words(alloc, verdict)?;
+        self.write_line_answer(alloc, kept, told, writer, buffer)
+    }
+
     /// Makes a line, and writes the answer to it.
     pub(crate) fn make<W: Write>(
         &mut self,
@@ -463,7 +482,9 @@ impl HeldBench {
         let verdict = self.bench.make(alloc, line)?;
         self.last_slot = last_slot;
         self.keep(&verdict);
-        let told = self.in_words(alloc, verdict)?;
-        self.write_line_answer(alloc, kept, told, writer, buffer)
+        if is_unmet(&verdict) {
+            return self.write_unmet(alloc, kept, verdict, writer, buffer);
+        }
+        self.write_line_answer(alloc, kept, verdict, writer, buffer)
     }
 }

@@ -1,31 +1,55 @@
 //! The loop.
 
-ghost use Rattle.lin_live.specs.Serving.{AnswersBegun, FeedsBegun, RunsLive, ServesBegun};
+ghost use Rattle.std.specs.Prelude.{◌≡◌, ◌≤◌, [], IfSome, OnOk, Some, length};
+ghost use Rattle.lin_live.specs.Serving.{EndsBegun, FeedsBegun, RepliesTo, RunsLive, ServesBegun};
 
 use crate::answering::Answering;
-use crate::begun::Begun;
+use crate::begun::{Begun, ended_line};
 use crate::fault::Fault;
 use lin_text::TextBuffer;
 use memchr::memchr;
 use std::alloc::Global;
 use std::io::{ErrorKind, Read, Write};
 
-/// Answers the line that ends here, and flushes the writer.
+/// Answers a line, and flushes the writer. `None` is a line that is too long.
 fn answer_line<S: Answering, W: Write>(
     alloc: Global,
     state: &mut S,
-    begun: &Begun,
+    line: Option<&[u8]>,
     writer: &mut W,
     buffer: &mut TextBuffer,
 ) -> Result<(), Fault>
-    ensures { AnswersBegun S.reply S.is_full S.state W.contents state.old state.new
-        writer.old writer.new begun.now result }
+    requires short { IfSome line (λ l. length l.now ≤ 16777216) }
+    ensures { RepliesTo S.reply S.is_full (S.state state.old) (S.state state.new)
+        (W.contents writer.old) (W.contents writer.new) line.entry result }
 {
-    state.answer(alloc, begun.line(), writer, buffer)?;
+    state.answer(alloc, line, writer, buffer)?;
     match writer.flush() {
         Ok(()) => Ok(()),
         Err(_) => Err(Fault::WriteFailed),
     }
+}
+
+/// Answers the line that ends after these bytes, and begins the next one.
+fn end_line<S: Answering, W: Write>(
+    alloc: Global,
+    state: &mut S,
+    begun: &mut Begun,
+    bytes: &[u8],
+    writer: &mut W,
+    buffer: &mut TextBuffer,
+) -> Result<(), Fault>
+    ensures answered { EndsBegun S.reply S.is_full S.state W.contents state.old state.new
+        writer.old writer.new begun.old bytes.now result }
+    ensures begun { OnOk result (begun.new ≡ Some []) }
+{
+    if !begun.is_nothing() {
+        begun.add(alloc, bytes)?;
+        answer_line(alloc, state, begun.line(), writer, buffer)?;
+        begun.clear();
+        return Ok(());
+    }
+    answer_line(alloc, state, ended_line(bytes), writer, buffer)
 }
 
 /// Answers each line that ends in a piece of the input, and keeps the beginning of the next one.
@@ -42,9 +66,7 @@ fn feed<S: Answering, W: Write>(
 {
     let mut rest = piece;
     while let Some(end) = memchr(b'\n', rest) {
-        begun.add(alloc, &rest[..end])?;
-        answer_line(alloc, state, begun, writer, buffer)?;
-        begun.clear();
+        end_line(alloc, state, begun, &rest[..end], writer, buffer)?;
         let (_, behind) = rest.split_at(end + 1);
         rest = behind;
     }
@@ -66,7 +88,7 @@ fn finish<S: Answering, W: Write>(
     if begun.is_nothing() {
         return Ok(());
     }
-    answer_line(alloc, state, begun, writer, buffer)
+    answer_line(alloc, state, begun.line(), writer, buffer)
 }
 
 /// Answers each line of a reader on a writer: writes the whole answer and flushes the writer before

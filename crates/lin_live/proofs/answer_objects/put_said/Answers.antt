@@ -6,7 +6,7 @@ use Rattle.lin_export.specs.Jsonl.{meant_members, signal_value}
 use Rattle.lin_export.specs.LastSlot.{kept_slot, last_slot_value}
 use Rattle.lin_export.specs.WhereTold.{given_coding, where_told}
 use Rattle.lin_export.proofs.Objects.{grows-list, grows-member, puts-all, puts-more, puts-one}
-use Rattle.lin_live.specs.Values.{node_value, versions_value}
+use Rattle.lin_live.specs.Values.{node_value, slot_in_box, versions_value}
 use Rattle.lin_live.proofs.answer_objects.put_said.Goals as goal
 
 pub returns-in-Signal : goal.returns-in-Signal
@@ -32,8 +32,8 @@ returns-in-Nodes g c =
 pub returns-in-LastSlot : goal.returns-in-LastSlot
 returns-in-LastSlot g c =
     rw c.in-LastSlot.is
-    (puts-one (member (codes "value") (last_slot_value c.args.cluster.now (kept_slot c.in-LastSlot.last)))
-    (grows-member (codes "value") c.put_key-in-LastSlot.ensures (rw c.as_ref.ensures.value at c.put_last_slot_value.ensures))).text
+    (puts-one (member (codes "value") (last_slot_value c.args.cluster.now (kept_slot (slot_in_box c.in-LastSlot.last))))
+    (grows-member (codes "value") c.put_key-in-LastSlot.ensures (rw c.unboxed.ensures at c.put_last_slot_value.ensures))).text
 
 pub returns-in-Rules : goal.returns-in-Rules
 returns-in-Rules g c =
