@@ -58,8 +58,8 @@ pub(crate) fn fits(pattern: &Pattern, message: &[u8]) -> bool
     has_length(pattern, message.len()) && fits_bytes(pattern.bytes.as_slice(), message)
 }
 
-/// How specific a pattern is at a place, from 0: 3 stands for a byte, 2 for any byte, and after these 1
-/// for the end, or 0 if more bytes may follow.
+/// How specific a pattern is at a place, counted from 0: 3 if it has a byte there, 2 for `..`. After its last byte: 1 if
+/// the message must end there, 0 if more bytes may follow.
 fn rank_at(pattern: &Pattern, place: usize) -> u8
     ensures { result ≡ rank_at pattern.now place }
 {
@@ -457,7 +457,7 @@ fn place_of(whens: &[When], when: &When) -> Option<usize>
     whens.iter().position(|other| same_rule(when, other))
 }
 
-/// Puts a rule in the place of the one with its node, its state and its pattern, or behind all.
+/// Replaces the rule with the same node, state and pattern by this one, or adds this one at the end.
 pub(crate) fn add_when(whens: &mut Many<When>, when: When) -> Result<(), AllocError>
     ensures { OnOk result (whens.new ≡ whens_with whens.old when) }
 {

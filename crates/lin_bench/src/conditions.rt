@@ -40,7 +40,7 @@ impl Finding {
     }
 }
 
-/// What a node sees of a signal; none where there is no such node or signal.
+/// Returns the value of a signal that a node sees, or `None` if the cluster doesn't have the node or the signal.
 pub(crate) fn value_seen(core: &Core, node: u8, signal: u16) -> Option<Value>
     ensures { result ≡ value_seen core.now.cluster (past_of core.now) node signal }
 {

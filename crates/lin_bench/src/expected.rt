@@ -231,7 +231,7 @@ pub enum Expected {
     Awake,
     /// No message of any host waits, and no answer is noted: `slots idle` expects it after its slots.
     Idle,
-    /// A rule is in force that a line ends. The line judges it, and only that there is none is told.
+    /// There is a rule that this line ends. The line checks this itself, and reports only that there is none.
     HasRule(RuleEnd),
 }
 

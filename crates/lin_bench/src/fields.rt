@@ -387,7 +387,7 @@ pub(crate) fn range_field(
     }
 }
 
-/// A number of messages from one end of a range, which stands in this field, to the other.
+/// Reads a range of numbers of messages from the texts of its ends. `field` is the field with both, for the reason.
 #[tactic(auto, unfolding(crate::specs::Fields::counts_between))]
 fn counts_between(
     alloc: Global,
