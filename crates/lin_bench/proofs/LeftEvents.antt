@@ -1,5 +1,5 @@
 -- Events that no expectation has taken.
-use Rattle.std.proofs.Common.{◌≡◌, ◌∙◌, ◌≤◌, ◌+◌, ℕ, List, [], ◌∷◌, ◌++◌, ap, arith, false, length, refl, sym, take, true}
+use Rattle.std.proofs.Common.{◌≡◌, ◌≤◌, ◌+◌, ℕ, List, ◌∷◌, ◌++◌, ap, arith, false, length, refl, take, true}
 use Rattle.std.specs.Prelude.{count_by, flat_map}
 use Rattle.std.proofs.lemmas.Bool.Decides.{nat_tests}
 use Rattle.std.proofs.lemmas.List.{take_all}
@@ -8,13 +8,12 @@ use Rattle.lin_core.specs.declared.event.Event.{Event}
 use Rattle.lin_core.specs.declared.event.Event.TheVariants as event
 use Rattle.lin_core.specs.declared.log.LogEntry.{LogEntry}
 use Rattle.lin_bench.specs.LeftEvents.{is_left}
-use Rattle.lin_bench.specs.Searches.{HoldNone, IsSearchState, last_end, taken_by}
-use Rattle.lin_bench.specs.Verdicts.{first_so, is_message_left, is_of_kind, same_kind}
+use Rattle.lin_bench.specs.Searches.{IsSearchState, last_end}
+use Rattle.lin_bench.specs.Verdicts.{is_message_left, is_of_kind, same_kind}
 use Rattle.lin_bench.specs.declared.taken.EventKind.{EventKind}
 use Rattle.lin_bench.specs.declared.taken.EventKind.TheVariants.{Messages}
 use Rattle.lin_bench.specs.declared.taken.TakenEvents.{TakenEvents}
-use Rattle.lin_bench.proofs.FirstEvents.{fewer, le-false, more-of, passed-over, taken-of}
-use Rattle.lin_bench.proofs.Makes.{append-nothing}
+use Rattle.lin_bench.proofs.FirstEvents.{fewer, le-false, more-of}
 
 -- the first entries have as many events of a kind as all, at most
 pub at-most-all : (kind : EventKind) (es : List LogEntry) (n : ℕ)
@@ -41,7 +40,7 @@ pub message-left : (taken : List EventKind) (before : List Event) (e : Event) (f
     → is_left taken (Messages from to) before ≡ is_message_left taken before e
 message-left taken before e from to bytes is = rw is refl
 
-message-taken : (taken : List EventKind) (before : List Event) (e : Event) (es : List Event)
+pub message-taken : (taken : List EventKind) (before : List Event) (e : Event) (es : List Event)
     → ((kind : EventKind) → count_by (is_of_kind kind) (before ++ e ∷ es) ≤ count_by (same_kind kind) taken)
     → is_message_left taken before e ≡ false
 message-taken taken before (event.Message from to bytes) es few =
@@ -57,15 +56,3 @@ message-taken taken before (event.Seen how) es few = refl
 message-taken taken before (event.Sent host number) es few = refl
 message-taken taken before (event.Lost host number cause) es few = refl
 message-taken taken before event.Asleep es few = refl
-
--- what is forgotten is taken
-pub none-forgotten : (es : List LogEntry) (t : TakenEvents) → IsSearchState es t → HoldNone (is_message_left (taken_by es t)) es t.forgotten
-none-forgotten es t k =
-    let p = is_message_left (taken_by es t) in
-    let first = flat_map events (take t.forgotten es) in (
-      k.forgotten,
-      ap (first_so p []) (sym (append-nothing first))
-          ∙ passed-over p [] first []
-          (λ xs e ys same. message-taken (taken_by es t) xs e ys
-          (λ kind. let count = ap (count_by (is_of_kind kind)) same in omega (arith, count, taken-of es t kind))),
-    )

@@ -18,8 +18,8 @@ pub mod Searches
 pub mod Walks
 pub mod CarriedFrames
 pub mod FirstEvents
-pub mod LossSearches
 pub mod LeftEvents
+pub mod SoughtEvents
 pub mod Hosts
 pub mod Runs
 pub mod Stricts
@@ -45,3 +45,4 @@ pub mod RuledFinish
 pub mod CountedSlots
 pub mod ToldErrors
 pub mod FrameCycles
+pub mod GrownWatches

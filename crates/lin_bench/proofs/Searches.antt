@@ -1,29 +1,30 @@
 -- Searches for events that expectations take.
 use Rattle.std.proofs.Common.{◌≡◌, ◌∙◌, ◌+◌, ◌≤◌, ℕ, Bool, true, false, cond, List, [], ◌∷◌, ◌++◌, length, reverse, take, refl, sym, ap, subst, append_assoc, arith, add-zero, zero-add, length-append, Option, Some, None}
-use Rattle.std.specs.List.{cons_option, filter_map}
-use Rattle.std.specs.Option.{option_map_or}
+use Rattle.std.specs.List.{filter_map}
 use Rattle.std.specs.Prelude.{count_by, filter, find, flat_map, is_some, replicate, slice_get}
 use Rattle.std.proofs.lemmas.Bool.Decides.{nat_tests}
 use Rattle.std.proofs.lemmas.Grind.{flat_map-append}
 use Rattle.std.proofs.lemmas.List.{reverse-append, take-append-le, take_all}
-use Rattle.std.proofs.lemmas.List.Sums.{sum_by-append, sum_by-cons}
+use Rattle.std.proofs.lemmas.List.Sums.{sum_by-append}
 use Rattle.lin_core.specs.Core.{CoreData, past_of}
 use Rattle.lin_core.specs.History.{events}
 use Rattle.lin_core.specs.declared.event.Event.{Event}
 use Rattle.lin_core.specs.declared.log.LogEntry.{LogEntry}
 use Rattle.lin_bench.specs.Making.{IsGrown}
-use Rattle.lin_bench.specs.Searches.{AreClear, Finds, IsBehind, IsSearchState, IsReached, KeepsCleared, before, cleared_count, end_of, how_many, kind_found, last_end, last_search, place_before, same_host, taken_by}
-use Rattle.lin_bench.specs.Verdicts.{all_taken, is_of_kind, kind_of, loss_after, next_event, same_kind, with_taken}
+use Rattle.lin_bench.specs.Searches.{AreClear, Finds, IsBehind, IsSearchState, IsReached, KeepsCleared, before, cleared_count, end_of, is_sought, kind_found, last_end, last_search, place_before, same_host, same_search, taken_by}
+use Rattle.lin_bench.specs.Verdicts.{all_taken, first_so, is_of_kind, kind_of, next_event, same_kind, with_taken}
 use Rattle.lin_bench.specs.declared.taken.Cleared.{Cleared}
 use Rattle.lin_bench.specs.declared.taken.EventKind.{EventKind}
 use Rattle.lin_bench.specs.declared.taken.EventKind.TheVariants.{Messages, Fates, Ends, Begins}
+use Rattle.lin_bench.specs.declared.taken.EventsSought.{EventsSought}
+use Rattle.lin_bench.specs.declared.taken.EventsSought.TheVariants as sought
 use Rattle.lin_bench.specs.declared.taken.LogPlace.{LogPlace}
 use Rattle.lin_bench.specs.declared.taken.Search.{Search}
 use Rattle.lin_bench.specs.declared.taken.TakenEvents.{TakenEvents}
 use Rattle.lin_bench.proofs.Events.{count-kinds, events-of-log}
 use Rattle.lin_bench.proofs.FirstEvents.{fewer, grown-count}
-use Rattle.lin_bench.proofs.LossSearches.{clear-at-first, each-at-most, none-more}
 use Rattle.lin_bench.proofs.Makes.{append-nothing}
+use Rattle.lin_bench.proofs.SoughtEvents.{clear-at-first, each-at-most, none-more}
 
 -- what is taken where nothing was searched for since these entries
 forgotten-taken : (es : List LogEntry) (t : TakenEvents) → t.searches.items ≡ [] → taken_by es t ≡ filter_map kind_of (flat_map events (take t.forgotten es))
@@ -31,13 +32,15 @@ forgotten-taken es t none =
     ap (λ ss. filter_map kind_of (flat_map events (take t.forgotten es)) ++ flat_map kind_found ss) none
     ∙ append-nothing (filter_map kind_of (flat_map events (take t.forgotten es)))
 
--- as many entries as are forgotten hold no loss that is left
+-- as many entries as are forgotten hold no event that is left
 abbrev pub AreFirst : TakenEvents → Type 0
-AreFirst t = (which : Option ℕ) → cleared_count t.cleared which ≤ t.forgotten
+AreFirst t = (q : EventsSought) → cleared_count t.cleared q ≤ t.forgotten
 
-pub first-cleared : (t : TakenEvents) → t.cleared.all ≡ t.forgotten → t.cleared.hosts ≡ replicate 256 t.forgotten → AreFirst t
-first-cleared t all hosts None = omega (arith, all)
-first-cleared t all hosts (Some host) = rw hosts (each-at-most 256 t.forgotten host)
+pub first-cleared : (t : TakenEvents) → t.cleared.losses ≡ t.forgotten → t.cleared.hosts ≡ replicate 256 t.forgotten → t.cleared.messages ≡ t.forgotten
+    → AreFirst t
+first-cleared t losses hosts messages (sought.Losses None) = omega (arith, losses)
+first-cleared t losses hosts messages (sought.Losses (Some host)) = rw hosts (each-at-most 256 t.forgotten host)
+first-cleared t losses hosts messages sought.Messages = omega (arith, messages)
 
 known-nothing : (es : List LogEntry) (t : TakenEvents) → t.searches.items ≡ [] → AreFirst t → t.forgotten ≤ length es → IsSearchState es t
 known-nothing es t none first few =
@@ -50,7 +53,7 @@ known-nothing es t none first few =
           ap (before es kind) (end kind) ∙ add-zero (count_by (is_of_kind kind) (flat_map events (take t.forgotten es)))
           ∙ count-kinds kind (flat_map events (take t.forgotten es)) ∙ ap (count_by (same_kind kind)) (sym (forgotten-taken es t none));
       reached = λ kind. rw (end kind) (let more = fewer kind es t.forgotten (t.forgotten + 1) (omega arith) in omega (arith, more));
-      clear = λ which. clear-at-first which es t (cleared_count t.cleared which) few (first which);
+      clear = λ q. clear-at-first q es t (cleared_count t.cleared q) few (first q);
     }
 
 -- nothing is taken of a new log
@@ -68,7 +71,7 @@ known-forgotten core t none first all = (
 )
 
 -- ---- more entries
-before-more : (es more : List LogEntry) (kind : EventKind) (p : LogPlace) → p.entry ≤ length es → before (es ++ more) kind p ≡ before es kind p
+pub before-more : (es more : List LogEntry) (kind : EventKind) (p : LogPlace) → p.entry ≤ length es → before (es ++ more) kind p ≡ before es kind p
 before-more es more kind p h = ap (λ l. count_by (is_of_kind kind) (flat_map events l) + p.events) (take-append-le p.entry es more h)
 
 taken-append : (es more : List LogEntry) (t : TakenEvents) → t.forgotten ≤ length es → taken_by (es ++ more) t ≡ taken_by es t
@@ -81,12 +84,12 @@ reached-append es more kind p h r =
     let grown = grown-count kind es more (p.entry + 1) in
     omega (arith, same, grown, r)
 
-clear-append : (es more : List LogEntry) (t : TakenEvents) (which : Option ℕ) (n : ℕ) → t.forgotten ≤ length es → AreClear es t which n
-    → AreClear (es ++ more) t which n
-clear-append es more t which n h c = (
+clear-append : (es more : List LogEntry) (t : TakenEvents) (q : EventsSought) (n : ℕ) → t.forgotten ≤ length es → AreClear es t q n
+    → AreClear (es ++ more) t q n
+clear-append es more t q n h c = (
   omega (arith, c.0, length-append es more),
-  ap (λ ts. loss_after which ts [] (flat_map events (take n (es ++ more)))) (taken-append es more t h)
-      ∙ ap (λ l. loss_after which (taken_by es t) [] (flat_map events l)) (take-append-le n es more c.0) ∙ c.1,
+  ap (λ ts. first_so (is_sought q ts) [] (flat_map events (take n (es ++ more)))) (taken-append es more t h)
+      ∙ ap (λ l. first_so (is_sought q (taken_by es t)) [] (flat_map events l)) (take-append-le n es more c.0) ∙ c.1,
 )
 
 known-append : (es more : List LogEntry) (t : TakenEvents) → IsSearchState es t → IsSearchState (es ++ more) t
@@ -98,7 +101,7 @@ known-append es more t k =
           before-more es more kind (last_end kind t) (k.within kind) ∙ k.taken kind
           ∙ ap (count_by (same_kind kind)) (sym (taken-append es more t k.forgotten));
       reached = λ kind. reached-append es more kind (last_end kind t) (k.within kind) (k.reached kind);
-      clear = λ which. clear-append es more t which (cleared_count t.cleared which) k.forgotten (k.clear which);
+      clear = λ q. clear-append es more t q (cleared_count t.cleared q) k.forgotten (k.clear q);
     }
 
 pub known-grown : (a b : CoreData) (t : TakenEvents) → IsGrown a b → IsSearchState a.log t → IsSearchState b.log t
@@ -108,7 +111,7 @@ pub taken-grown : (a b : CoreData) (t : TakenEvents) → IsGrown a b → IsSearc
 taken-grown a b t grown k = ap (λ l. taken_by l t) grown.log ∙ taken-append a.log grown.more t k.forgotten
 
 -- ---- one more search
-same-kind : (q k : EventKind) → same_kind q k ≡ true → q ≡ k
+pub same-kind : (q k : EventKind) → same_kind q k ≡ true → q ≡ k
 same-kind (Messages a b) (Messages c d) h = grind (arith, nat_tests)
 same-kind (Messages a b) (Fates d) h = cc
 same-kind (Messages a b) Ends h = cc
@@ -177,15 +180,15 @@ place-more es t s n q true is k f =
     (f.within, (rw same at at, rw same at f.reached))
 place-more es t s n q false is k f = (k.within q, (k.taken q ∙ sym (add-zero (count_by (same_kind q) (taken_by es t))), k.reached q))
 
--- what holds no loss that is left holds none when more is taken
-clear-more : (es : List LogEntry) (t : TakenEvents) (s : Search) (u : TakenEvents) (which : Option ℕ) → IsOneMore t s u → IsSearchState es t
-    → AreClear es u which (cleared_count u.cleared which)
-clear-more es t s u which more k =
-    let n = cleared_count t.cleared which in
+-- what holds no event that is left holds none when more is taken
+clear-more : (es : List LogEntry) (t : TakenEvents) (s : Search) (u : TakenEvents) (q : EventsSought) → IsOneMore t s u → IsSearchState es t
+    → AreClear es u q (cleared_count u.cleared q)
+clear-more es t s u q more k =
+    let n = cleared_count t.cleared q in
     rw more.cleared (
-      (k.clear which).0,
-      ap (λ ts. loss_after which ts [] (flat_map events (take n es))) (taken-more es t s u more)
-          ∙ none-more which (taken_by es t) (kind_found s) [] (flat_map events (take n es)) (k.clear which).1,
+      (k.clear q).0,
+      ap (λ ts. first_so (is_sought q ts) [] (flat_map events (take n es))) (taken-more es t s u more)
+          ∙ none-more q (taken_by es t) (kind_found s) [] (flat_map events (take n es)) (k.clear q).1,
     )
 
 -- the places are known after a search from the last one's end
@@ -202,7 +205,7 @@ known-search es t s u more k f =
           ∙ sym (sum_by-append (λ x. cond (same_kind q x) 1 0) (taken_by es t) (kind_found s))
           ∙ ap (count_by (same_kind q)) (sym (taken-more es t s u more));
       reached = λ q. rw (last-more q t s u more) (place-more es t s (found-count s) q (same_kind q s.kind) refl k f).1.1;
-      clear = λ which. clear-more es t s u which more k;
+      clear = λ q. clear-more es t s u q more k;
     }
 
 -- ... or from the event that it found, which isn't taken
@@ -226,21 +229,27 @@ same-host None (Some k) h = cc
 same-host (Some j) None h = cc
 same-host (Some j) (Some k) h = ap Some (grind (arith, nat_tests))
 
-clear-kept : (es : List LogEntry) (t : TakenEvents) (which q : Option ℕ) (n m : ℕ) (b : Bool) → same_host q which ≡ b → AreClear es t which n → AreClear es t q m
-    → AreClear es t q (cond b n m)
-clear-kept es t which q n m true is new old = subst (λ w. AreClear es t w n) (sym (same-host which q is)) new
-clear-kept es t which q n m false is new old = old
+same-search : (q r : EventsSought) → same_search r q ≡ true → r ≡ q
+same-search (sought.Losses which) (sought.Losses other) h = ap sought.Losses (same-host which other h)
+same-search (sought.Losses which) sought.Messages h = cc
+same-search sought.Messages (sought.Losses which) h = cc
+same-search sought.Messages sought.Messages h = refl
 
--- and after a search for losses
-pub known-cleared : (es : List LogEntry) (t : TakenEvents) (which : Option ℕ) (n : ℕ) (c : Cleared) → IsSearchState es t → AreClear es t which n
-    → KeepsCleared which n t.cleared c → IsSearchState es (record t { cleared = c })
-known-cleared es t which n c k new keeps =
+clear-kept : (es : List LogEntry) (t : TakenEvents) (q r : EventsSought) (n m : ℕ) (b : Bool) → same_search r q ≡ b → AreClear es t q n → AreClear es t r m
+    → AreClear es t r (cond b n m)
+clear-kept es t q r n m true is new old = subst (λ w. AreClear es t w n) (sym (same-search q r is)) new
+clear-kept es t q r n m false is new old = old
+
+-- and after a search for losses or messages
+pub known-cleared : (es : List LogEntry) (t : TakenEvents) (q : EventsSought) (n : ℕ) (c : Cleared) → IsSearchState es t → AreClear es t q n
+    → KeepsCleared q n t.cleared c → IsSearchState es (record t { cleared = c })
+known-cleared es t q n c k new keeps =
     record {
       forgotten = k.forgotten;
       within = k.within;
       taken = k.taken;
       reached = k.reached;
-      clear = λ q. rw (keeps q) (clear-kept es t which q n (cleared_count t.cleared q) (same_host q which) refl new (k.clear q));
+      clear = λ r. rw (keeps r) (clear-kept es t q r n (cleared_count t.cleared r) (same_search r q) refl new (k.clear r));
     }
 
 -- what a search finds is the oldest event that wasn't taken

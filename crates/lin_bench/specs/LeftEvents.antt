@@ -1,13 +1,12 @@
 -- The events of an entry, of which a search asks which are taken.
-use Rattle.std.specs.Prelude.{◌≡◌, ◌+◌, ℕ, Bool, true, List, ◌∷◌, ◌++◌, Option, count_by, flat_map, nat_le, take}
+use Rattle.std.specs.Prelude.{◌≡◌, ◌+◌, ℕ, Bool, true, List, [], ◌∷◌, ◌++◌, Option, count_by, flat_map, nat_le, take}
 use Rattle.lin_core.specs.History.{events}
 use Rattle.lin_core.specs.declared.event.Event.{Event}
 use Rattle.lin_core.specs.declared.log.LogEntry.{LogEntry}
-use Rattle.lin_bench.specs.Searches.{IsSearchState, taken_by}
-use Rattle.lin_bench.specs.Verdicts.{first_so, is_loss_left, is_message_left, is_of_kind, same_kind}
-use Rattle.lin_bench.specs.declared.left_events.EventsSought.{EventsSought}
-use Rattle.lin_bench.specs.declared.left_events.EventsSought.TheVariants.{Losses, Messages}
+use Rattle.lin_bench.specs.Searches.{IsSearchState, is_sought, taken_by}
+use Rattle.lin_bench.specs.Verdicts.{all_events, first_so, is_of_kind, same_kind}
 use Rattle.lin_bench.specs.declared.taken.EventKind.{EventKind}
+use Rattle.lin_bench.specs.declared.taken.EventsSought.{EventsSought}
 use Rattle.lin_bench.specs.declared.taken.TakenEvents.{TakenEvents}
 
 -- these are the events of an entry of a log, by its number
@@ -30,10 +29,9 @@ TellsIfLeft taken kind entry before left =
     → AreOf es entry (before ++ e ∷ rest) → is_of_kind kind e ≡ true
     → left ≡ is_left (taken_by es taken) kind (events_before es entry before)
 
--- whether an event, of which these stand before it, is one that a search is for, and isn't taken
-abbrev pub is_sought : EventsSought → List EventKind → List Event → Event → Bool
-is_sought (Losses which) taken before e = is_loss_left which taken before e
-is_sought Messages taken before e = is_message_left taken before e
+-- the first event that a search is for, and that isn't taken
+abbrev pub first_left : List LogEntry → List EventKind → EventsSought → Option Event
+first_left past taken sought = first_so (is_sought sought taken) [] (all_events past)
 
 -- this is whether an event passes a test of what is taken, of the events before it and of itself, in
 -- each log where it stands there

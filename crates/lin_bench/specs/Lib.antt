@@ -19,6 +19,7 @@ pub mod Verdicts
 pub mod Searches
 pub mod Arrivals
 pub mod LeftEvents
+pub mod Watches
 pub mod Carried
 pub mod Made
 pub mod Making

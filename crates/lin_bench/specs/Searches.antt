@@ -8,9 +8,11 @@ use Rattle.std.specs.List.{filter_map}
 use Rattle.lin_core.specs.History.{events}
 use Rattle.lin_core.specs.declared.event.Event.{Event}
 use Rattle.lin_core.specs.declared.log.LogEntry.{LogEntry}
-use Rattle.lin_bench.specs.Verdicts.{first_so, is_loss_left, is_of_kind, kind_of, same_kind}
+use Rattle.lin_bench.specs.Verdicts.{first_so, is_loss_left, is_message_left, is_of_kind, kind_of, same_kind}
 use Rattle.lin_bench.specs.declared.taken.Cleared.{Cleared}
 use Rattle.lin_bench.specs.declared.taken.EventKind.{EventKind}
+use Rattle.lin_bench.specs.declared.taken.EventsSought.{EventsSought}
+use Rattle.lin_bench.specs.declared.taken.EventsSought.TheVariants.{Losses, Messages}
 use Rattle.lin_bench.specs.declared.taken.LogPlace.{LogPlace}
 use Rattle.lin_bench.specs.declared.taken.Search.{Search}
 use Rattle.lin_bench.specs.declared.taken.TakenEvents.{TakenEvents}
@@ -44,18 +46,24 @@ abbrev pub IsReached : List LogEntry → EventKind → LogPlace → Type 0
 IsReached es kind p =
     before es kind p ≤ count_by (is_of_kind kind) (flat_map events (take (p.entry + 1) es))
 
--- how many entries hold no loss that isn't taken, of a host's messages or of any
-abbrev pub cleared_count : Cleared → Option ℕ → ℕ
-cleared_count c None = c.all
-cleared_count c (Some host) = slice_index c.hosts host
+-- whether an event, of which these stand before it, is one that a search is for, and isn't taken
+abbrev pub is_sought : EventsSought → List EventKind → List Event → Event → Bool
+is_sought (Losses which) = is_loss_left which
+is_sought Messages = is_message_left
+
+-- how many entries hold no event that a search is for and that isn't taken
+abbrev pub cleared_count : Cleared → EventsSought → ℕ
+cleared_count c (Losses None) = c.losses
+cleared_count c (Losses (Some host)) = slice_index c.hosts host
+cleared_count c Messages = c.messages
 
 -- so many entries hold no event that passes a test of the events before it and itself
 abbrev pub HoldNone : (List Event → Event → Bool) → List LogEntry → ℕ → Type 0
 HoldNone is es n = (n ≤ length es) × (first_so is [] (flat_map events (take n es)) ≡ None)
 
--- so many entries hold no such loss
-abbrev pub AreClear : List LogEntry → TakenEvents → Option ℕ → ℕ → Type 0
-AreClear es t which n = HoldNone (is_loss_left which (taken_by es t)) es n
+-- so many entries hold no such event
+abbrev pub AreClear : List LogEntry → TakenEvents → EventsSought → ℕ → Type 0
+AreClear es t sought n = HoldNone (is_sought sought (taken_by es t)) es n
 
 -- the last search for each kind ended behind all events that were taken of it
 pub record IsSearchState (es : List LogEntry) (t : TakenEvents) : Type 0 where
@@ -64,17 +72,22 @@ pub record IsSearchState (es : List LogEntry) (t : TakenEvents) : Type 0 where
   pub taken : (kind : EventKind)
       → before es kind (last_end kind t) ≡ count_by (same_kind kind) (taken_by es t)
   pub reached : (kind : EventKind) → IsReached es kind (last_end kind t)
-  pub clear : (which : Option ℕ) → AreClear es t which (cleared_count t.cleared which)
+  pub clear : (sought : EventsSought) → AreClear es t sought (cleared_count t.cleared sought)
 
 abbrev pub same_host : Option ℕ → Option ℕ → Bool
 same_host None None = true
 same_host (Some h) (Some k) = h == k
 same_host which other = false
 
--- how many entries hold none is kept for one host, or for all
-abbrev pub KeepsCleared : Option ℕ → ℕ → Cleared → Cleared → Type 0
-KeepsCleared which n old new =
-    (q : Option ℕ) → cleared_count new q ≡ (if same_host q which then n else cleared_count old q)
+abbrev pub same_search : EventsSought → EventsSought → Bool
+same_search (Losses which) (Losses other) = same_host which other
+same_search Messages Messages = true
+same_search sought other = false
+
+-- how many entries hold none is kept for one search
+abbrev pub KeepsCleared : EventsSought → ℕ → Cleared → Cleared → Type 0
+KeepsCleared sought n old new =
+    (q : EventsSought) → cleared_count new q ≡ (if same_search q sought then n else cleared_count old q)
 
 abbrev pub how_many : Option Event → ℕ
 how_many None = 0

@@ -23,9 +23,10 @@ use crate::marks::Mark;
 use crate::ruled::{RuledCore, pending};
 use crate::rules::{Rule, RuleEnd};
 use crate::rules_in_force::lines_of_rules;
-use crate::slot_runs::{Ending, SLOT_LIMIT, slots};
+use crate::slot_runs::{Ending, SLOT_LIMIT, SlotsEnd, slots};
 use crate::taken::{Cleared, TakenEvents};
 use crate::verdicts::verdict;
+use crate::watches::Watch;
 use lin_core::Core;
 use lin_text::{Many, Text};
 use std::alloc::{AllocError, Global};
@@ -68,7 +69,8 @@ fn judge_on(
         (kind_taken (past_of ruled.now.core) (taken_by ruled.now.core.log taken.old) expected)) }
     ensures known { IsSearchState ruled.now.core.log taken.new }
 {
-    match verdict(alloc, ruled, taken, &expected)? {
+    let mut watch = Watch::new();
+    match verdict(alloc, ruled, taken, &mut watch, &expected)? {
         None => Ok(Verdict::Met(expected)),
         Some(got) => Ok(Verdict::Unmet(expected, got)),
     }
@@ -275,12 +277,12 @@ impl Bench {
         ensures { MakesBench (made_early self.old how.now extent early expected) self.old result self.new }
     {
         let ending = early_end(early, &expected);
+        let ends = SlotsEnd { extent, ending };
         match slots(
             alloc,
             &mut self.ruled,
             how,
-            extent,
-            ending,
+            ends,
             &mut self.taken,
             self.left,
         )? {

@@ -8,6 +8,7 @@ ghost use Rattle.lin_bench.specs.Verdicts.{changed_finding, data_of, fits_data, 
 ghost use Rattle.lin_bench.specs.Verdicts.{is_within, messages_finding, same_frame, same_value};
 ghost use Rattle.lin_bench.specs.Verdicts.{seen_finding, slot_finding, unknown, value_finding};
 ghost use Rattle.lin_bench.specs.Verdicts.{value_seen, waiting_finding};
+ghost use Rattle.lin_bench.specs.Watches.{IsWatch};
 
 use crate::answers::fits;
 use crate::carried::last_carried;
@@ -17,6 +18,7 @@ use crate::got::Got;
 use crate::left_events::count_left;
 use crate::meant::MeantValues;
 use crate::taken::{EventKind, TakenEvents, last_event};
+use crate::watches::Watch;
 use lin_core::{Core, Event, Look, Payload, Seen};
 use lin_frame::Value;
 use lin_log::{Carried, Pattern};
@@ -257,11 +259,14 @@ pub(crate) fn found(
     alloc: Global,
     core: &Core,
     taken: &TakenEvents,
+    watch: &mut Watch,
     condition: &Condition,
 ) -> Result<Finding, AllocError>
-    requires { IsSearchState core.now.log taken.now }
-    ensures { IfOk result (λ f. f ≡ found core.now.cluster (past_of core.now)
+    requires known { IsSearchState core.now.log taken.now }
+    requires watch { IsWatch core.now.cluster core.now.log watch.old }
+    ensures found { IfOk result (λ f. f ≡ found core.now.cluster (past_of core.now)
         (taken_by core.now.log taken.now) condition.now) }
+    ensures watch { IsWatch core.now.cluster core.now.log watch.new }
 {
     match condition {
         Condition::Signal {
@@ -292,7 +297,8 @@ pub(crate) fn found(
                 from: *from,
                 to: *to,
             };
-            Ok(messages(count_left(core.log(), taken, kind), *low, *high))
+            let count = count_left(core.log(), taken, &mut watch.count, kind);
+            Ok(messages(count, *low, *high))
         }
         Condition::Seen(how) => Ok(seen(last_event(core.log(), EventKind::Ends), *how)),
         Condition::Frame { frame, pattern } => {

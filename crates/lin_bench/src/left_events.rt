@@ -1,22 +1,26 @@
 //! Events that no expectation has taken.
 
-ghost use Rattle.std.specs.Prelude.{◌≡◌, ◌≤◌, ◌+◌, count_by, flat_map, length, option_map, reverse, take};
+ghost use Rattle.std.specs.Prelude.{◌≡◌, ◌≤◌, ◌+◌, IfSome, List, count_by, flat_map, length, option_map, reverse, take, true};
 ghost use Rattle.lin_core.specs.History.{events};
-ghost use Rattle.lin_bench.specs.LeftEvents.{TellsFirst, TellsIfLeft, TellsIfSo, is_sought};
-ghost use Rattle.lin_bench.specs.Searches.{IsSearchState, before, taken_by};
-ghost use Rattle.lin_bench.specs.Verdicts.{first_message, is_host, is_loss_left, is_message_left};
-ghost use Rattle.lin_bench.specs.Verdicts.{is_of_kind, left_count};
+ghost use Rattle.lin_core.specs.declared.log.LogEntry.{LogEntry as Entry};
+ghost use Rattle.lin_bench.specs.LeftEvents.{TellsFirst, TellsIfLeft, TellsIfSo, first_left};
+ghost use Rattle.lin_bench.specs.Searches.{AreClear, IsSearchState, before, is_sought, taken_by};
+ghost use Rattle.lin_bench.specs.Verdicts.{first_loss, first_message, is_host, is_loss_left};
+ghost use Rattle.lin_bench.specs.Verdicts.{is_message_left, is_of_kind, left_count};
+ghost use Rattle.lin_bench.specs.Watches.{IsEventCount};
 
-use crate::taken::{EventKind, LogPlace, TakenEvents, events_of, last_end};
+use crate::taken::{EventKind, EventsSought, LogPlace, TakenEvents, events_of, last_end};
 use lin_core::{Event, Log};
 
-/// Events that a search is for.
+/// How many events of a kind some entries of a log have.
 #[derive(Clone, Copy)]
-pub(crate) enum EventsSought {
-    /// Losses, of a message of this host where there is one.
-    Losses(Option<u8>),
-    /// Messages of all hosts.
-    Messages,
+pub(crate) struct EventCount {
+    kind: EventKind,
+    /// The first of these entries.
+    first: usize,
+    /// The entry after the last of them.
+    end: usize,
+    count: u128,
 }
 
 /// How many events of a kind there are.
@@ -26,16 +30,56 @@ pub(crate) fn count_of(told: &[Event], kind: EventKind) -> usize
     told.iter().filter(|event| kind.has(event)).count()
 }
 
-/// How many events of a kind the entries of a log from one on have.
-fn count_from(log: &Log, kind: EventKind, first: usize) -> u128
-    requires { first ≤ length log.now.entries }
-    ensures { count_by (is_of_kind kind) (flat_map events (take first log.now.entries)) + result
-        ≡ count_by (is_of_kind kind) (flat_map events log.now.entries) }
+impl EventCount {
+    /// Whether it is of a kind, and of the entries from one on.
+    fn is_of(self, kind: EventKind, first: usize) -> bool
+        ensures kind { result ≡ true → self.kind ≡ kind }
+        ensures first { result ≡ true → self.first ≡ first }
+    {
+        self.kind.is(kind) && self.first == first
+    }
+}
+
+/// The kept count of events of a kind from an entry on; that of no entries if another one is kept.
+fn count_kept(kept: Option<EventCount>, kind: EventKind, first: usize) -> EventCount
+    ensures count { (es : List Entry) → first ≤ length es → IfSome kept (IsEventCount es)
+        → IsEventCount es result }
+    ensures kind { result.kind ≡ kind }
+    ensures first { result.first ≡ first }
 {
-    let mut count: u128 = 0;
-    for index in first..log.len() {
+    if let Some(count) = kept {
+        if count.is_of(kind, first) {
+            return count;
+        }
+    }
+    EventCount {
+        kind,
+        first,
+        end: first,
+        count: 0,
+    }
+}
+
+/// How many events of a kind the entries of a log from one on have. The next count continues at the
+/// end of the log.
+fn count_from(log: &Log, kept: &mut Option<EventCount>, kind: EventKind, first: usize) -> u128
+    requires within { first ≤ length log.now.entries }
+    requires kept { IfSome kept.old (IsEventCount log.now.entries) }
+    ensures count { count_by (is_of_kind kind) (flat_map events (take first log.now.entries)) + result
+        ≡ count_by (is_of_kind kind) (flat_map events log.now.entries) }
+    ensures kept { IfSome kept.new (IsEventCount log.now.entries) }
+{
+    let so_far = count_kept(*kept, kind, first);
+    let mut count = so_far.count;
+    for index in so_far.end..log.len() {
         count += count_of(events_of(log.entry(index)), kind) as u128;
     }
+    *kept = Some(EventCount {
+        kind,
+        first,
+        end: log.len(),
+        count,
+    });
     count
 }
 
@@ -52,12 +96,20 @@ pub(crate) fn count_before(log: &Log, kind: EventKind, place: LogPlace) -> u128
 }
 
 /// How many events of a kind no expectation has taken.
-pub(crate) fn count_left(log: &Log, taken: &TakenEvents, kind: EventKind) -> u128
-    requires { IsSearchState log.now.entries taken.now }
-    ensures { result ≡ left_count (reverse log.now.entries) (taken_by log.now.entries taken.now) kind }
+pub(crate) fn count_left(
+    log: &Log,
+    taken: &TakenEvents,
+    kept: &mut Option<EventCount>,
+    kind: EventKind,
+) -> u128
+    requires known { IsSearchState log.now.entries taken.now }
+    requires kept { IfSome kept.old (IsEventCount log.now.entries) }
+    ensures count { result
+        ≡ left_count (reverse log.now.entries) (taken_by log.now.entries taken.now) kind }
+    ensures kept { IfSome kept.new (IsEventCount log.now.entries) }
 {
     let end = last_end(taken, kind);
-    count_from(log, kind, end.entry) - end.events as u128
+    count_from(log, kept, kind, end.entry) - end.events as u128
 }
 
 /// Whether an event of a kind isn't taken, by its entry and the events before it there.
@@ -148,17 +200,61 @@ pub(crate) fn first_in<'a>(
     None
 }
 
-/// The oldest message of all that no expectation has taken.
-pub(crate) fn first_message<'a>(log: &'a Log, taken: &TakenEvents) -> Option<&'a Event>
+/// The first event that a search is for and that isn't taken; and how many entries hold none.
+fn find_left<'a>(
+    log: &'a Log,
+    taken: &TakenEvents,
+    sought: EventsSought,
+) -> (Option<&'a Event>, usize)
     requires { IsSearchState log.now.entries taken.now }
-    ensures { option_map (λ e. e.now) result
-        ≡ first_message (reverse log.now.entries) (taken_by log.now.entries taken.now) }
+    ensures event { option_map (λ e. e.now) result.0
+        ≡ first_left (reverse log.now.entries) (taken_by log.now.entries taken.now) sought }
+    ensures clear { AreClear log.now.entries taken.now sought result.1 }
 {
-    for index in taken.forgotten..log.len() {
+    for index in taken.cleared.before(sought)..log.len() {
         let told = events_of(log.entry(index));
-        if let Some(event) = first_in(taken, EventsSought::Messages, index, told) {
-            return Some(event);
+        if let Some(event) = first_in(taken, sought, index, told) {
+            return (Some(event), index);
         }
     }
-    None
+    (None, log.len())
+}
+
+/// The first event that a search is for and that isn't taken. The next search for it begins there.
+fn first_left<'a>(log: &'a Log, taken: &mut TakenEvents, sought: EventsSought) -> Option<&'a Event>
+    requires { IsSearchState log.now.entries taken.old }
+    ensures event { option_map (λ e. e.now) result
+        ≡ first_left (reverse log.now.entries) (taken_by log.now.entries taken.old) sought }
+    ensures taken { taken_by log.now.entries taken.new ≡ taken_by log.now.entries taken.old }
+    ensures known { IsSearchState log.now.entries taken.new }
+{
+    let (event, clear) = find_left(log, taken, sought);
+    taken.cleared.keep(sought, clear);
+    event
+}
+
+/// The first loss, of a message of this host where there is one, that isn't taken.
+pub(crate) fn first_loss<'a>(
+    log: &'a Log,
+    taken: &mut TakenEvents,
+    which: Option<u8>,
+) -> Option<&'a Event>
+    requires { IsSearchState log.now.entries taken.old }
+    ensures loss { option_map (λ e. e.now) result
+        ≡ first_loss (reverse log.now.entries) (taken_by log.now.entries taken.old) which }
+    ensures taken { taken_by log.now.entries taken.new ≡ taken_by log.now.entries taken.old }
+    ensures known { IsSearchState log.now.entries taken.new }
+{
+    first_left(log, taken, EventsSought::Losses(which))
+}
+
+/// The oldest message of all that no expectation has taken.
+pub(crate) fn first_message<'a>(log: &'a Log, taken: &mut TakenEvents) -> Option<&'a Event>
+    requires { IsSearchState log.now.entries taken.old }
+    ensures message { option_map (λ e. e.now) result
+        ≡ first_message (reverse log.now.entries) (taken_by log.now.entries taken.old) }
+    ensures taken { taken_by log.now.entries taken.new ≡ taken_by log.now.entries taken.old }
+    ensures known { IsSearchState log.now.entries taken.new }
+{
+    first_left(log, taken, EventsSought::Messages)
 }

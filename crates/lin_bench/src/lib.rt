@@ -40,7 +40,6 @@ mod law;
 mod left_events;
 mod line;
 mod lines;
-mod losses;
 mod marks;
 mod meant;
 mod playing;
@@ -60,6 +59,7 @@ mod texts;
 mod times;
 mod unmarked;
 mod verdicts;
+mod watches;
 mod word_list;
 mod words;
 

@@ -11,6 +11,7 @@ ghost use Rattle.lin_bench.specs.Searches.{IsSearchState, taken_by};
 ghost use Rattle.lin_bench.specs.Slots.{decision, due_in, due_now, goes_on, hosts_waiting};
 ghost use Rattle.lin_bench.specs.Slots.{due_node, hurt_steps, is_opened, leave_nodes, most, goes_on_until};
 ghost use Rattle.lin_bench.specs.Slots.{slot_rest, slot_steps, some_wait};
+ghost use Rattle.lin_bench.specs.Watches.{IsWatch};
 
 use crate::expected::Expected;
 use crate::fault::MakeFault;
@@ -18,6 +19,7 @@ use crate::line::{Disturbance, Extent};
 use crate::ruled::RuledCore;
 use crate::taken::TakenEvents;
 use crate::verdicts::comes;
+use crate::watches::Watch;
 use lin_core::{Core, Event, Payload, PortId, Reply, Step};
 use std::alloc::{AllocError, Global};
 
@@ -208,6 +210,23 @@ pub(crate) struct Ending<'a> {
     pub(crate) expected: &'a Expected,
 }
 
+/// When the slots of a line end.
+#[derive(Clone, Copy)]
+pub(crate) struct SlotsEnd<'a> {
+    pub(crate) extent: Extent,
+    /// What ends them before their extent does, if something may.
+    pub(crate) ending: Option<Ending<'a>>,
+}
+
+/// The log at the beginning of a line.
+#[derive(Clone, Copy)]
+struct LineStart {
+    /// The time in microseconds.
+    time: u64,
+    /// How many entries there were.
+    entries: usize,
+}
+
 /// Whether slots end early, of a line that began with so many entries. That takes nothing.
 fn is_ended(
     alloc: Global,
@@ -215,18 +234,21 @@ fn is_ended(
     entries: usize,
     ending: Option<Ending<'_>>,
     taken: &mut TakenEvents,
+    watch: &mut Watch,
 ) -> Result<bool, AllocError>
-    requires { IsSearchState ruled.now.core.log taken.old }
+    requires known { IsSearchState ruled.now.core.log taken.old }
+    requires watch { IsWatch ruled.now.core.cluster ruled.now.core.log watch.old }
     ensures ended { IfOk result (λ is. is ≡ line_ends ruled.now taken.old entries ending.entry
         (course_on ruled.now)) }
     ensures taken { OnOk result
         (taken_by ruled.now.core.log taken.new ≡ taken_by ruled.now.core.log taken.old) }
     ensures known { IsSearchState ruled.now.core.log taken.new }
+    ensures watch { IsWatch ruled.now.core.cluster ruled.now.core.log watch.new }
 {
     let Some(ending) = ending else {
         return Ok(false);
     };
-    let comes = comes(alloc, ruled, taken, ending.expected)?;
+    let comes = comes(alloc, ruled, taken, watch, ending.expected)?;
     if ending.is_while {
         Ok(ruled.core().log().len() > entries && !comes)
     } else {
@@ -234,28 +256,30 @@ fn is_ended(
     }
 }
 
-/// Whether one more slot is to be made, by the time and the entries at the line's beginning: the
-/// line's extent goes on, and nothing ends it early. That takes nothing.
+/// Whether one more slot is to be made: the line's extent goes on, and nothing ends it early. That
+/// takes nothing.
 fn is_going(
     alloc: Global,
     ruled: &RuledCore,
-    extent: Extent,
-    began: u64,
-    entries: usize,
-    ending: Option<Ending<'_>>,
+    ends: SlotsEnd<'_>,
+    start: LineStart,
     taken: &mut TakenEvents,
+    watch: &mut Watch,
 ) -> Result<bool, AllocError>
-    requires { IsSearchState ruled.now.core.log taken.old }
-    ensures going { IfOk result (λ is. is ≡ goes_on_until ruled.now.core.cluster extent
-        (line_ends ruled.now taken.old entries ending.entry) began (course_on ruled.now)) }
+    requires known { IsSearchState ruled.now.core.log taken.old }
+    requires watch { IsWatch ruled.now.core.cluster ruled.now.core.log watch.old }
+    ensures going { IfOk result (λ is. is ≡ goes_on_until ruled.now.core.cluster ends.entry.extent
+        (line_ends ruled.now taken.old start.entries ends.entry.ending) start.time
+        (course_on ruled.now)) }
     ensures taken { OnOk result
         (taken_by ruled.now.core.log taken.new ≡ taken_by ruled.now.core.log taken.old) }
     ensures known { IsSearchState ruled.now.core.log taken.new }
+    ensures watch { IsWatch ruled.now.core.cluster ruled.now.core.log watch.new }
 {
-    if !goes_on(ruled, extent, began) {
+    if !goes_on(ruled, ends.extent, start.time) {
         return Ok(false);
     }
-    Ok(!is_ended(alloc, ruled, entries, ending, taken)?)
+    Ok(!is_ended(alloc, ruled, start.entries, ends.ending, taken, watch)?)
 }
 
 /// Makes the slots of a line, and answers how many are left of those that may still be made; none
@@ -266,23 +290,25 @@ pub(crate) fn slots(
     alloc: Global,
     ruled: &mut RuledCore,
     how: &Disturbance,
-    extent: Extent,
-    ending: Option<Ending<'_>>,
+    ends: SlotsEnd<'_>,
     taken: &mut TakenEvents,
     left: u32,
 ) -> Result<Option<u32>, MakeFault>
     requires { IsSearchState ruled.old.core.log taken.old }
-    ensures made { MakesSlots ruled.old how.now extent
-        (line_ends ruled.old taken.old (length (past_of ruled.old.core)) ending.entry) left result ruled.new }
+    ensures made { MakesSlots ruled.old how.now ends.entry.extent
+        (line_ends ruled.old taken.old (length (past_of ruled.old.core)) ends.entry.ending) left result
+        ruled.new }
     ensures taken { OnOk result
         (taken_by ruled.new.core.log taken.new ≡ taken_by ruled.old.core.log taken.old) }
     ensures known { IsSearchState ruled.new.core.log taken.new }
 {
-    let began = ruled.core().time();
+    let time = ruled.core().time();
     let entries = ruled.core().log().len();
+    let start = LineStart { time, entries };
+    let mut watch = Watch::new();
     let mut left = left;
-    for _ in 0..most(extent) {
-        let goes = is_going(alloc, ruled, extent, began, entries, ending, taken)?;
+    for _ in 0..most(ends.extent) {
+        let goes = is_going(alloc, ruled, ends, start, taken, &mut watch)?;
         if !goes {
             return Ok(Some(left));
         }

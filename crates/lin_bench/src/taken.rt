@@ -76,46 +76,60 @@ pub(crate) struct Search {
     pub(crate) end: LogPlace,
 }
 
+/// Events that a search is for.
+#[derive(Clone, Copy)]
+pub(crate) enum EventsSought {
+    /// Losses, of a message of this host where there is one.
+    Losses(Option<u8>),
+    /// Messages of all hosts.
+    Messages,
+}
+
 /// How many numbers of hosts there are.
 const HOSTS: usize = 256;
 
-/// How many entries hold no loss that isn't taken: none of any host's messages, and none of each
-/// host's.
+/// How many entries hold no event that a search is for and that isn't taken: no loss of any host's
+/// messages, none of each host's, and no message.
 #[derive(Clone, Copy)]
 pub(crate) struct Cleared {
-    all: usize,
+    losses: usize,
     hosts: [usize; HOSTS],
+    messages: usize,
 }
 
 impl Cleared {
     /// So many entries hold none.
     pub(crate) fn of(entries: usize) -> Cleared
-        ensures all { result.all ≡ entries }
+        ensures losses { result.losses ≡ entries }
         ensures hosts { result.hosts ≡ replicate 256 entries }
+        ensures messages { result.messages ≡ entries }
     {
         Cleared {
-            all: entries,
+            losses: entries,
             hosts: [entries; HOSTS],
+            messages: entries,
         }
     }
 
-    /// How many entries hold none of a host's messages, or of any.
-    pub(crate) fn before(&self, which: Option<u8>) -> usize
-        ensures { result ≡ cleared_count self.now which }
+    /// How many entries hold no event that a search is for.
+    pub(crate) fn before(&self, sought: EventsSought) -> usize
+        ensures { result ≡ cleared_count self.now sought }
     {
-        match which {
-            Some(host) => self.hosts[host as usize],
-            None => self.all,
+        match sought {
+            EventsSought::Losses(Some(host)) => self.hosts[host as usize],
+            EventsSought::Losses(None) => self.losses,
+            EventsSought::Messages => self.messages,
         }
     }
 
-    /// Keeps how many entries hold none of a host's messages, or of any.
-    pub(crate) fn keep(&mut self, which: Option<u8>, entries: usize)
-        ensures { KeepsCleared which entries self.old self.new }
+    /// Keeps how many entries hold no event that a search is for.
+    pub(crate) fn keep(&mut self, sought: EventsSought, entries: usize)
+        ensures { KeepsCleared sought entries self.old self.new }
     {
-        match which {
-            Some(host) => self.hosts[host as usize] = entries,
-            None => self.all = entries,
+        match sought {
+            EventsSought::Losses(Some(host)) => self.hosts[host as usize] = entries,
+            EventsSought::Losses(None) => self.losses = entries,
+            EventsSought::Messages => self.messages = entries,
         }
     }
 }
@@ -127,7 +141,7 @@ pub(crate) struct TakenEvents {
     pub(crate) forgotten: usize,
     /// The searches since these, each behind them.
     pub(crate) searches: Vec<Search>,
-    /// How many entries hold no loss that isn't taken.
+    /// How many entries hold no event that a search is for and that isn't taken.
     pub(crate) cleared: Cleared,
 }
 

@@ -13,18 +13,19 @@ ghost use Rattle.lin_bench.specs.Verdicts.{refused_verdict, running_table, sent_
 ghost use Rattle.lin_bench.specs.Verdicts.{time_taken, tolerance, verdict, with_taken, within_verdict};
 ghost use Rattle.lin_bench.specs.declared.got.Got.TheVariants.{Asleep, Awake};
 ghost use Rattle.lin_bench.specs.declared.taken.EventKind.TheVariants.{Messages};
+ghost use Rattle.lin_bench.specs.Watches.{IsWatch};
 
 use crate::answers::fits;
 use crate::arrivals::{self, EarlierMessages};
 use crate::carried::open_after;
 use crate::conditions::{Finding, found};
-use crate::cycles::cycle;
+use crate::cycles::{FrameCycle, cycle};
 use crate::expected::{Expected, SaidTime, Since};
 use crate::got::Got;
-use crate::left_events::first_message;
-use crate::losses::first_loss;
+use crate::left_events::{first_loss, first_message};
 use crate::ruled::{RuledCore, pending};
 use crate::taken::{EventKind, Search, TakenEvents, event_from, last_end, place_before};
+use crate::watches::Watch;
 use lin_core::{Cause, Core, Event, Payload, Refusal, Reply};
 use lin_log::Pattern;
 use lin_text::Many;
@@ -367,10 +368,12 @@ fn take_first<'a>(core: &'a Core, taken: &mut TakenEvents) -> Result<Option<&'a 
 }
 
 /// The kind of event that an expectation takes, if it takes one.
-fn kind_taken(core: &Core, taken: &TakenEvents, expected: &Expected) -> Option<EventKind>
-    requires { IsSearchState core.now.log taken.now }
-    ensures { result
-        ≡ kind_taken (past_of core.now) (taken_by core.now.log taken.now) expected.now }
+fn kind_taken(core: &Core, taken: &mut TakenEvents, expected: &Expected) -> Option<EventKind>
+    requires { IsSearchState core.now.log taken.old }
+    ensures kind { result
+        ≡ kind_taken (past_of core.now) (taken_by core.now.log taken.old) expected.now }
+    ensures taken { taken_by core.now.log taken.new ≡ taken_by core.now.log taken.old }
+    ensures known { IsSearchState core.now.log taken.new }
 {
     match expected {
         Expected::Message { from, to, .. } | Expected::MessageWithin { from, to, .. } => {
@@ -389,18 +392,21 @@ pub(crate) fn comes(
     alloc: Global,
     ruled: &RuledCore,
     taken: &mut TakenEvents,
+    watch: &mut Watch,
     expected: &Expected,
 ) -> Result<bool, AllocError>
-    requires { IsSearchState ruled.now.core.log taken.old }
+    requires known { IsSearchState ruled.now.core.log taken.old }
+    requires watch { IsWatch ruled.now.core.cluster ruled.now.core.log watch.old }
     ensures comes { IfOk result (λ is. is ≡ comes ruled.now.core.cluster ruled.now.core.opening
         (taken_by ruled.now.core.log taken.old) expected.now (course_on ruled.now)) }
     ensures taken { OnOk result
         (taken_by ruled.now.core.log taken.new ≡ taken_by ruled.now.core.log taken.old) }
     ensures known { IsSearchState ruled.now.core.log taken.new }
+    ensures watch { IsWatch ruled.now.core.cluster ruled.now.core.log watch.new }
 {
     match kind_taken(ruled.core(), taken, expected) {
         Some(kind) => Ok(look_for(ruled.core(), taken, kind)?.is_some()),
-        None => Ok(verdict(alloc, ruled, taken, expected)?.is_none()),
+        None => Ok(verdict(alloc, ruled, taken, watch, expected)?.is_none()),
     }
 }
 
@@ -411,9 +417,11 @@ pub(crate) fn verdict(
     alloc: Global,
     ruled: &RuledCore,
     taken: &mut TakenEvents,
+    watch: &mut Watch,
     expected: &Expected,
 ) -> Result<Option<Got>, AllocError>
-    requires { IsSearchState ruled.now.core.log taken.old }
+    requires known { IsSearchState ruled.now.core.log taken.old }
+    requires watch { IsWatch ruled.now.core.cluster ruled.now.core.log watch.old }
     ensures verdict { IfOk result
         (λ v. v ≡ verdict ruled.now.core.cluster ruled.now.core.opening (past_of ruled.now.core)
         ruled.now.rules.noted (taken_by ruled.now.core.log taken.old) expected.now) }
@@ -421,11 +429,12 @@ pub(crate) fn verdict(
         ≡ taking (past_of ruled.now.core) (taken_by ruled.now.core.log taken.old)
         (kind_taken (past_of ruled.now.core) (taken_by ruled.now.core.log taken.old) expected.now)) }
     ensures known { IsSearchState ruled.now.core.log taken.new }
+    ensures watch { IsWatch ruled.now.core.cluster ruled.now.core.log watch.new }
 {
     let core = ruled.core();
     match expected {
-        Expected::Is(what) => Ok(judged(found(alloc, core, taken, what)?, true)),
-        Expected::Not(what) => Ok(judged(found(alloc, core, taken, what)?, false)),
+        Expected::Is(what) => Ok(judged(found(alloc, core, taken, watch, what)?, true)),
+        Expected::Not(what) => Ok(judged(found(alloc, core, taken, watch, what)?, false)),
         Expected::Message { from, to, pattern } => {
             let event = take_next(core, taken, messages(*from, *to))?;
             message(alloc, event, pattern)
@@ -462,7 +471,14 @@ pub(crate) fn verdict(
             frame,
             time,
             within,
-        } => cycle(alloc, core, taken, *frame, time.us, tolerance(within)),
+        } => {
+            let wanted = FrameCycle {
+                frame: *frame,
+                time_us: time.us,
+                within_us: tolerance(within),
+            };
+            cycle(alloc, core, taken, &mut watch.cycle, wanted)
+        }
         Expected::Table(number) => Ok(table(running_table(alloc, core)?, *number)),
         Expected::Done => Ok(done(newest_reply(core))),
         Expected::Refused(why) => Ok(refused(newest_reply(core), *why)),

@@ -1,10 +1,19 @@
-use Rattle.std.proofs.Common.{◌≡◌, ◌+◌, ap, arith, take}
+use Rattle.std.proofs.Common.{◌∙◌, ap, arith, sym}
 use Rattle.std.specs.Prelude.{count_by, flat_map}
 use Rattle.std.proofs.lemmas.List.{take_all}
 use Rattle.lin_core.specs.History.{events}
 use Rattle.lin_bench.specs.Verdicts.{is_of_kind}
 use Rattle.lin_bench.proofs.Events.{with-entry}
 use Rattle.lin_bench.proofs.left_events.count_from.Goals as goal
+
+pub loop-index-init : goal.loop-index-init
+loop-index-init c =
+    let kept = c.count_kept-so_far.ensures.count c.args.log.now.entries c.requires.within c.requires.kept in
+    record {
+      within = kept.within;
+      count = rw (c.count_kept-so_far.ensures.kind, c.count_kept-so_far.ensures.first) at kept.count;
+      few = kept.few;
+    }
 
 pub loop-index-preserved : goal.loop-index-preserved
 loop-index-preserved c =
@@ -22,4 +31,13 @@ returns c =
     let es = c.args.log.now.entries in
     let i = c.loop-index.index in
     let all = ap (λ l. count_by (is_of_kind c.args.kind) (flat_map events l)) (take_all i es (omega arith)) in
-    omega (arith, c.loop-index.invariant.count, all)
+    let last = ap (λ l. count_by (is_of_kind c.args.kind) (flat_map events l)) (take_all c.len.result es (omega arith)) in
+    record {
+      count = omega (arith, c.loop-index.invariant.count, all);
+      kept = record {
+        order = omega arith;
+        within = omega arith;
+        count = c.loop-index.invariant.count ∙ all ∙ sym last;
+        few = omega (arith, c.loop-index.invariant.few);
+      };
+    }

@@ -2,8 +2,7 @@ use Rattle.std.proofs.Common.{◌≡◌, ◌∙◌, ◌+◌, ◌++◌, ◌∷◌
 use Rattle.std.specs.Prelude.{flat_map}
 use Rattle.std.proofs.lemmas.List.{take_more}
 use Rattle.lin_core.specs.History.{events}
-use Rattle.lin_bench.specs.LeftEvents.{is_sought}
-use Rattle.lin_bench.specs.Searches.{taken_by}
+use Rattle.lin_bench.specs.Searches.{is_sought, taken_by}
 use Rattle.lin_bench.specs.Verdicts.{first_so}
 use Rattle.lin_bench.proofs.FirstEvents.{first-at, none-with, same-item, split-at}
 use Rattle.lin_bench.proofs.left_events.first_in.Goals as goal

@@ -2,8 +2,8 @@ use Rattle.std.proofs.Common.{List, None, ◌≡◌, take}
 use Rattle.std.specs.Prelude.{flat_map}
 use Rattle.lin_core.specs.History.{events}
 use Rattle.lin_core.specs.declared.log.LogEntry.{LogEntry}
-use Rattle.lin_bench.specs.LeftEvents.{AreOf, is_sought}
-use Rattle.lin_bench.specs.Searches.{IsSearchState, taken_by}
+use Rattle.lin_bench.specs.LeftEvents.{AreOf}
+use Rattle.lin_bench.specs.Searches.{IsSearchState, is_sought, taken_by}
 use Rattle.lin_bench.specs.Verdicts.{first_so}
 use Rattle.lin_bench.proofs.left_events.first_in.Given as goal
 

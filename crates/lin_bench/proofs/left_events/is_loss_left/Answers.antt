@@ -1,8 +1,8 @@
-use Rattle.std.proofs.Common.{◌≡◌, ◌∙◌, ◌++◌, sym, take}
+use Rattle.std.proofs.Common.{◌∙◌, ◌++◌, sym, take}
 use Rattle.std.specs.Prelude.{flat_map}
 use Rattle.lin_core.specs.History.{events}
 use Rattle.lin_bench.specs.Searches.{taken_by}
-use Rattle.lin_bench.proofs.LossSearches.{lost-left, same-host}
+use Rattle.lin_bench.proofs.SoughtEvents.{lost-left, same-host}
 use Rattle.lin_bench.proofs.left_events.is_loss_left.Goals as goal
 
 pub returns-then-is_host : goal.returns-then-is_host

@@ -6,4 +6,4 @@ use Rattle.lin_bench.proofs.taken.TakenEvents.none.Goals as goal
 pub returns : goal.returns
 returns c es =
     let t : TakenEvents = record { forgotten = 0; searches = c.new.result; cleared = c.of.result } in
-    known-first es t c.new.ensures.items (first-cleared t c.of.ensures.all c.of.ensures.hosts) refl
+    known-first es t c.new.ensures.items (first-cleared t c.of.ensures.losses c.of.ensures.hosts c.of.ensures.messages) refl
