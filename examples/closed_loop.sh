@@ -1,5 +1,5 @@
 coproc bus { ./linsim live examples/door_zone.ldf; }
-ask() {     # writes a line, and prints what the last line of its answer says
+ask() {     # writes a line, and prints the last line of its answer
   echo "$*" >&"${bus[1]}"
   while read -t 60 -r answer <&"${bus[0]}"; do
     case $answer in "# "*) echo "${answer#"# "}"; return ;; esac
