@@ -98,7 +98,7 @@ class Backend(unittest.TestCase):
     def test_wheel_with_the_program_in_an_empty_environment(self):
         """Installed without a network; it runs with nothing on the path."""
         path, room = self.built(self.elf()), os.path.join(self.room, "environment")
-        quiet = {"stdout": subprocess.PIPE, "stderr": subprocess.STDOUT, "timeout": 120}
+        quiet = {"stdout": subprocess.PIPE, "stderr": subprocess.STDOUT, "timeout": 600}
         made = subprocess.run([sys.executable, "-m", "venv", room], check=False, **quiet)
         if made.returncode:
             self.skipTest("there is no venv, or no pip")
