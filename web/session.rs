@@ -41,7 +41,11 @@ fn bench_of<R: AllocGlobal + Files>(
         is_configured: settings.is_configured,
     };
     let (file, reading) = (settings.file, settings.reading);
-    let Described { cluster, coded } = cluster_of_file(rt, file, reading, extras, notes)?;
+    let Described {
+        cluster,
+        coded,
+        limits,
+    } = cluster_of_file(rt, file, reading, extras, notes)?;
     let table = opening_table(&cluster, settings.table)?;
     let format = match settings.format {
         Format::Named => AnswerFormat::Named,
@@ -51,6 +55,7 @@ fn bench_of<R: AllocGlobal + Files>(
         cluster,
         table,
         coded,
+        limits,
         settings: *settings,
     };
     bench_in_hand(rt.alloc(), opened, format)

@@ -4,13 +4,15 @@ const LDF_WORDS = new Set(`LIN_description_file LIN_protocol_version LIN_languag
 	Node_attributes LIN_protocol configured_NAD initial_NAD product_id response_error P2_min ST_min N_As_timeout N_Cr_timeout
 	configurable_frames Schedule_tables delay Signal_encoding_types Signal_representation logical_value physical_value
 	bcd_value ascii_value kbps ms`.split(/\s+/));
-const STEP_WORDS = `slots slot write expect send switch sleep wake when every timeouts response_errors services state forget
+const STEP_WORDS = `slots slot write expect send switch sleep wake when every on timeouts response_errors services state node forget
 	open finish answer leave hurt close timeout`.split(/\s+/);
 const FORM_WORDS = 'signal message messages next frame seen sent lost no waiting slot table cycle asleep awake not changed done refused'.split(' ');
+const ON_WORDS = 'signal changed frame seen slot not'.split(' ');
 const NOT_WORDS = 'signal waiting messages seen frame slot changed'.split(' ');
+const CALLED_WORDS = 'send write switch sleep'.split(' ');
 const SEEN_WORDS = 'good none silent damaged collided'.split(' '), CAUSE_WORDS = 'damaged timedout slept'.split(' ');
 const BENCH_WORDS = new Set([...STEP_WORDS, ...FORM_WORDS, ...SEEN_WORDS, ...CAUSE_WORDS,
-	...'until while idle ms within of last silent then after in enter on off up down bus'.split(' ')]);
+	...'until while idle ms within of last silent then after in enter do ldf off up down bus'.split(' ')]);
 
 // The colored parts of a line of an LDF, as [from, to, class]; `isOpen` if a comment is open at its start.
 function ldfParts(line, isOpen) {
@@ -83,6 +85,7 @@ function suggested(before, cluster) {
 		const texts = signal ? signal.values.map(it => it[1]) : [];
 		return {words: texts.filter(it => it && !/^\d+$/.test(it)), prefix: value[2]};
 	}
+	if (words[0] === 'on') return {words: onWords(words.slice(1), names), prefix};
 	const forms = Math.max(words.lastIndexOf('expect'), words.lastIndexOf('until'), words.lastIndexOf('while'));
 	if (!words.length) return {words: STEP_WORDS, prefix};
 	return {words: forms >= 0 ? formWords(words.slice(forms + 1), names) : stepWords(words, names), prefix};
@@ -101,6 +104,12 @@ function formWords(words, names) {
 	if (form === 'lost' && count > 1) return CAUSE_WORDS;
 	return names('nodes');
 }
+// After `on` and these words.
+function onWords(words, names) {
+	const step = words.indexOf('do');
+	if (step >= 0) return step + 1 < words.length ? stepWords(words.slice(step + 1), names) : CALLED_WORDS;
+	return words.length ? [...formWords(words, names), 'do', 'off'] : [...ON_WORDS, 'off'];
+}
 // After these words of a step or a rule.
 function stepWords(words, names) {
 	const [first, second] = words, count = words.length, last = words[count - 1], before = words[count - 2];
@@ -115,7 +124,8 @@ function stepWords(words, names) {
 		if (last === 'ms' || last === 'off') return ['send', 'write'];
 		if (last === 'write') return signals;
 		return last === 'send' || before === 'send' ? names('nodes') : ['ms', 'off'];
-	case 'timeouts': return ['ms', 'off'];
+	case 'timeouts': return count === 1 ? ['ldf', 'off', 'ms', ...names('nodes').slice(1)] : ['ms', 'off'];
+	case 'node': return count === 1 ? names('nodes').slice(1) : ['off', 'on'];
 	case 'state': return count === 1 ? names('nodes').slice(1) : ['default'];
 	case 'response_errors': case 'services': return ['on', 'off'];
 	case 'send': case 'answer': case 'leave': case 'close': case 'timeout': return count < 3 ? names('nodes') : [];

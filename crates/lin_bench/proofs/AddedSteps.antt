@@ -11,9 +11,10 @@ use Rattle.lin_core.specs.declared.port.PortId.{PortId}
 use Rattle.lin_core.specs.declared.step.Step.{Step}
 use Rattle.lin_core.specs.declared.step.Step.TheVariants.{Finish}
 use Rattle.lin_bench.specs.Added.{added_after, rules_after}
-use Rattle.lin_bench.specs.Adding.{AddedFail, AddsAfterFinish, AreAdded, HasFinished, IsStepFault, MakesAdded}
+use Rattle.lin_bench.specs.Adding.{AddedFail, AddsAfterFinish, AreAdded, CourseFails, MakesCalled, after_finish, called_on, HasFinished, IsStepFault, MakesAdded}
 use Rattle.lin_bench.specs.Making.{IsGrown, IsMadeSo, MakesUnchanged, RuledData, UnchangedFail, course_on}
-use Rattle.lin_bench.specs.Slots.{Course, after_made, past_after}
+use Rattle.lin_bench.specs.Ons.{reactions}
+use Rattle.lin_bench.specs.Slots.{Course, after_made, past_after, with_called}
 use Rattle.lin_bench.specs.declared.rules.Rules.{Rules}
 use Rattle.lin_bench.specs.declared.fault.MakeFault.{MakeFault}
 use Rattle.lin_bench.specs.declared.fault.MakeFault.TheVariants.{LogFull, OutOfMemory}
@@ -84,10 +85,10 @@ course-is d past rules e f = rw (e, f) refl
 
 finish-course : (a : RuledData) (by : PortId) (c : Parts) (o cap : ℕ) (past finished : List LogEntry) (rules : Rules) → past_of a.core ≡ past
     → finished ≡ entry_of c o cap past (by, Finish) ∷ past → rules ≡ a.rules → is_some (finished_slot (entry_of c o cap past (by, Finish)) past) ≡ true
-    → record {
+    → with_called c o cap (record {
       past = past_after c o cap finished (added_after c (entry_of c o cap past (by, Finish)) past rules);
       rules = rules_after c (entry_of c o cap past (by, Finish)) past rules;
-    }
+    })
     ≡ after_made c o cap (course_on a) ((by, Finish) ∷ [])
 finish-course a by c o cap past finished rules p e same fin = rw (p, e, same, fin) refl
 
@@ -104,10 +105,10 @@ finish-added a b d by s (Ok x) p same fin q =
     let is = ap is_some (finished-slot b.core.cluster b.core.opening b.core.capacity (past_of a.core) by s fin.slot fin.may) in
     record {
       course =
-          course-is d _ _ q.0.past q.1
+          q.0
           ∙ finish-course a by b.core.cluster b.core.opening b.core.capacity (past_of a.core) (past_of b.core) b.rules refl fin.newest same is
           ∙ alike-course a.core b.core (course_on a) ((by, Finish) ∷ []) p.alike;
-      alike = (q.0.alike.0 ∙ p.alike.0, q.0.alike.1 ∙ p.alike.1, q.0.alike.2 ∙ p.alike.2);
+      alike = (q.1.0 ∙ p.alike.0, q.1.1 ∙ p.alike.1, q.1.2 ∙ p.alike.2);
     }
 finish-added a b d by s (Err LogFull) p same fin q =
     let is = ap is_some (finished-slot b.core.cluster b.core.opening b.core.capacity (past_of a.core) by s fin.slot fin.may) in
@@ -117,6 +118,35 @@ finish-added a b d by s (Err LogFull) p same fin q =
     let l = ap (λ (k : Course). length k.past) course in
     (omega (arith, l, q.0), grown-more a.core b.core d.core (grown-added a.core b.core ((by, Finish) ∷ []) p) q.1)
 finish-added a b d by s (Err OutOfMemory) p same fin q = (tt, grown-more a.core b.core d.core (grown-added a.core b.core ((by, Finish) ∷ []) p) q.1)
+
+-- ---- what is called for after the steps that a finish adds
+called-alike : (a b : CoreData) (at : Course) → IsAlike a b → with_called b.cluster b.opening b.capacity at ≡ with_called a.cluster a.opening a.capacity at
+called-alike a b at alike =
+    ap (λ c. with_called c b.opening b.capacity at) alike.0 ∙ ap (λ o. with_called a.cluster o b.capacity at) alike.1
+    ∙ ap (λ k. with_called a.cluster a.opening k at) alike.2
+
+called-course : (a b : RuledData) (e : LogEntry) (past : List LogEntry) → AreAdded a.core (added_after a.core.cluster e past a.rules) b.core
+    → b.rules ≡ rules_after a.core.cluster e past a.rules → called_on b ≡ after_finish a e past
+called-course a b e past p same =
+    called-alike a.core b.core (course_on b) p.alike ∙ ap (with_called a.core.cluster a.core.opening a.core.capacity) (course-is b _ _ p.past same)
+
+pub called-after : {X : Type 0} (a b d : RuledData) (e : LogEntry) (past : List LogEntry) (r : Result X MakeFault)
+    → AreAdded a.core (added_after a.core.cluster e past a.rules) b.core × (b.rules ≡ rules_after a.core.cluster e past a.rules) → MakesCalled b r d
+    → AddsAfterFinish a e past r d
+called-after a b d e past (Ok x) (p, same) (course, alike) =
+    (course ∙ called-course a b e past p same, (alike.0 ∙ p.alike.0, alike.1 ∙ p.alike.1, alike.2 ∙ p.alike.2))
+called-after a b d e past (Err LogFull) (p, same) (full, grown) =
+    let l = ap (λ (k : Course). length k.past) (called-course a b e past p same) in
+    (omega (arith, l, full), grown-more a.core b.core d.core (grown-added a.core b.core _ p) grown)
+called-after a b d e past (Err OutOfMemory) (p, same) (none, grown) = (tt, grown-more a.core b.core d.core (grown-added a.core b.core _ p) grown)
+
+pub first-fails : (fault : MakeFault) (a : RuledData) (e : LogEntry) (past : List LogEntry) → AddedFail fault a.core (added_after a.core.cluster e past a.rules)
+    → CourseFails fault (after_finish a e past)
+first-fails LogFull a e past full =
+    let first = past_after a.core.cluster a.core.opening a.core.capacity (past_of a.core) (added_after a.core.cluster e past a.rules) in
+    let more = past-longer a.core.cluster a.core.opening a.core.capacity first (reactions a.core.cluster first (rules_after a.core.cluster e past a.rules)) in
+    omega (arith, more, full)
+first-fails OutOfMemory a e past none = tt
 
 pub has-finished : (a b : CoreData) (by : PortId) (s : Slot) → AreAdded a ((by, Finish) ∷ []) b → open_slot (past_of a) ≡ Some s → may by Finish ≡ true
     → HasFinished b by (past_of a) s

@@ -7,7 +7,7 @@ use Rattle.std.proofs.lemmas.Grind.{common_steps}
 use Rattle.std.proofs.lemmas.List.Elements.{All-head, All-tail, All-weaker}
 use Rattle.lin_parts.specs.Cluster.{nodes}
 use Rattle.lin_parts.specs.declared.parts.Parts.{Parts}
-use Rattle.lin_core.specs.History.{Slot, events, finished_slot, is_finish, open_slot, slot_after, time}
+use Rattle.lin_core.specs.History.{Slot, events, finished_slot, is_finish, is_in, open_slot, slot_after, time}
 use Rattle.lin_core.specs.Replies.{refusal}
 use Rattle.lin_core.specs.Runs.{entry_of}
 use Rattle.lin_core.specs.declared.event.Event.{Event}
@@ -22,8 +22,9 @@ use Rattle.lin_bench.specs.Added.{added_steps, rules_after_arrivals, rules_after
 use Rattle.lin_bench.specs.FaultLaws.{IsAlikeBefore, IsBefore, with_faults}
 use Rattle.lin_bench.specs.Faults.{disturbed_steps, is_for, is_struck, slots_finished, struck, target}
 use Rattle.lin_bench.specs.Made.{BenchState, expected_begun, bench_after_steps, bench_with_verdict, comes, course_of, expected_after, fails, made, made_within, never_ends, rule_verdict, steps_said}
+use Rattle.lin_bench.specs.Ons.{begun_rule, reactions}
 use Rattle.lin_bench.specs.Rules.{after_event, after_events, rules_after_reaction, rule_for, ruled, serving, state_of}
-use Rattle.lin_bench.specs.Slots.{Course, course_after, after_made, due_now, extent_steps, goes_on, is_opened, most, goes_on_until, past_after, slot_steps, ended_slot_count, slots_steps, with_entry, with_struck}
+use Rattle.lin_bench.specs.Slots.{Course, course_after, after_made, due_now, extent_steps, goes_on, called_if, first_added, is_opened, most, goes_on_until, past_after, slot_steps, ended_slot_count, slots_steps, way, with_entry, with_struck}
 use Rattle.lin_bench.specs.declared.expected.Expected.{Expected}
 use Rattle.lin_bench.specs.declared.faults.FaultKind.{FaultKind}
 use Rattle.lin_bench.specs.declared.faults.ArmedFault.{ArmedFault}
@@ -132,8 +133,15 @@ before-past c o cap past [] fs h = h
 before-past c o cap past (s ∷ ss) fs h =
     let e : LogEntry = entry_of c o cap past s in before-entry e past fs (before-past c o cap (e ∷ past) ss fs h)
 
+before-called : (c : Parts) (o cap : ℕ) (b : Bool) (at : Course) (fs : List ArmedFault) → All (IsBefore (called_if c o cap b at).past) fs → All (IsBefore at.past) fs
+before-called c o cap true at fs h = before-past c o cap at.past (reactions c at.past at.rules) fs h
+before-called c o cap false at fs h = h
+
 before-with : (c : Parts) (o cap : ℕ) (at : Course) (e : LogEntry) (fs : List ArmedFault) → All (IsBefore (with_entry c o cap at e).past) fs → All (IsBefore at.past) fs
-before-with c o cap at e fs h = before-entry e at.past fs (before-past c o cap (e ∷ at.past) (added_steps c e at.past at.rules) fs h)
+before-with c o cap at e fs h =
+    before-entry e at.past fs
+    (before-past c o cap (e ∷ at.past) (added_steps c e at.past at.rules) fs
+    (before-called c o cap (is_some (finished_slot e at.past)) (first_added c o cap at e) fs h))
 
 before-made : (c : Parts) (o cap : ℕ) (at : Course) (ss : List (PortId × Step)) (fs : List ArmedFault) → All (IsBefore (after_made c o cap at ss).past) fs → All (IsBefore at.past) fs
 before-made c o cap at [] fs h = h
@@ -165,7 +173,7 @@ event-under served to t rules fs (event.Put node answer) = refl
 event-under served to t rules fs (event.Seen how) = refl
 event-under served to t rules fs (event.Message from node bytes) =
     let w : Option When = rule_for rules.whens node (state_of rules.states node) bytes in
-    either-under (from == 0) _ (rules_after_reaction served to t rules node bytes w) rules fs (reacted-under served to t rules fs node bytes w)
+    either-under (from == 0 && not (is_in rules.offs node)) _ (rules_after_reaction served to t rules node bytes w) rules fs (reacted-under served to t rules fs node bytes w)
 event-under served to t rules fs (event.Sent host number) = refl
 event-under served to t rules fs (event.Lost host number cause) = refl
 event-under served to t rules fs event.Asleep = refl
@@ -189,11 +197,24 @@ rules-under : (c : Parts) (e : LogEntry) (past : List LogEntry) (rules : Rules) 
 rules-under c e past rules fs true h = rw (h, arrived-under c e past rules fs) refl
 rules-under c e past rules fs false h = rw h refl
 
-entry-under : (c : Parts) (o cap : ℕ) (at : Course) (e : LogEntry) (fs : List ArmedFault) → with_entry c o cap (under fs at) e ≡ under fs (with_entry c o cap at e)
-entry-under c o cap at e fs =
+first-under : (c : Parts) (o cap : ℕ) (at : Course) (e : LogEntry) (fs : List ArmedFault) → first_added c o cap (under fs at) e ≡ under fs (first_added c o cap at e)
+first-under c o cap at e fs =
     let past : List LogEntry = past_after c o cap (e ∷ at.past) (added_steps c e at.past at.rules) in
     ap (λ (ss : List (PortId × Step)). record { past = past_after c o cap (e ∷ at.past) ss; rules = rules_after c e at.past (record at.rules { faults = fs }) }) (added-same c e at.past at.rules fs)
     ∙ ap (λ (r : Rules). record { past = past; rules = r }) (rules-under c e at.past at.rules fs (is_some (finished_slot e at.past)) refl)
+
+called-under : (c : Parts) (o cap : ℕ) (b : Bool) (at : Course) (fs : List ArmedFault) → called_if c o cap b (under fs at) ≡ under fs (called_if c o cap b at)
+called-under c o cap true at fs = refl
+called-under c o cap false at fs = refl
+
+entry-under : (c : Parts) (o cap : ℕ) (at : Course) (e : LogEntry) (fs : List ArmedFault) → with_entry c o cap (under fs at) e ≡ under fs (with_entry c o cap at e)
+entry-under c o cap at e fs =
+    ap (called_if c o cap (is_some (finished_slot e at.past))) (first-under c o cap at e fs)
+    ∙ called-under c o cap (is_some (finished_slot e at.past)) (first_added c o cap at e) fs
+
+free-called : (c : Parts) (o cap : ℕ) (b : Bool) (at : Course) → at.rules.faults ≡ [] → (called_if c o cap b at).rules.faults ≡ []
+free-called c o cap true at h = h
+free-called c o cap false at h = h
 
 free-rules : (c : Parts) (e : LogEntry) (past : List LogEntry) (rules : Rules) (b : Bool) → is_some (finished_slot e past) ≡ b → rules.faults ≡ []
     → (rules_after c e past rules).faults ≡ []
@@ -212,6 +233,12 @@ ruled-under t rules fs (rule.Errors on) = refl
 ruled-under t rules fs (rule.Services on) = refl
 ruled-under t rules fs (rule.End e) = refl
 ruled-under t rules fs (rule.State node name) = refl
+ruled-under t rules fs (rule.TimeoutsOf node limit) = refl
+ruled-under t rules fs (rule.TimeoutsLdf limits) = refl
+ruled-under t rules fs (rule.On w) = refl
+ruled-under t rules fs rule.OnOff = refl
+ruled-under t rules fs (rule.Power node true) = refl
+ruled-under t rules fs (rule.Power node false) = refl
 
 verdict-under : (rules : Rules) (fs : List ArmedFault) (r : Rule) → rule_verdict (record rules { faults = fs }) r ≡ rule_verdict (record rules { faults = [] }) r
 verdict-under rules fs (rule.End e) = refl
@@ -241,7 +268,8 @@ alike-after c o cap at fs (s ∷ ss) free h =
     let now : All (IsBefore at.past) fs = before-with c o cap at e fs (before-after c o cap then ss fs there) in
     let no = quiet c cap fs at.past s (target c cap at.past s) now refl in
     let one : after_one c o cap (under fs at) s ≡ under fs then = quiet-one c o cap (under fs at) s no.0 no.1 ∙ entry-under c o cap at e fs in
-    let more = alike-after c o cap then fs ss (free-rules c e at.past at.rules (is_some (finished_slot e at.past)) refl free) there in (
+    let finishes = is_some (finished_slot e at.past) in
+    let more = alike-after c o cap then fs ss (free-called c o cap finishes (first_added c o cap at e) (free-rules c e at.past at.rules finishes refl free)) there in (
       ap (λ (k : Course). course_after c o cap k ss) one ∙ more.0 ∙ ap (λ (k : Course). under fs (course_after c o cap k ss)) (sym calm),
       ap (λ (k : Course). (course_after c o cap k ss).rules.faults) calm ∙ more.1,
     )
@@ -271,7 +299,7 @@ unfolding slots_steps
 slots-turn c o cap how goes n at fs false opened h i same free more before = rw (same at ∙ h, h) refl
 slots-turn c o cap how goes n at fs true false h i same free more before = rw (same at ∙ h, h, i) refl
 slots-turn c o cap how goes n at fs true true h i same free more before =
-    let one : List (PortId × Step) = slot_steps c o cap how at.past in
+    let one : List (PortId × Step) = slot_steps c o cap (way how at.rules.offs) at.past in
     let then : Course = course_after c o cap at one in
     let rest : List (PortId × Step) = slots_steps c o cap how goes n then in
     let all : All (IsBefore (course_after c o cap at (one ++ rest)).past) fs = rw (h, i) at before in
@@ -310,13 +338,13 @@ unfolding slots_steps
 more-turn c o cap how goes m n at fs false opened h i same free more before = rw (same at ∙ h, h) refl
 more-turn c o cap how goes m n at fs true false h i same free more before = rw (same at ∙ h, h, i) refl
 more-turn c o cap how goes m n at fs true true h i same free more before =
-    let one : List (PortId × Step) = slot_steps c o cap how at.past in
+    let one : List (PortId × Step) = slot_steps c o cap (way how at.rules.offs) at.past in
     let then : Course = course_after c o cap at one in
     let rest : List (PortId × Step) = slots_steps c o cap how goes m then in
     let all : All (IsBefore (course_after c o cap at (one ++ rest)).past) fs = rw (h, i) at before in
     let there : All (IsBefore (course_after c o cap then rest).past) fs = subst (λ (k : Course). All (IsBefore k.past) fs) (after-append c o cap at one rest) all in
     let now = alike-after c o cap at fs one free (before-after c o cap then rest fs there) in
-    let ends = one-slot c o cap how at.past i in
+    let ends = one-slot c o cap (way how at.rules.offs) at.past i in
     let under_fs : List (PortId × Step) = slots_steps c o cap how goes n (course_after c o cap (under fs at) one) in
     let calm : List (PortId × Step) = slots_steps c o cap how goes n then in
     rw (same at ∙ h, h, i)
@@ -331,8 +359,8 @@ unfolding slots_steps
 first-turn c o cap how goes n at fs false opened h i same = rw (same at ∙ h, h) refl
 first-turn c o cap how goes n at fs true false h i same = rw (same at ∙ h, h, i) refl
 first-turn c o cap how goes n at fs true true h i same =
-    let one : List (PortId × Step) = slot_steps c o cap how at.past in
-    let ends = one-slot c o cap how at.past i in
+    let one : List (PortId × Step) = slot_steps c o cap (way how at.rules.offs) at.past in
+    let ends = one-slot c o cap (way how at.rules.offs) at.past i in
     let under_fs : List (PortId × Step) = slots_steps c o cap how goes n (course_after c o cap (under fs at) one) in
     let calm : List (PortId × Step) = slots_steps c o cap how goes n (course_after c o cap at one) in
     rw (same at ∙ h, h, i)
@@ -415,8 +443,8 @@ pub alike-before : IsAlikeBefore
 unfolding made steps_said
 alike-before c o cap b line.Forget fs h = refl
 alike-before c o cap b (line.Rule r) fs h =
-    ap (λ (rules : Rules). (record b { rules = rules }, rule_verdict (record b.rules { faults = fs }) r)) (ruled-under (time c b.past) b.rules fs r)
-    ∙ ap (λ (v : Verdict). (record b { rules = record (ruled (time c b.past) (record b.rules { faults = [] }) r) { faults = fs } }, v)) (verdict-under b.rules fs r)
+    ap (λ (rules : Rules). (record b { rules = rules }, rule_verdict (record b.rules { faults = fs }) r)) (ruled-under (time c b.past) b.rules fs (begun_rule c b.past r))
+    ∙ ap (λ (v : Verdict). (record b { rules = record (ruled (time c b.past) (record b.rules { faults = [] }) (begun_rule c b.past r)) { faults = fs } }, v)) (verdict-under b.rules fs r)
 alike-before c o cap b (line.Step by step) fs h = step-line c o cap b fs ((by, step) ∷ []) None h
 alike-before c o cap b (line.Expect what) fs h = step-line c o cap b fs [] (Some what) h
 alike-before c o cap b (line.Slot how) fs h =

@@ -9,6 +9,7 @@ use Rattle.lin_bench.specs.Scripts.{Script, bad_from, bad_lines, read, read_line
 use Rattle.lin_bench.specs.Read.{AreBadOf}
 use Rattle.lin_bench.specs.declared.line.ScriptLine.{ScriptLine}
 use Rattle.lin_bench.specs.declared.reason.Reason.{Reason}
+use Rattle.lin_bench.specs.declared.rules.NodeLimits.{NodeLimits}
 
 -- one line more
 with-line : (l : ℕ × ScriptLine) (r : Script) (bad : List (ℕ × Reason)) → AreBadOf r bad → AreBadOf (with_line l r) bad
@@ -20,11 +21,11 @@ first-with n (Err why) r bad h = (bad, refl)
 first-with n (Ok None) r bad h = h
 first-with n (Ok (Some l)) r bad h = with-line (n, l) r bad h
 
-first-from : (c : Parts) (k : Option CodedData) (n : ℕ) (ls : List (List ℕ)) → AreBadOf (read_lines c k n ls) (bad_from c k n ls)
-first-from c k n [] = refl
-first-from c k n (l ∷ ls) = first-with n (read_worded_line c k (strip_carriage_return l)) (read_lines c k (n + 1) ls) (bad_from c k (n + 1) ls) (first-from c k (n + 1) ls)
+first-from : (c : Parts) (k : Option CodedData) (limits : List NodeLimits) (n : ℕ) (ls : List (List ℕ)) → AreBadOf (read_lines c k limits n ls) (bad_from c k limits n ls)
+first-from c k limits n [] = refl
+first-from c k limits n (l ∷ ls) = first-with n (read_worded_line c k limits (strip_carriage_return l)) (read_lines c k limits (n + 1) ls) (bad_from c k limits (n + 1) ls) (first-from c k limits (n + 1) ls)
 
 -- the first bad line is why a script isn't read
-pub first-bad : (c : Parts) (k : Option CodedData) (text : List ℕ) → AreBadOf (read c k text) (bad_lines c k text)
+pub first-bad : (c : Parts) (k : Option CodedData) (limits : List NodeLimits) (text : List ℕ) → AreBadOf (read c k limits text) (bad_lines c k limits text)
 unfolding read bad_lines
-first-bad c k text = first-from c k 1 (slice_split (λ b. b == 10) (without_mark text))
+first-bad c k limits text = first-from c k limits 1 (slice_split (λ b. b == 10) (without_mark text))

@@ -8,6 +8,7 @@ use Rattle.lin_core.specs.declared.step.Step.{Step}
 use Rattle.lin_bench.specs.Bench.{BenchData, MakeFails, GivesVerdict, MakesBench, MakesLine, made_early, made_on, made_slots, ruled_of, state_of}
 use Rattle.lin_bench.specs.Made.{BenchState, expected_begun, bench_with_verdict, ended_verdict, made, steps_said, bench_after_steps, rule_verdict}
 use Rattle.lin_bench.specs.Making.{IsGrown, AreExecuted, MakesSteps, RuledData, SlotsFail, StepsFail, extent_on}
+use Rattle.lin_bench.specs.Ons.{begun_rule}
 use Rattle.lin_bench.specs.Rules.{has_rule, ruled, without_rule}
 use Rattle.lin_bench.specs.Slots.{Course, ended_slot_count}
 use Rattle.lin_bench.specs.declared.bench.Early.TheVariants.{Until, While}
@@ -94,7 +95,8 @@ step-fails LogFull b by step full = let none : nat_lt b.left 0 ≡ false = le-lt
 step-fails OutOfMemory b by step none = tt
 
 -- a rule was put in force
-pub rule-made : (b new : BenchData) (r : Rule) → new.core ≡ b.core → new.rules ≡ ruled (time b.core.cluster (past_of b.core)) b.rules r
+pub rule-made : (b new : BenchData) (r : Rule) → new.core ≡ b.core
+    → new.rules ≡ ruled (time b.core.cluster (past_of b.core)) b.rules (begun_rule b.core.cluster (past_of b.core) r)
     → new.taken ≡ b.taken → new.left ≡ b.left → MakesLine b (line.Rule r) (Ok (rule_verdict b.rules r)) new
 unfolding made
 rule-made b new r core rules taken left = rw (core, rules, taken, left) (refl, (refl, refl, refl))

@@ -20,7 +20,7 @@ use Rattle.lin_bench.specs.Made.{BenchState, course_of, expects_from, bench_with
 use Rattle.lin_bench.specs.Faults.{disturbed_steps, struck}
 use Rattle.lin_bench.specs.Played.{first_under, in_turn, next, line_result}
 use Rattle.lin_bench.specs.Plays.{EndsWithFullLog, OverfillsUnder, PlayFails, PlaysUnder, has_rule, is_rule}
-use Rattle.lin_bench.specs.Slots.{Course, course_after, decision, due_in, due_node, due_now, extent_steps, hurt_steps, is_opened, most, past_after, slot_limit, slot_rest, slot_steps, ended_slot_count, slots_steps}
+use Rattle.lin_bench.specs.Slots.{Course, course_after, decision, due_in, due_node, due_now, extent_steps, hurt_steps, is_opened, most, past_after, slot_limit, slot_rest, slot_steps, ended_slot_count, slots_steps, way, Way}
 use Rattle.lin_bench.specs.declared.faults.ArmedFault.{ArmedFault}
 use Rattle.lin_bench.specs.declared.faults.SlotFault.{SlotFault}
 use Rattle.lin_bench.specs.declared.playing.Played.{Played}
@@ -75,35 +75,35 @@ hurt-few slot.Undisturbed = omega arith
 hurt-few (slot.Hurt bytes) = omega arith
 hurt-few (slot.Leave nodes) = omega arith
 
-pub rest-few : (how : Disturbance) (due : List ℕ) → length (slot_rest how (Some due)) ≤ length due + 2
-rest-few how due =
-    let decided = map (decision how) due in
+pub rest-few : (w : Way) (due : List ℕ) → length (slot_rest w (Some due)) ≤ length due + 2
+rest-few w due =
+    let decided = map (decision w) due in
     let last : List (PortId × Step) = (Bus, Finish) ∷ [] in
-    let e = length-append decided (hurt_steps how ++ last) in
-    let f = length-append (hurt_steps how) last in
-    omega (arith, e, f, length-map due (decision how), hurt-few how)
+    let e = length-append decided (hurt_steps w.how ++ last) in
+    let f = length-append (hurt_steps w.how) last in
+    omega (arith, e, f, length-map due (decision w), hurt-few w.how)
 
-opened-few : (how : Disturbance) (due : Option (List ℕ))
+opened-few : (w : Way) (due : Option (List ℕ))
     → ((some : List ℕ) → due ≡ Some some → length some ≤ 16)
-    → length ((Bus, Open) ∷ slot_rest how due) ≤ most_steps
-opened-few how None each = omega arith
-opened-few how (Some due) each = omega (arith, rest-few how due, each due refl)
+    → length ((Bus, Open) ∷ slot_rest w due) ≤ most_steps
+opened-few w None each = omega arith
+opened-few w (Some due) each = omega (arith, rest-few w due, each due refl)
 
-pub slot-few : (c : Parts) (o cap : ℕ) (how : Disturbance) (past : List LogEntry) → IsSmall c
-    → length (slot_steps c o cap how past) ≤ most_steps
+pub slot-few : (c : Parts) (o cap : ℕ) (w : Way) (past : List LogEntry) → IsSmall c
+    → length (slot_steps c o cap w past) ≤ most_steps
 unfolding slot_steps
-slot-few c o cap how past few =
-    opened-few how (due_now c o cap past) (λ due h. due-few c o cap past due few h)
+slot-few c o cap w past few =
+    opened-few w (due_now c o cap past) (λ due h. due-few c o cap past due few h)
 
-refused-one : (how : Disturbance) (due : Option (List ℕ)) → is_opened due ≡ false
-    → length ((Bus, Open) ∷ slot_rest how due) ≤ 1
-refused-one how None h = omega arith
-refused-one how (Some due) h = cc
+refused-one : (w : Way) (due : Option (List ℕ)) → is_opened due ≡ false
+    → length ((Bus, Open) ∷ slot_rest w due) ≤ 1
+refused-one w None h = omega arith
+refused-one w (Some due) h = cc
 
-slot-refused : (c : Parts) (o cap : ℕ) (how : Disturbance) (past : List LogEntry)
-    → is_opened (due_now c o cap past) ≡ false → length (slot_steps c o cap how past) ≤ 1
+slot-refused : (c : Parts) (o cap : ℕ) (w : Way) (past : List LogEntry)
+    → is_opened (due_now c o cap past) ≡ false → length (slot_steps c o cap w past) ≤ 1
 unfolding slot_steps
-slot-refused c o cap how past h = refused-one how (due_now c o cap past) h
+slot-refused c o cap w past h = refused-one w (due_now c o cap past) h
 
 -- ---- the steps of a line
 turn-few : (goes is_open : Bool) (one rest : List (PortId × Step)) → length one ≤ most_steps
@@ -132,10 +132,10 @@ slots-few : (c : Parts) (o cap : ℕ) (how : Disturbance) (goes : Course → Boo
 unfolding slots_steps
 slots-few c o cap how goes zero at few = omega arith
 slots-few c o cap how goes (suc n) at few =
-    let one = slot_steps c o cap how at.past in
+    let one = slot_steps c o cap (way how at.rules.offs) at.past in
     turn-few (goes at) (is_opened (due_now c o cap at.past)) one
-    (slots_steps c o cap how goes n (course_after c o cap at one)) (slot-few c o cap how at.past few)
-    (λ h. one-slot c o cap how at.past h) (λ h. slot-refused c o cap how at.past h)
+    (slots_steps c o cap how goes n (course_after c o cap at one)) (slot-few c o cap (way how at.rules.offs) at.past few)
+    (λ h. one-slot c o cap (way how at.rules.offs) at.past h) (λ h. slot-refused c o cap (way how at.rules.offs) at.past h)
     (slots-few c o cap how goes n (course_after c o cap at one) few)
 
 -- at most n slots are made of n
@@ -144,9 +144,9 @@ slots-at-most : (c : Parts) (o cap : ℕ) (how : Disturbance) (goes : Course →
 unfolding slots_steps
 slots-at-most c o cap how goes zero at = omega arith
 slots-at-most c o cap how goes (suc n) at =
-    let one = slot_steps c o cap how at.past in
+    let one = slot_steps c o cap (way how at.rules.offs) at.past in
     turn-at-most (goes at) (is_opened (due_now c o cap at.past)) one (slots_steps c o cap how goes n (course_after c o cap at one)) n
-    (λ h. one-slot c o cap how at.past h) (λ h. no-slot c o cap how at.past h) (slots-at-most c o cap how goes n (course_after c o cap at one))
+    (λ h. one-slot c o cap (way how at.rules.offs) at.past h) (λ h. no-slot c o cap (way how at.rules.offs) at.past h) (slots-at-most c o cap how goes n (course_after c o cap at one))
 
 said-few : (c : Parts) (o cap : ℕ) (limit : Extent → ℕ) (b : BenchState) (l : ScriptLine) → IsSmall c
     → length (steps_said c o cap limit b l) ≤ most_steps * slots_made l (steps_said c o cap limit b l) + 1

@@ -3,6 +3,8 @@ pub mod WordedValues
 pub mod Unwished
 pub mod WordedLines
 pub mod Wordless
+pub mod OnWords
+pub mod OnTexts
 pub mod SignalPlaces
 pub mod UnmarkedValues
 pub mod SpelledArrays
@@ -46,3 +48,4 @@ pub mod CountedSlots
 pub mod ToldErrors
 pub mod FrameCycles
 pub mod GrownWatches
+pub mod Reactions

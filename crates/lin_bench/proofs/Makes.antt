@@ -15,7 +15,8 @@ use Rattle.lin_core.specs.declared.step.Step.TheVariants.{Send, Write, Open, Ans
 use Rattle.lin_bench.specs.Added.{added_steps}
 use Rattle.lin_bench.specs.Faults.{changed_steps, disturbed_steps, is_changed}
 use Rattle.lin_bench.specs.Making.{IsGrown, AreExecuted, IsMadeSo, MakesSteps, MakesUnchanged, RuledData, StepsFail, UnchangedFail, course_on, is_changed_on, made_on, struck_on}
-use Rattle.lin_bench.specs.Slots.{Course, course_after, after_made, past_after, with_entry, with_struck}
+use Rattle.lin_bench.specs.Ons.{reactions}
+use Rattle.lin_bench.specs.Slots.{Course, called_if, course_after, after_made, first_added, past_after, with_entry, with_struck}
 use Rattle.lin_bench.specs.declared.faults.ArmedFault.{ArmedFault}
 use Rattle.lin_bench.specs.declared.fault.MakeFault.{MakeFault}
 use Rattle.lin_bench.specs.declared.fault.MakeFault.TheVariants.{LogFull, OutOfMemory}
@@ -118,13 +119,18 @@ past-longer c o cap past [] = omega arith
 past-longer c o cap past (s ∷ ss) =
     let e = past-longer c o cap (entry_of c o cap past s ∷ past) ss in omega (arith, e)
 
+called-longer : (c : Parts) (o cap : ℕ) (b : Bool) (at : Course) → length at.past ≤ length (called_if c o cap b at).past
+called-longer c o cap true at = let e = past-longer c o cap at.past (reactions c at.past at.rules) in omega (arith, e)
+called-longer c o cap false at = omega arith
+
 pub made-longer : (c : Parts) (o cap : ℕ) (at : Course) (ss : List (PortId × Step)) → length at.past + length ss ≤ length (after_made c o cap at ss).past
 made-longer c o cap at [] = omega arith
 made-longer c o cap at (s ∷ ss) =
     let e : LogEntry = entry_of c o cap at.past s in
     let one = past-longer c o cap (e ∷ at.past) (added_steps c e at.past at.rules) in
+    let two = called-longer c o cap (is_some (finished_slot e at.past)) (first_added c o cap at e) in
     let more = made-longer c o cap (with_entry c o cap at e) ss in
-    omega (arith, one, more)
+    omega (arith, one, two, more)
 
 -- one or two steps are made for each step that a line says
 changed-size : (by : PortId) (step : Step) → (1 ≤ length (changed_steps (by, step))) × (length (changed_steps (by, step)) ≤ 2)
@@ -164,13 +170,22 @@ past-adds c o cap past (s ∷ ss) =
     let r = past-adds c o cap (e ∷ past) ss in
     (r.0 ++ e ∷ [], r.1 ∙ sym (append_assoc r.0 (e ∷ []) past))
 
+called-adds : (c : Parts) (o cap : ℕ) (b : Bool) (at : Course) → (more : List LogEntry) × ((called_if c o cap b at).past ≡ more ++ at.past)
+called-adds c o cap true at = past-adds c o cap at.past (reactions c at.past at.rules)
+called-adds c o cap false at = ([], refl)
+
 made-adds : (c : Parts) (o cap : ℕ) (at : Course) (ss : List (PortId × Step)) → (more : List LogEntry) × ((after_made c o cap at ss).past ≡ more ++ at.past)
 made-adds c o cap at [] = ([], refl)
 made-adds c o cap at (s ∷ ss) =
     let e : LogEntry = entry_of c o cap at.past s in
     let one = past-adds c o cap (e ∷ at.past) (added_steps c e at.past at.rules) in
+    let two = called-adds c o cap (is_some (finished_slot e at.past)) (first_added c o cap at e) in
     let rest = made-adds c o cap (with_entry c o cap at e) ss in
-    (rest.0 ++ (one.0 ++ e ∷ []), rest.1 ∙ ap (λ l. rest.0 ++ l) (one.1 ∙ sym (append_assoc one.0 (e ∷ []) at.past)) ∙ sym (append_assoc rest.0 (one.0 ++ e ∷ []) at.past))
+    let first = one.1 ∙ sym (append_assoc one.0 (e ∷ []) at.past) in
+    let both = two.1 ∙ ap (λ l. two.0 ++ l) first ∙ sym (append_assoc two.0 (one.0 ++ e ∷ []) at.past) in (
+      rest.0 ++ (two.0 ++ (one.0 ++ e ∷ [])),
+      rest.1 ∙ ap (λ l. rest.0 ++ l) both ∙ sym (append_assoc rest.0 (two.0 ++ (one.0 ++ e ∷ [])) at.past),
+    )
 
 after-adds : (c : Parts) (o cap : ℕ) (at : Course) (ss : List (PortId × Step)) → (more : List LogEntry) × ((course_after c o cap at ss).past ≡ more ++ at.past)
 after-adds c o cap at [] = ([], refl)

@@ -1,5 +1,5 @@
 -- What the messages of a finish change, and answers that are noted.
-use Rattle.std.proofs.Common.{◌≡◌, ◌∙◌, ℕ, ◌==◌, Bool, true, false, not, List, [], ◌∷◌, ◌++◌, map, flat_map, refl, sym, ap, append_assoc, cond, slice_index, Option, Some, None, Result, Ok, Err, OnOk}
+use Rattle.std.proofs.Common.{◌≡◌, ◌∙◌, ℕ, ◌==◌, ◌&&◌, Bool, true, false, not, List, [], ◌∷◌, ◌++◌, map, flat_map, refl, sym, ap, append_assoc, cond, slice_index, Option, Some, None, Result, Ok, Err, OnOk}
 use Rattle.std.specs.Prelude.{filter}
 use Rattle.std.specs.List.{list_any}
 use Rattle.std.specs.Option.{option_map_or}
@@ -7,7 +7,7 @@ use Rattle.std.proofs.lemmas.List.{map-append}
 use Rattle.std.proofs.lemmas.List.Elements.{filter-append}
 use Rattle.lin_transport.specs.Transport.{functional}
 use Rattle.lin_core.specs.Core.{CoreData, past_of}
-use Rattle.lin_core.specs.History.{Slot, events, finished_slot, time}
+use Rattle.lin_core.specs.History.{is_in, Slot, events, finished_slot, time}
 use Rattle.lin_core.specs.declared.event.Event.{Event}
 use Rattle.lin_core.specs.declared.event.Event.TheVariants as event
 use Rattle.lin_core.specs.declared.log.LogEntry.{LogEntry}
@@ -64,7 +64,7 @@ event-kept served to t rules (event.Put node answer) = refl
 event-kept served to t rules (event.Seen how) = refl
 event-kept served to t rules (event.Message from node bytes) =
     let w : Option When = rule_for rules.whens node (state_of rules.states node) bytes in
-    either-kept (from == 0) (rules_after_reaction served to t rules node bytes w) rules (reacted-kept served to t rules node bytes w)
+    either-kept (from == 0 && not (is_in rules.offs node)) (rules_after_reaction served to t rules node bytes w) rules (reacted-kept served to t rules node bytes w)
 event-kept served to t rules (event.Sent host number) = refl
 event-kept served to t rules (event.Lost host number cause) = refl
 event-kept served to t rules event.Asleep = refl

@@ -1,13 +1,15 @@
 -- The first item of a list that passes a test.
-use Rattle.std.proofs.Common.{◌≡◌, ◌∙◌, ℕ, suc, zero, ◌+◌, ◌<◌, ◌≤◌, Bool, true, false, cond, ltb, ltb-false, List, [], ◌∷◌, Some, None, refl, sym, ap, arith, add-one, drop, get_or, length, take}
+use Rattle.std.proofs.Common.{◌≡◌, ◌∙◌, ℕ, suc, zero, ◌+◌, ◌<◌, ◌≤◌, Bool, true, false, not, cond, ltb, ltb-false, List, [], ◌∷◌, Some, None, refl, sym, ap, arith, add-one, drop, get_or, length, take}
 use Rattle.std.specs.Borrow.{Bor}
 use Rattle.std.specs.List.{onto_first, position, position_or_len, slice_split}
-use Rattle.std.specs.Prelude.{codes}
+use Rattle.std.specs.Prelude.{codes, slice_index_or}
 use Rattle.std.specs.Str.{bytes_eq}
+use Rattle.std.proofs.lemmas.List.{get_or-map, length-map}
 use Rattle.std.proofs.lemmas.List.Quantifiers.{position-Some}
 use Rattle.std.proofs.lemmas.List.Sums.{fails_before_first}
 use Rattle.lin_bench.specs.Fields.{field_texts}
 use Rattle.lin_bench.specs.RuleLines.{cut_at_answer}
+use Rattle.lin_bench.specs.OnLines.{off_at}
 
 not-so : (b : Bool) (n : ℕ) → cond b (Some n) None ≡ None → b ≡ false
 not-so true n h = cc
@@ -19,6 +21,28 @@ none-at p xs d h k small =
     let n = position_or_len p xs in
     let all : length xs ≤ n = ltb-false n (length xs) (not-so (ltb n (length xs)) n h) in
     fails_before_first p xs k d (omega arith)
+
+-- ---- a word among fields is where its text is
+word-or-end : (word : List ℕ) (fs : List (Bor (List ℕ))) → position_or_len (λ f. bytes_eq f word) (field_texts fs) ≡ position_or_len (λ f. bytes_eq f.now word) fs
+word-or-end word [] = refl
+word-or-end word (f ∷ fs) = ap (λ n. cond (not (bytes_eq f.now word)) (1 + n) 0) (word-or-end word fs)
+
+pub word-place : (word : List ℕ) (fs : List (Bor (List ℕ))) → position (λ f. bytes_eq f word) (field_texts fs) ≡ position (λ f. bytes_eq f.now word) fs
+word-place word fs = rw (word-or-end word fs, length-map fs (λ f. f.now)) refl
+
+-- `off` at the end
+pub off-at-end : (fs : List (Bor (List ℕ))) (d : Bor (List ℕ)) (n : ℕ) → length fs ≡ suc n
+    → off_at (field_texts fs) ≡ cond (bytes_eq (get_or fs n d).now (codes "off")) (Some n) None
+off-at-end [] d n e = absurd (omega (arith, e))
+off-at-end (f ∷ fs) d n e =
+    let behind : length (field_texts fs) ≡ n = length-map fs (λ g. g.now) ∙ omega (arith, e) in
+    ap (λ k. cond (bytes_eq (slice_index_or (field_texts (f ∷ fs)) k []) (codes "off")) (Some k) None) behind
+    ∙ ap (λ w. cond (bytes_eq w (codes "off")) (Some n) None) (get_or-map (λ g. g.now) (f ∷ fs) n d [] (omega (arith, e)))
+
+pub not-off-at-end : (fs : List (Bor (List ℕ))) (d : Bor (List ℕ)) (n : ℕ) (word : List ℕ) → length fs ≡ suc n → word ≡ codes "off"
+    → false ≡ bytes_eq (get_or fs n d).now word → None ≡ off_at (field_texts fs)
+not-off-at-end fs d n word e same h =
+    sym (off-at-end fs d n e ∙ rw (← (h ∙ ap (bytes_eq (get_or fs n d).now) same)) refl)
 
 -- ---- fields before and after `answer`
 abbrev pub is-answer : Bor (List ℕ) → Bool

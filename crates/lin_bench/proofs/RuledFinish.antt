@@ -2,15 +2,15 @@
 use Rattle.std.proofs.Common.{◌≡◌, ◌∙◌, ℕ, List, [], ◌∷◌, ◌++◌, map, refl, sym, subst, ap, append_assoc, cond, is_some, true, slice_index_or, length, ◌-◌, Result, Ok, Err}
 use Rattle.std.specs.Prelude.{filter}
 use Rattle.lin_core.specs.Core.{entry_with_reply, past_of}
-use Rattle.lin_core.specs.History.{Slot, done, is_finish, open_slot, time}
+use Rattle.lin_core.specs.History.{Slot, done, finished_slot, is_finish, open_slot, time}
 use Rattle.lin_core.specs.Replies.{may}
 use Rattle.lin_core.specs.declared.log.LogEntry.{LogEntry}
 use Rattle.lin_core.specs.declared.port.PortId.{PortId}
 use Rattle.lin_core.specs.declared.step.Step.{Step}
 use Rattle.lin_core.specs.declared.step.Step.TheVariants.{Send, Write, Open, Answer, Leave, Hurt, Finish, Timeout, Switch, AskSleep, Wake, Close}
-use Rattle.lin_bench.specs.Added.{added_after, rules_after_arrivals, has_time, rules_after, send_of, step_to_repeat, timeouts, with_kept}
+use Rattle.lin_bench.specs.Added.{added_after, rules_after_arrivals, is_repeated, rules_after, send_of, step_to_repeat, timeouts, with_kept}
 use Rattle.lin_bench.specs.Errors.{errors_told}
-use Rattle.lin_bench.specs.Adding.{AddsAfterFinish, AreAdded, HasFinished, MakesAdded, finish_of}
+use Rattle.lin_bench.specs.Adding.{AddsAfterFinish, AddsFirst, AreAdded, HasFinished, MakesAdded, finish_of}
 use Rattle.lin_bench.specs.Making.{IsMadeSo, MakesUnchanged, RuledData}
 use Rattle.lin_bench.specs.Rules.{kept_at, no_rules, sent_at}
 use Rattle.lin_bench.specs.declared.fault.MakeFault.{MakeFault}
@@ -20,7 +20,7 @@ use Rattle.lin_bench.proofs.HeardLinks.{finish-allowed, finished-slot}
 use Rattle.lin_bench.proofs.AddedSteps.{finish-added, has-finished}
 use Rattle.lin_bench.proofs.Makes.{newest-past}
 use Rattle.lin_bench.proofs.NotedAnswers.{arrived-kept}
-use Rattle.lin_bench.proofs.RuleLaws.{no-rule}
+use Rattle.lin_bench.proofs.RuleLaws.{called-nothing, no-rule}
 
 -- the core as it is when the answers to the finish are noted, and what is added there
 pub record IsReady (a i : RuledData) (by : PortId) (past : List LogEntry) (began now : ℕ) : Type 0 where
@@ -30,16 +30,17 @@ pub record IsReady (a i : RuledData) (by : PortId) (past : List LogEntry) (began
   pub now_is : now ≡ time i.core.cluster (past_of i.core)
 
 all-steps : (a i : RuledData) (by : PortId) (past : List LogEntry) (s : Slot) (began now : ℕ) → HasFinished a.core by past s → IsReady a i by past began now
-    → timeouts i.core.cluster (past_of i.core) i.rules.limit_ms
-    ++ (errors_told i.core.cluster (finish_of i.core past by) past i.rules.errors
-    ++ (map send_of (sent_at now i.rules.noted) ++ map step_to_repeat (filter (has_time began now) i.rules.everies)))
+    → timeouts i.core.cluster (past_of i.core) i.rules
+    ++ (errors_told i.core.cluster (finish_of i.core past by) past i.rules.offs i.rules.errors
+    ++ (map send_of (sent_at now i.rules.noted) ++ map step_to_repeat (filter (is_repeated began now i.rules.offs) i.rules.everies)))
     ≡ added_after a.core.cluster (finish_of a.core past by) past a.rules
 all-steps a i by past s began now fin at =
     let kept = arrived-kept a.core.cluster (finish_of a.core past by) past a.rules in
-    let limit = ap (λ (r : Rules). r.limit_ms) kept in
+    let late = ap (λ (r : Rules). timeouts a.core.cluster (finish_of a.core past by ∷ past) r) kept in
     let errors = ap (λ (r : Rules). r.errors) kept in
+    let offs = ap (λ (r : Rules). r.offs) kept in
     let everies = ap (λ (r : Rules). r.everies) kept in
-    rw (at.now_is, at.rules, at.core, at.began_is, limit, errors, everies, fin.newest) refl
+    rw (at.now_is, at.rules, at.core, at.began_is, fin.newest, late, errors, offs, everies) refl
 
 all-rules : (a i : RuledData) (by : PortId) (past : List LogEntry) (s : Slot) (began now : ℕ) → HasFinished a.core by past s → IsReady a i by past began now
     → record i.rules { noted = kept_at now i.rules.noted } ≡ rules_after a.core.cluster (finish_of a.core past by) past a.rules
@@ -52,23 +53,23 @@ all-rules a i by past s began now fin at =
     (sym (ap is_some is))
 
 in-turn : {X : Type 0} (a d : RuledData) (e : LogEntry) (past : List LogEntry) (steps : List (PortId × Step)) (r : Result X MakeFault)
-    → steps ≡ added_after a.core.cluster e past a.rules → MakesAdded a.core steps r d.core → d.rules ≡ rules_after a.core.cluster e past a.rules → AddsAfterFinish a e past r d
+    → steps ≡ added_after a.core.cluster e past a.rules → MakesAdded a.core steps r d.core → d.rules ≡ rules_after a.core.cluster e past a.rules → AddsFirst a e past r d
 in-turn a d e past steps (Ok x) is made rules = (rw is at made, rules)
 in-turn a d e past steps (Err fault) is made rules = rw is at made
 
 pub rules-add : {X : Type 0} (a i d : RuledData) (by : PortId) (past : List LogEntry) (s : Slot) (began now : ℕ) (s0 s1 st s2 s3 : List (PortId × Step)) (noted : List Noted) (r : Result X MakeFault)
     → HasFinished a.core by past s → IsReady a i by past began now
-    → s0 ≡ [] → s1 ≡ s0 ++ timeouts i.core.cluster (past_of i.core) i.rules.limit_ms
-    → (HasFinished i.core by past s → st ≡ s1 ++ errors_told i.core.cluster (finish_of i.core past by) past i.rules.errors)
+    → s0 ≡ [] → s1 ≡ s0 ++ timeouts i.core.cluster (past_of i.core) i.rules
+    → (HasFinished i.core by past s → st ≡ s1 ++ errors_told i.core.cluster (finish_of i.core past by) past i.rules.offs i.rules.errors)
     → s2 ≡ st ++ map send_of (sent_at now i.rules.noted) → noted ≡ kept_at now i.rules.noted
-    → s3 ≡ s2 ++ map step_to_repeat (filter (has_time began now) i.rules.everies)
+    → s3 ≡ s2 ++ map step_to_repeat (filter (is_repeated began now i.rules.offs) i.rules.everies)
     → MakesAdded i.core s3 r d.core → d.rules ≡ record i.rules { noted = noted }
-    → AddsAfterFinish a (finish_of a.core past by) past r d
+    → AddsFirst a (finish_of a.core past by) past r d
 rules-add a i d by past s began now s0 s1 st s2 s3 noted r fin at e0 e1 et e2 en e3 made rules =
     let sent : List (PortId × Step) = map send_of (sent_at now i.rules.noted) in
-    let given : List (PortId × Step) = timeouts i.core.cluster (past_of i.core) i.rules.limit_ms in
-    let again : List (PortId × Step) = map step_to_repeat (filter (has_time began now) i.rules.everies) in
-    let told : List (PortId × Step) = errors_told i.core.cluster (finish_of i.core past by) past i.rules.errors in
+    let given : List (PortId × Step) = timeouts i.core.cluster (past_of i.core) i.rules in
+    let again : List (PortId × Step) = map step_to_repeat (filter (is_repeated began now i.rules.offs) i.rules.everies) in
+    let told : List (PortId × Step) = errors_told i.core.cluster (finish_of i.core past by) past i.rules.offs i.rules.errors in
     let steps : s3 ≡ given ++ (told ++ (sent ++ again)) =
     e3 ∙ ap (λ l. l ++ again) (e2 ∙ ap (λ l. l ++ sent) (et (subst (λ k. HasFinished k by past s) (sym at.core) fin) ∙ ap (λ l. l ++ told) (e1 ∙ ap (λ l. l ++ given) e0)))
     ∙ append_assoc (given ++ told) sent again ∙ append_assoc given told (sent ++ again) in
@@ -116,4 +117,6 @@ pub unruled-made : (a b : RuledData) (by : PortId) (step : Step) → AreAdded a.
 unruled-made a b by step p same none =
     let before : a.rules ≡ no_rules = sym same ∙ none in
     let adds = no-rule a.core.cluster (entry_with_reply a.core by step) (past_of a.core) in
-    record { course = (let past = p.past in rw (past, none, before, adds.0, adds.1) refl); alike = p.alike }
+    let e : LogEntry = entry_with_reply a.core by step in
+    let calls = called-nothing a.core.cluster a.core.opening a.core.capacity (e ∷ past_of a.core) [] (is_some (finished_slot e (past_of a.core))) in
+    record { course = (let past = p.past in rw (past, none, before, adds.0, adds.1) (sym calls)); alike = p.alike }

@@ -1,10 +1,11 @@
--- The parts of an answer and the lines of states, one more at a time, and ports and steps of repetitions.
-use Rattle.std.proofs.Common.{◌≡◌, ◌∙◌, ◌+◌, ◌<◌, ℕ, List, [], ◌∷◌, ◌++◌, Option, Some, None, refl, sym, ap, append_assoc, add-one, append-nil, codes, find, flat_map, get_or, length, map, take}
+-- The parts of an answer and the lines of nodes, one more at a time, and ports and steps of repetitions.
+use Rattle.std.proofs.Common.{◌≡◌, ◌∙◌, ◌+◌, ◌<◌, ℕ, List, [], ◌∷◌, ◌++◌, Option, Some, None, false, refl, sym, true, ap, append_assoc, add-one, append-nil, codes, find, flat_map, get_or, length, map, take}
 use Rattle.std.specs.Option.{option_map_or}
 use Rattle.std.proofs.lemmas.Grind.{flat_map-append}
 use Rattle.std.proofs.lemmas.List.{take_more}
 use Rattle.lin_frame.specs.Words.{numbers}
 use Rattle.lin_parts.specs.declared.parts.Parts.{Parts}
+use Rattle.lin_core.specs.History.{is_in}
 use Rattle.lin_core.specs.declared.port.PortId.{PortId}
 use Rattle.lin_core.specs.declared.port.PortId.TheVariants.{Bus, Host, Node}
 use Rattle.lin_core.specs.declared.step.Step.{Step}
@@ -15,10 +16,11 @@ use Rattle.lin_log.specs.Language.{Language, named_language}
 use Rattle.lin_log.specs.Words.{spaced_word, step_words, word_text}
 use Rattle.lin_log.specs.Words.Word.{Port}
 use Rattle.lin_bench.specs.LineWords.{spaced_words}
-use Rattle.lin_bench.specs.Rules.{is_state_of}
-use Rattle.lin_bench.specs.RulesInForce.{part_gap, part_word, parts_text, port_text, state_line, state_lines_of}
+use Rattle.lin_bench.specs.Rules.{is_limit_of, is_state_of}
+use Rattle.lin_bench.specs.RulesInForce.{off_line, off_lines_of, own_limit_line, own_limit_lines_of, part_gap, part_word, parts_text, port_text, state_line, state_lines_of}
 use Rattle.lin_bench.specs.Texts.{cluster_text, repeated_words}
 use Rattle.lin_bench.specs.declared.rules.NodeState.{NodeState}
+use Rattle.lin_bench.specs.declared.rules.OwnLimit.{OwnLimit}
 use Rattle.lin_bench.specs.declared.rules.Part.{Part}
 
 -- the last of parts after another one
@@ -74,17 +76,34 @@ every-end-text c (Host n) s =
 every-end-text c (Node n) s =
     ap (λ t. codes " every off" ++ (spaced_word (word_text (named_language c) (Port (Node n))) ++ t)) (step-spaced (named_language c) s)
 
--- the lines of the states of one more node
-pub states-next : (c : Parts) (states : List NodeState) (n : ℕ) (first lines more : List (List ℕ)) → lines ≡ first ++ flat_map (state_lines_of c states) (numbers n)
-    → more ≡ lines ++ state_lines_of c states n → more ≡ first ++ flat_map (state_lines_of c states) (numbers (n + 1))
-states-next c states n first lines more so-far one =
-    let of : ℕ → List (List ℕ) = state_lines_of c states in
+-- the lines of one more node
+pub lines-next : (of : ℕ → List (List ℕ)) (n : ℕ) (first lines more : List (List ℕ)) → lines ≡ first ++ flat_map of (numbers n) → more ≡ lines ++ of n
+    → more ≡ first ++ flat_map of (numbers (n + 1))
+lines-next of n first lines more so-far one =
     let next : flat_map of (numbers (n + 1)) ≡ flat_map of (numbers n) ++ of n =
     ap (λ i. flat_map of (numbers i)) (add-one n) ∙ flat_map-append of (numbers n) (n ∷ []) ∙ ap (λ l. flat_map of (numbers n) ++ l) (append-nil (of n)) in
     one ∙ ap (λ l. l ++ of n) so-far ∙ append_assoc first (flat_map of (numbers n)) (of n) ∙ ap (λ l. first ++ l) (sym next)
+
+-- the lines of the states of one more node
+pub states-next : (c : Parts) (states : List NodeState) (n : ℕ) (first lines more : List (List ℕ)) → lines ≡ first ++ flat_map (state_lines_of c states) (numbers n)
+    → more ≡ lines ++ state_lines_of c states n → more ≡ first ++ flat_map (state_lines_of c states) (numbers (n + 1))
+states-next c states n first lines more so-far one = lines-next (state_lines_of c states) n first lines more so-far one
 
 pub state-kept : (c : Parts) (states : List NodeState) (n : ℕ) (s : NodeState) → Some s ≡ find (is_state_of n) states → state_line c s ∷ [] ≡ state_lines_of c states n
 state-kept c states n s found = ap (λ o. option_map_or (λ s. state_line c s ∷ []) o []) found
 
 pub state-default : (c : Parts) (states : List NodeState) (n : ℕ) → None ≡ find (is_state_of n) states → [] ≡ state_lines_of c states n
 state-default c states n found = ap (λ o. option_map_or (λ s. state_line c s ∷ []) o []) found
+
+-- the limit of one node, if it has one of its own, and whether it is off
+pub own-kept : (c : Parts) (own : List OwnLimit) (n : ℕ) (o : OwnLimit) → Some o ≡ find (is_limit_of n) own → own_limit_line c o ∷ [] ≡ own_limit_lines_of c own n
+own-kept c own n o found = ap (λ o. option_map_or (λ o. own_limit_line c o ∷ []) o []) found
+
+pub own-default : (c : Parts) (own : List OwnLimit) (n : ℕ) → None ≡ find (is_limit_of n) own → [] ≡ own_limit_lines_of c own n
+own-default c own n found = ap (λ o. option_map_or (λ o. own_limit_line c o ∷ []) o []) found
+
+pub off-kept : (c : Parts) (offs : List ℕ) (n : ℕ) → is_in offs n ≡ true → off_line c n ∷ [] ≡ off_lines_of c offs n
+off-kept c offs n off = rw off refl
+
+pub off-default : (c : Parts) (offs : List ℕ) (n : ℕ) → is_in offs n ≡ false → [] ≡ off_lines_of c offs n
+off-default c offs n on = rw on refl

@@ -8,7 +8,7 @@ use Rattle.std.proofs.lemmas.List.{map-append, take-append-drop}
 use Rattle.std.proofs.lemmas.List.Elements.{filter-append}
 use Rattle.lin_parts.specs.declared.parts.Parts.{Parts}
 use Rattle.lin_core.specs.Core.{past_of}
-use Rattle.lin_core.specs.History.{is_finish, is_in, time}
+use Rattle.lin_core.specs.History.{is_finish, time}
 use Rattle.lin_core.specs.Replies.{done_events, refusal, reply}
 use Rattle.lin_core.specs.declared.event.Event.{Event}
 use Rattle.lin_core.specs.declared.log.LogEntry.{LogEntry}
@@ -19,7 +19,7 @@ use Rattle.lin_core.specs.declared.reply.Reply.TheVariants.{Done, Refused}
 use Rattle.lin_core.specs.declared.step.Step.{Step}
 use Rattle.lin_core.specs.declared.step.Step.TheVariants.{Open, Answer, Leave, Finish}
 use Rattle.lin_bench.specs.Making.{IsGrown, AreExecuted, NoRoom, RuledData, SlotsFail, StepsFail, course_on, ends_at, extent_on, first_on}
-use Rattle.lin_bench.specs.Slots.{Course, course_after, decision, due_in, due_now, extent_steps, hurt_steps, is_opened, leave_nodes, most, goes_on_until, slot_rest, slot_steps, ended_slot_count, slots_steps}
+use Rattle.lin_bench.specs.Slots.{Course, course_after, decision, due_in, due_now, extent_steps, hurt_steps, is_opened, leaves, most, goes_on_until, slot_rest, slot_steps, ended_slot_count, slots_steps, way, Way}
 use Rattle.lin_bench.specs.declared.expected.Expected.{Expected}
 use Rattle.lin_bench.specs.declared.taken.EventKind.{EventKind}
 use Rattle.lin_bench.specs.declared.line.Disturbance.{Disturbance}
@@ -36,14 +36,14 @@ map-split f xs i h =
     ∙ ap (λ l. map f (take i xs) ++ map f l) (drop-cons xs i 0 h)
 
 -- one of them fails
-pub one-fails : (fault : MakeFault) (a now new : RuledData) (how : Disturbance) (due : List ℕ) (i : ℕ) → i < length due → AreExecuted a (map (decision how) (take i due)) now
-    → StepsFail fault now (decision how (get_or due i 0) ∷ []) × IsGrown now.core new.core → StepsFail fault a (map (decision how) due) × IsGrown a.core new.core
-one-fails fault a now new how due i small made (fails, grown) =
-    let one : List (PortId × Step) = decision how (get_or due i 0) ∷ [] in
-    let rest = map (decision how) (drop (suc i) due) in (
-      rw (map-split (decision how) due i small)
-          (fails-after fault a now (map (decision how) (take i due)) (one ++ rest) made (fails-before fault now one rest fails)),
-      grown-more a.core now.core new.core (grown-made a now (map (decision how) (take i due)) made) grown,
+pub one-fails : (fault : MakeFault) (a now new : RuledData) (w : Way) (due : List ℕ) (i : ℕ) → i < length due → AreExecuted a (map (decision w) (take i due)) now
+    → StepsFail fault now (decision w (get_or due i 0) ∷ []) × IsGrown now.core new.core → StepsFail fault a (map (decision w) due) × IsGrown a.core new.core
+one-fails fault a now new w due i small made (fails, grown) =
+    let one : List (PortId × Step) = decision w (get_or due i 0) ∷ [] in
+    let rest = map (decision w) (drop (suc i) due) in (
+      rw (map-split (decision w) due i small)
+          (fails-after fault a now (map (decision w) (take i due)) (one ++ rest) made (fails-before fault now one rest fails)),
+      grown-more a.core now.core new.core (grown-made a now (map (decision w) (take i due)) made) grown,
     )
 
 -- ---- how many slots end by steps
@@ -56,50 +56,50 @@ choice-ends-none : (b : Bool) (n : ℕ) → is_finish (if b then Leave n else An
 choice-ends-none true n = refl
 choice-ends-none false n = refl
 
-decisions-end-none : (how : Disturbance) (due : List ℕ) → ended_slot_count (map (decision how) due) ≡ 0
-decisions-end-none how [] = refl
-decisions-end-none how (n ∷ ns) =
-    let rest = filter (λ (s : PortId × Step). is_finish s.1) (map (decision how) ns) in
-    ap (λ b. length (cond b (decision how n ∷ rest) rest)) (choice-ends-none (is_in (leave_nodes how) n) n) ∙ decisions-end-none how ns
+decisions-end-none : (w : Way) (due : List ℕ) → ended_slot_count (map (decision w) due) ≡ 0
+decisions-end-none w [] = refl
+decisions-end-none w (n ∷ ns) =
+    let rest = filter (λ (s : PortId × Step). is_finish s.1) (map (decision w) ns) in
+    ap (λ b. length (cond b (decision w n ∷ rest) rest)) (choice-ends-none (leaves w n) n) ∙ decisions-end-none w ns
 
 one-ends : (how : Disturbance) → ended_slot_count (hurt_steps how ++ (Bus, Finish) ∷ []) ≡ 1
 one-ends slot.Undisturbed = refl
 one-ends (slot.Hurt bytes) = refl
 one-ends (slot.Leave nodes) = refl
 
-rest-ends-one : (how : Disturbance) (due : List ℕ) → ended_slot_count (slot_rest how (Some due)) ≡ 1
-rest-ends-one how due =
-    let e = slots_in-append (map (decision how) due) (hurt_steps how ++ (Bus, Finish) ∷ []) in
-    omega (arith, e, decisions-end-none how due, one-ends how)
+rest-ends-one : (w : Way) (due : List ℕ) → ended_slot_count (slot_rest w (Some due)) ≡ 1
+rest-ends-one w due =
+    let e = slots_in-append (map (decision w) due) (hurt_steps w.how ++ (Bus, Finish) ∷ []) in
+    omega (arith, e, decisions-end-none w due, one-ends w.how)
 
-opened-ends-one : (how : Disturbance) (due : Option (List ℕ)) → is_opened due ≡ true → ended_slot_count ((Bus, Open) ∷ slot_rest how due) ≡ 1
-opened-ends-one how None h = cc
-opened-ends-one how (Some due) h = rest-ends-one how due
+opened-ends-one : (w : Way) (due : Option (List ℕ)) → is_opened due ≡ true → ended_slot_count ((Bus, Open) ∷ slot_rest w due) ≡ 1
+opened-ends-one w None h = cc
+opened-ends-one w (Some due) h = rest-ends-one w due
 
-refused-ends-none : (how : Disturbance) (due : Option (List ℕ)) → is_opened due ≡ false → ended_slot_count ((Bus, Open) ∷ slot_rest how due) ≡ 0
-refused-ends-none how None h = refl
-refused-ends-none how (Some due) h = cc
+refused-ends-none : (w : Way) (due : Option (List ℕ)) → is_opened due ≡ false → ended_slot_count ((Bus, Open) ∷ slot_rest w due) ≡ 0
+refused-ends-none w None h = refl
+refused-ends-none w (Some due) h = cc
 
-pub one-slot : (c : Parts) (o cap : ℕ) (how : Disturbance) (past : List LogEntry) → is_opened (due_now c o cap past) ≡ true
-    → ended_slot_count (slot_steps c o cap how past) ≡ 1
+pub one-slot : (c : Parts) (o cap : ℕ) (w : Way) (past : List LogEntry) → is_opened (due_now c o cap past) ≡ true
+    → ended_slot_count (slot_steps c o cap w past) ≡ 1
 unfolding slot_steps
-one-slot c o cap how past h = opened-ends-one how (due_now c o cap past) h
+one-slot c o cap w past h = opened-ends-one w (due_now c o cap past) h
 
-pub no-slot : (c : Parts) (o cap : ℕ) (how : Disturbance) (past : List LogEntry) → is_opened (due_now c o cap past) ≡ false
-    → ended_slot_count (slot_steps c o cap how past) ≡ 0
+pub no-slot : (c : Parts) (o cap : ℕ) (w : Way) (past : List LogEntry) → is_opened (due_now c o cap past) ≡ false
+    → ended_slot_count (slot_steps c o cap w past) ≡ 0
 unfolding slot_steps
-no-slot c o cap how past h = refused-ends-none how (due_now c o cap past) h
+no-slot c o cap w past h = refused-ends-none w (due_now c o cap past) h
 
-pub steps-opened : (c : Parts) (o cap : ℕ) (how : Disturbance) (past : List LogEntry) (due : List ℕ) → due_now c o cap past ≡ Some due
-    → slot_steps c o cap how past ≡ (Bus, Open) ∷ slot_rest how (Some due)
+pub steps-opened : (c : Parts) (o cap : ℕ) (w : Way) (past : List LogEntry) (due : List ℕ) → due_now c o cap past ≡ Some due
+    → slot_steps c o cap w past ≡ (Bus, Open) ∷ slot_rest w (Some due)
 unfolding slot_steps
-steps-opened c o cap how past due h = rw h refl
+steps-opened c o cap w past due h = rw h refl
 
-pub open-fails : (fault : MakeFault) (a : RuledData) (how : Disturbance) → StepsFail fault a ((Bus, Open) ∷ [])
-    → StepsFail fault a (slot_steps a.core.cluster a.core.opening a.core.capacity how (past_of a.core))
+pub open-fails : (fault : MakeFault) (a : RuledData) (w : Way) → StepsFail fault a ((Bus, Open) ∷ [])
+    → StepsFail fault a (slot_steps a.core.cluster a.core.opening a.core.capacity w (past_of a.core))
 unfolding slot_steps
-open-fails fault a how fails =
-    fails-before fault a ((Bus, Open) ∷ []) (slot_rest how (due_now a.core.cluster a.core.opening a.core.capacity (past_of a.core))) fails
+open-fails fault a w fails =
+    fails-before fault a ((Bus, Open) ∷ []) (slot_rest w (due_now a.core.cluster a.core.opening a.core.capacity (past_of a.core))) fails
 
 -- whether a slot can be opened, by the refusal of its open
 opened-by : (why : Option Refusal) (es : List Event) (b : Bool) → is_some why ≡ not b → b ≡ is_opened (due_in (option_map_or Refused why (Done es)))
@@ -129,14 +129,14 @@ turn-stops c o cap how goes (suc n) at h = rw h refl
 
 turn-refused : (c : Parts) (o cap : ℕ) (how : Disturbance) (goes : Course → Bool) (n : ℕ) (at : Course)
     → goes at ≡ true → is_opened (due_now c o cap at.past) ≡ false
-    → slots_steps c o cap how goes (suc n) at ≡ slot_steps c o cap how at.past ++ []
+    → slots_steps c o cap how goes (suc n) at ≡ slot_steps c o cap (way how at.rules.offs) at.past ++ []
 unfolding slots_steps
 turn-refused c o cap how goes n at h g = rw (h, g) refl
 
 turn-opened : (c : Parts) (o cap : ℕ) (how : Disturbance) (goes : Course → Bool) (n : ℕ) (at : Course)
     → goes at ≡ true → is_opened (due_now c o cap at.past) ≡ true
     → slots_steps c o cap how goes (suc n) at
-    ≡ slot_steps c o cap how at.past ++ slots_steps c o cap how goes n (course_after c o cap at (slot_steps c o cap how at.past))
+    ≡ slot_steps c o cap (way how at.rules.offs) at.past ++ slots_steps c o cap how goes n (course_after c o cap at (slot_steps c o cap (way how at.rules.offs) at.past))
 unfolding slots_steps
 turn-opened c o cap how goes n at h g = rw (h, g) refl
 
@@ -179,9 +179,9 @@ same-ends a now ss js ks m n what extent t b p same entries h =
     ∙ ap (λ k. goes_on_until now.core.cluster extent (ends_at now.core.cluster now.core.opening js k what) t (course_on now)) (sym entries) ∙ sym h
 
 -- what a slot of a core says by the core that the line began on
-same-slot : (a now : RuledData) (how : Disturbance) (ss : List (PortId × Step)) → AreExecuted a ss now
-    → slot_steps now.core.cluster now.core.opening now.core.capacity how (past_of now.core) ≡ slot_steps a.core.cluster a.core.opening a.core.capacity how (past_of now.core)
-same-slot a now how ss p = rw (p.alike.0, p.alike.1, p.alike.2) refl
+same-slot : (a now : RuledData) (w : Way) (ss : List (PortId × Step)) → AreExecuted a ss now
+    → slot_steps now.core.cluster now.core.opening now.core.capacity w (past_of now.core) ≡ slot_steps a.core.cluster a.core.opening a.core.capacity w (past_of now.core)
+same-slot a now w ss p = rw (p.alike.0, p.alike.1, p.alike.2) refl
 
 same-due : (a now : RuledData) (ss : List (PortId × Step)) → AreExecuted a ss now
     → due_now now.core.cluster now.core.opening now.core.capacity (past_of now.core) ≡ due_now a.core.cluster a.core.opening a.core.capacity (past_of now.core)
@@ -207,20 +207,20 @@ ended a now how extent ends left rest b =
 refused-whole : (a now : RuledData) (how : Disturbance) (extent : Extent) (ends : Course → Bool) (left n rest : ℕ) (b : AreBegun a how extent ends left now (suc n) rest)
     → goes_on_until a.core.cluster extent ends (time a.core.cluster (past_of a.core)) (course_on now) ≡ true
     → is_opened (due_now now.core.cluster now.core.opening now.core.capacity (past_of now.core)) ≡ false
-    → extent_on a how extent ends ≡ b.steps ++ slot_steps now.core.cluster now.core.opening now.core.capacity how (past_of now.core)
+    → extent_on a how extent ends ≡ b.steps ++ slot_steps now.core.cluster now.core.opening now.core.capacity (way how now.rules.offs) (past_of now.core)
 refused-whole a now how extent ends left n rest b goes shut =
     let closed = ap is_opened (sym (same-due a now b.steps b.made)) ∙ shut in
-    b.whole ∙ ap (λ l. b.steps ++ l) (turn-refused _ _ _ how _ n (course_on now) goes closed ∙ append-nothing _ ∙ sym (same-slot a now how b.steps b.made))
+    b.whole ∙ ap (λ l. b.steps ++ l) (turn-refused _ _ _ how _ n (course_on now) goes closed ∙ append-nothing _ ∙ sym (same-slot a now (way how now.rules.offs) b.steps b.made))
 
 pub refused : (a now new : RuledData) (how : Disturbance) (extent : Extent) (ends : Course → Bool) (left n rest : ℕ) → AreBegun a how extent ends left now (suc n) rest
     → goes_on_until a.core.cluster extent ends (time a.core.cluster (past_of a.core)) (course_on now) ≡ true
-    → AreExecuted now (slot_steps now.core.cluster now.core.opening now.core.capacity how (past_of now.core)) new
+    → AreExecuted now (slot_steps now.core.cluster now.core.opening now.core.capacity (way how now.rules.offs) (past_of now.core)) new
     → is_opened (due_now now.core.cluster now.core.opening now.core.capacity (past_of now.core)) ≡ false
     → AreExecuted a (extent_on a how extent ends) new × (ended_slot_count (extent_on a how extent ends) + rest ≡ left)
 refused a now new how extent ends left n rest b goes made shut =
-    let one = slot_steps now.core.cluster now.core.opening now.core.capacity how (past_of now.core) in
+    let one = slot_steps now.core.cluster now.core.opening now.core.capacity (way how now.rules.offs) (past_of now.core) in
     let all = refused-whole a now how extent ends left n rest b goes shut in
-    let none : ended_slot_count one ≡ 0 = no-slot _ _ _ how (past_of now.core) shut in
+    let none : ended_slot_count one ≡ 0 = no-slot _ _ _ (way how now.rules.offs) (past_of now.core) shut in
     let count : ended_slot_count (b.steps ++ one) + rest ≡ left = let e = slots_in-append b.steps one in omega (arith, e, none, b.count) in
     (rw all (made-more a now new b.steps one b.made made), rw all count)
 
@@ -228,28 +228,28 @@ refused a now new how extent ends left n rest b goes made shut =
 turned : (a now new : RuledData) (how : Disturbance) (extent : Extent) (ends : Course → Bool) (n : ℕ) (xs steps : List (PortId × Step))
     → xs ≡ steps ++ turns a how extent ends (suc n) (course_on now) → AreExecuted a steps now
     → goes_on_until a.core.cluster extent ends (time a.core.cluster (past_of a.core)) (course_on now) ≡ true
-    → AreExecuted now (slot_steps now.core.cluster now.core.opening now.core.capacity how (past_of now.core)) new
+    → AreExecuted now (slot_steps now.core.cluster now.core.opening now.core.capacity (way how now.rules.offs) (past_of now.core)) new
     → is_opened (due_now now.core.cluster now.core.opening now.core.capacity (past_of now.core)) ≡ true
-    → xs ≡ (steps ++ slot_steps now.core.cluster now.core.opening now.core.capacity how (past_of now.core)) ++ turns a how extent ends n (course_on new)
+    → xs ≡ (steps ++ slot_steps now.core.cluster now.core.opening now.core.capacity (way how now.rules.offs) (past_of now.core)) ++ turns a how extent ends n (course_on new)
 turned a now new how extent ends n xs steps whole so_far goes made is_open =
-    let one = slot_steps now.core.cluster now.core.opening now.core.capacity how (past_of now.core) in
-    let same = same-slot a now how steps so_far in
+    let one = slot_steps now.core.cluster now.core.opening now.core.capacity (way how now.rules.offs) (past_of now.core) in
+    let same = same-slot a now (way how now.rules.offs) steps so_far in
     let is = ap is_opened (sym (same-due a now steps so_far)) ∙ is_open in
-    let later : course_on new ≡ course_after a.core.cluster a.core.opening a.core.capacity (course_on now) (slot_steps a.core.cluster a.core.opening a.core.capacity how (past_of now.core)) =
+    let later : course_on new ≡ course_after a.core.cluster a.core.opening a.core.capacity (course_on now) (slot_steps a.core.cluster a.core.opening a.core.capacity (way how now.rules.offs) (past_of now.core)) =
     rw (so_far.alike.0, so_far.alike.1, so_far.alike.2) at made.course in
     whole ∙ ap (λ l. steps ++ l) (turn-opened _ _ _ how _ n (course_on now) goes is)
-    ∙ ap (λ l. steps ++ (l ++ turns a how extent ends n (course_after a.core.cluster a.core.opening a.core.capacity (course_on now) (slot_steps a.core.cluster a.core.opening a.core.capacity how (past_of now.core))))) (sym same)
+    ∙ ap (λ l. steps ++ (l ++ turns a how extent ends n (course_after a.core.cluster a.core.opening a.core.capacity (course_on now) (slot_steps a.core.cluster a.core.opening a.core.capacity (way how now.rules.offs) (past_of now.core))))) (sym same)
     ∙ ap (λ l. steps ++ (one ++ turns a how extent ends n l)) (sym later)
     ∙ sym (append_assoc steps one (turns a how extent ends n (course_on new)))
 
 pub opened : (a now new : RuledData) (how : Disturbance) (extent : Extent) (ends : Course → Bool) (left n rest : ℕ) → AreBegun a how extent ends left now (suc n) (suc rest)
     → goes_on_until a.core.cluster extent ends (time a.core.cluster (past_of a.core)) (course_on now) ≡ true
-    → AreExecuted now (slot_steps now.core.cluster now.core.opening now.core.capacity how (past_of now.core)) new
+    → AreExecuted now (slot_steps now.core.cluster now.core.opening now.core.capacity (way how now.rules.offs) (past_of now.core)) new
     → is_opened (due_now now.core.cluster now.core.opening now.core.capacity (past_of now.core)) ≡ true
     → AreBegun a how extent ends left new n rest
 opened a now new how extent ends left n rest b goes made is_open =
-    let one = slot_steps now.core.cluster now.core.opening now.core.capacity how (past_of now.core) in
-    let one_ends : ended_slot_count one ≡ 1 = one-slot _ _ _ how (past_of now.core) is_open in
+    let one = slot_steps now.core.cluster now.core.opening now.core.capacity (way how now.rules.offs) (past_of now.core) in
+    let one_ends : ended_slot_count one ≡ 1 = one-slot _ _ _ (way how now.rules.offs) (past_of now.core) is_open in
     record {
       steps = b.steps ++ one;
       made = made-more a now new b.steps one b.made made;
@@ -263,13 +263,13 @@ slot-among : (a now : RuledData) (how : Disturbance) (extent : Extent) (ends : C
     → xs ≡ steps ++ turns a how extent ends (suc n) (course_on now) → AreExecuted a steps now
     → goes_on_until a.core.cluster extent ends (time a.core.cluster (past_of a.core)) (course_on now) ≡ true
     → is_opened (due_now now.core.cluster now.core.opening now.core.capacity (past_of now.core)) ≡ true
-    → (more : List (PortId × Step)) × (xs ≡ steps ++ (slot_steps now.core.cluster now.core.opening now.core.capacity how (past_of now.core) ++ more))
+    → (more : List (PortId × Step)) × (xs ≡ steps ++ (slot_steps now.core.cluster now.core.opening now.core.capacity (way how now.rules.offs) (past_of now.core) ++ more))
 slot-among a now how extent ends n xs steps whole so_far goes is_open =
-    let one = slot_steps a.core.cluster a.core.opening a.core.capacity how (past_of now.core) in
+    let one = slot_steps a.core.cluster a.core.opening a.core.capacity (way how now.rules.offs) (past_of now.core) in
     let is = ap is_opened (sym (same-due a now steps so_far)) ∙ is_open in
     let more = turns a how extent ends n (course_after a.core.cluster a.core.opening a.core.capacity (course_on now) one) in (
       more,
-      whole ∙ ap (λ l. steps ++ l) (turn-opened _ _ _ how _ n (course_on now) goes is ∙ ap (λ l. l ++ more) (sym (same-slot a now how steps so_far))),
+      whole ∙ ap (λ l. steps ++ l) (turn-opened _ _ _ how _ n (course_on now) goes is ∙ ap (λ l. l ++ more) (sym (same-slot a now (way how now.rules.offs) steps so_far))),
     )
 
 -- it could be opened, and none was left
@@ -279,9 +279,9 @@ pub over : (a now : RuledData) (how : Disturbance) (extent : Extent) (ends : Cou
     → AreExecuted a (first_on a how extent ends left) now × (left < ended_slot_count (extent_on a how extent ends))
 unfolding slots_steps
 over a now how extent ends left n b goes is_open =
-    let one = slot_steps now.core.cluster now.core.opening now.core.capacity how (past_of now.core) in
+    let one = slot_steps now.core.cluster now.core.opening now.core.capacity (way how now.rules.offs) (past_of now.core) in
     let more = slot-among a now how extent ends n _ b.steps b.whole b.made goes is_open in
-    let one_ends : ended_slot_count one ≡ 1 = one-slot _ _ _ how (past_of now.core) is_open in
+    let one_ends : ended_slot_count one ≡ 1 = one-slot _ _ _ (way how now.rules.offs) (past_of now.core) is_open in
     let all = ap ended_slot_count more.1 ∙ slots_in-append b.steps (one ++ more.0) in
     let two = slots_in-append one more.0 in
     let some : first_on a how extent ends left ≡ b.steps = b.first ∙ append-nothing b.steps in
@@ -296,17 +296,17 @@ slot-fails fault a now xs steps one more e made fails =
 no-room : (a now : RuledData) (how : Disturbance) (extent : Extent) (ends : Course → Bool) (left n rest : ℕ) (t : Bool) → AreBegun a how extent ends left now (suc n) rest
     → goes_on_until a.core.cluster extent ends (time a.core.cluster (past_of a.core)) (course_on now) ≡ true
     → is_opened (due_now now.core.cluster now.core.opening now.core.capacity (past_of now.core)) ≡ t → (t ≡ true → 0 < rest)
-    → NoRoom now (slot_steps now.core.cluster now.core.opening now.core.capacity how (past_of now.core)) → SlotsFail LogFull a how extent ends left
+    → NoRoom now (slot_steps now.core.cluster now.core.opening now.core.capacity (way how now.rules.offs) (past_of now.core)) → SlotsFail LogFull a how extent ends left
 no-room a now how extent ends left n zero true b goes is some full = absurd (let none = some refl in omega (arith, none))
 no-room a now how extent ends left n (suc rest) true b goes is some full =
-    let one = slot_steps now.core.cluster now.core.opening now.core.capacity how (past_of now.core) in
+    let one = slot_steps now.core.cluster now.core.opening now.core.capacity (way how now.rules.offs) (past_of now.core) in
     let all = slot-among a now how extent ends n _ b.steps b.whole b.made goes is in
     let few = slot-among a now how extent ends rest _ b.steps b.first b.made goes is in
     (λ h. slot-fails LogFull a now _ b.steps one all.0 all.1 b.made full, λ h. slot-fails LogFull a now _ b.steps one few.0 few.1 b.made full)
 no-room a now how extent ends left n rest false b goes is some full =
-    let one = slot_steps now.core.cluster now.core.opening now.core.capacity how (past_of now.core) in
+    let one = slot_steps now.core.cluster now.core.opening now.core.capacity (way how now.rules.offs) (past_of now.core) in
     let all = refused-whole a now how extent ends left n rest b goes is in
-    let none : ended_slot_count one ≡ 0 = no-slot _ _ _ how (past_of now.core) is in (
+    let none : ended_slot_count one ≡ 0 = no-slot _ _ _ (way how now.rules.offs) (past_of now.core) is in (
       λ h. slot-fails LogFull a now _ b.steps one [] (all ∙ ap (λ l. b.steps ++ l) (sym (append-nothing one))) b.made full,
       λ h. absurd (let k = ap ended_slot_count all ∙ slots_in-append b.steps one in omega (arith, k, none, b.count, h)),
     )
@@ -323,7 +323,7 @@ one-left a now how extent ends left m n rest b e = subst (λ k. AreBegun a how e
 
 pub next-refused : (a now new : RuledData) (how : Disturbance) (extent : Extent) (ends : Course → Bool) (left m n rest t : ℕ) → AreBegun a how extent ends left now m rest
     → m ≡ n + 1 → t ≡ time a.core.cluster (past_of a.core) → goes_on_until now.core.cluster extent ends t (course_on now) ≡ true
-    → AreExecuted now (slot_steps now.core.cluster now.core.opening now.core.capacity how (past_of now.core)) new
+    → AreExecuted now (slot_steps now.core.cluster now.core.opening now.core.capacity (way how now.rules.offs) (past_of now.core)) new
     → is_opened (due_now now.core.cluster now.core.opening now.core.capacity (past_of now.core)) ≡ false
     → AreExecuted a (extent_on a how extent ends) new × (ended_slot_count (extent_on a how extent ends) + rest ≡ left)
 next-refused a now new how extent ends left m n rest t b em e h made shut =
@@ -335,7 +335,7 @@ one-more a now how extent ends left n many rest b e = subst (λ k. AreBegun a ho
 
 pub next-opened : (a now new : RuledData) (how : Disturbance) (extent : Extent) (ends : Course → Bool) (left m n many rest t : ℕ) → AreBegun a how extent ends left now m many
     → m ≡ n + 1 → many ≡ rest + 1 → t ≡ time a.core.cluster (past_of a.core) → goes_on_until now.core.cluster extent ends t (course_on now) ≡ true
-    → AreExecuted now (slot_steps now.core.cluster now.core.opening now.core.capacity how (past_of now.core)) new
+    → AreExecuted now (slot_steps now.core.cluster now.core.opening now.core.capacity (way how now.rules.offs) (past_of now.core)) new
     → is_opened (due_now now.core.cluster now.core.opening now.core.capacity (past_of now.core)) ≡ true
     → AreBegun a how extent ends left new n rest
 next-opened a now new how extent ends left m n many rest t b em er e h made is_open =
@@ -355,7 +355,7 @@ next-over a now how extent ends left m n none t b em er e h is_open =
 pub next-fails : (fault : MakeFault) (a now new : RuledData) (how : Disturbance) (extent : Extent) (ends : Course → Bool) (left m n rest t : ℕ) → AreBegun a how extent ends left now m rest
     → m ≡ n + 1 → t ≡ time a.core.cluster (past_of a.core) → goes_on_until now.core.cluster extent ends t (course_on now) ≡ true
     → (is_opened (due_now now.core.cluster now.core.opening now.core.capacity (past_of now.core)) ≡ true → 0 < rest)
-    → StepsFail fault now (slot_steps now.core.cluster now.core.opening now.core.capacity how (past_of now.core)) × IsGrown now.core new.core
+    → StepsFail fault now (slot_steps now.core.cluster now.core.opening now.core.capacity (way how now.rules.offs) (past_of now.core)) × IsGrown now.core new.core
     → SlotsFail fault a how extent ends left × IsGrown a.core new.core
 next-fails LogFull a now new how extent ends left m n rest t b em e h some (full, grown) = (
   no-room a now how extent ends left n rest _ (one-left a now how extent ends left m n rest b em) (same-goes a now b.steps extent ends t true b.made e h) refl some full,

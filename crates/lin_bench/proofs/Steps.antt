@@ -20,7 +20,8 @@ use Rattle.lin_bench.specs.Lines.{line_form, line_of_fields, read_line}
 use Rattle.lin_bench.specs.Scripts.{read, read_lines, without_mark}
 use Rattle.lin_values.specs.Coded.{CodedData}
 use Rattle.lin_bench.specs.Plain.{HasNoMarks, NamedTexts, PlainScripts}
-use Rattle.lin_bench.specs.Words.{or_unmarked, read_worded_line, worded}
+use Rattle.lin_bench.specs.Words.{limited_line, line_in_words, or_unmarked, read_worded_line, worded, worded_on}
+use Rattle.lin_bench.proofs.OnWords.{not-worded-on, nothing-worded-on}
 use Rattle.lin_bench.proofs.Wordless.{wordless}
 use Rattle.lin_bench.specs.Made.{BenchState, course_of, made, steps_said, bench_after_steps}
 use Rattle.lin_bench.specs.Played.{come_to, initial_bench, in_turn, judged_from, next, with_judgements}
@@ -28,6 +29,7 @@ use Rattle.lin_bench.specs.declared.got.Verdict.TheVariants.{Nothing}
 use Rattle.lin_bench.proofs.RuleLaws.{unchanged}
 use Rattle.lin_bench.specs.Rules.{no_rules}
 use Rattle.lin_bench.specs.Slots.{Course, course_after, past_after}
+use Rattle.lin_bench.specs.declared.rules.NodeLimits.{NodeLimits}
 use Rattle.lin_bench.specs.declared.rules.Rules.{Rules}
 use Rattle.lin_bench.specs.declared.line.ScriptLine.{ScriptLine}
 use Rattle.lin_bench.specs.declared.reason.Reason.{Reason as BenchReason}
@@ -108,25 +110,43 @@ unfolding line_says
 none-worded c l o true none k h e = ap worded (comment-fields l h) ∙ wordless c [] None none refl
 none-worded c l o false none k h e = wordless c (line_fields l) o none (rw (h, k) at e)
 
-good-stays : (c : Parts) (k : CodedData) (fs : List (List ℕ)) (o : Option (PortId × Step)) → or_unmarked c k fs (said_line o) ≡ said_line o
-good-stays c k fs o = refl
+-- no line of a step is one of `on`
+fields-off : (c : Parts) (word : List ℕ) (fs : List (List ℕ)) (o : Option (PortId × Step)) (t : Bool) → is_port word ≡ t
+    → step_of_fields (named_language c) (word ∷ fs) ≡ Ok o → worded_on (word ∷ fs) ≡ None
+fields-off c word fs o true i e = not-worded-on word fs i
+fields-off c word fs o false i e = let n : Err _ ≡ Ok o = rw i at e in absurd (cc)
 
-coded-by : (c : Parts) (k : CodedData) (l : List ℕ) (o : Option (PortId × Step)) (b : Bool) → HasNoMarks c → (slice_index l 0 == 62) ≡ b
-    → line_says (named_language c) l ≡ Ok o → read_worded_line c (Some k) l ≡ read_line c l
-unfolding read_worded_line
-coded-by c k l o true none h e = rw h (sym (reply-read c l h))
-coded-by c k l o false none h e =
+all-off : (c : Parts) (fs : List (List ℕ)) (o : Option (PortId × Step)) → step_of_fields (named_language c) fs ≡ Ok o → worded_on fs ≡ None
+all-off c [] o e = nothing-worded-on
+all-off c (word ∷ fs) o e = fields-off c word fs o (is_port word) refl e
+
+none-on : (c : Parts) (l : List ℕ) (o : Option (PortId × Step)) (a : Bool) → (slice_index l 0 == 62) ≡ false → (slice_index l 0 == 35) ≡ a
+    → line_says (named_language c) l ≡ Ok o → worded_on (line_fields l) ≡ None
+unfolding line_says
+none-on c l o true k h e = ap worded_on (comment-fields l h) ∙ nothing-worded-on
+none-on c l o false k h e = all-off c (line_fields l) o (rw (h, k) at e)
+
+limited-stays : (limits : List NodeLimits) (o : Option (PortId × Step)) → limited_line limits (said_line o) ≡ said_line o
+limited-stays limits None = refl
+limited-stays limits (Some s) = refl
+
+coded-by : (c : Parts) (k : CodedData) (limits : List NodeLimits) (l : List ℕ) (o : Option (PortId × Step)) (b : Bool) → HasNoMarks c → (slice_index l 0 == 62) ≡ b
+    → line_says (named_language c) l ≡ Ok o → read_worded_line c (Some k) limits l ≡ read_line c l
+unfolding read_worded_line line_in_words
+coded-by c k limits l o true none h e = rw h (sym (reply-read c l h))
+coded-by c k limits l o false none h e =
     let n : worded (line_fields l) ≡ None = none-worded c l o (slice_index l 0 == 35) none h refl e in
-    rw (h, n) (ap (or_unmarked c k (line_fields l)) (line-read c l o e) ∙ good-stays c k (line_fields l) o ∙ sym (line-read c l o e))
+    let off : worded_on (line_fields l) ≡ None = none-on c l o (slice_index l 0 == 35) h refl e in
+    rw (h, off, n) (ap (λ r. limited_line limits (or_unmarked c k (line_fields l) r)) (line-read c l o e) ∙ limited-stays limits o ∙ sym (line-read c l o e))
 
-pub worded-line-read : (c : Parts) (k : CodedData) (l : List ℕ) (o : Option (PortId × Step)) → HasNoMarks c → line_says (named_language c) l ≡ Ok o
-    → read_worded_line c (Some k) l ≡ said_line o
-worded-line-read c k l o none e = coded-by c k l o (slice_index l 0 == 62) none refl e ∙ line-read c l o e
+pub worded-line-read : (c : Parts) (k : CodedData) (limits : List NodeLimits) (l : List ℕ) (o : Option (PortId × Step)) → HasNoMarks c → line_says (named_language c) l ≡ Ok o
+    → read_worded_line c (Some k) limits l ≡ said_line o
+worded-line-read c k limits l o none e = coded-by c k limits l o (slice_index l 0 == 62) none refl e ∙ line-read c l o e
 
 -- ... or isn't
-pub plain-line-read : (c : Parts) (l : List ℕ) (o : Option (PortId × Step)) → line_says (named_language c) l ≡ Ok o → read_worded_line c None l ≡ said_line o
-unfolding read_worded_line
-plain-line-read c l o e = line-read c l o e
+pub plain-line-read : (c : Parts) (limits : List NodeLimits) (l : List ℕ) (o : Option (PortId × Step)) → line_says (named_language c) l ≡ Ok o → read_worded_line c None limits l ≡ said_line o
+unfolding read_worded_line line_in_words
+plain-line-read c limits l o e = ap (limited_line limits) (line-read c l o e) ∙ limited-stays limits o
 
 -- ---- lines in order, each with its number
 abbrev pub lines_of : List (ℕ × (PortId × Step)) → List (ℕ × ScriptLine)
@@ -142,13 +162,13 @@ abbrev IsQuiet : Parts → Option CodedData → Type 0
 IsQuiet c None = Unit {0}
 IsQuiet c (Some k) = HasNoMarks c
 
-quiet-read : (c : Parts) (k : Option CodedData) (l : List ℕ) (o : Option (PortId × Step)) → IsQuiet c k → line_says (named_language c) l ≡ Ok o → read_worded_line c k l ≡ said_line o
-quiet-read c None l o none e = plain-line-read c l o e
-quiet-read c (Some k) l o none e = worded-line-read c k l o none e
+quiet-read : (c : Parts) (k : Option CodedData) (limits : List NodeLimits) (l : List ℕ) (o : Option (PortId × Step)) → IsQuiet c k → line_says (named_language c) l ≡ Ok o → read_worded_line c k limits l ≡ said_line o
+quiet-read c None limits l o none e = plain-line-read c limits l o e
+quiet-read c (Some k) limits l o none e = worded-line-read c k limits l o none e
 
 record SayLines (c : Parts) (n : ℕ) (ls : List (List ℕ)) (steps : List (PortId × Step)) : Type 0 where
   numbered : List (ℕ × (PortId × Step))
-  reading : (k : Option CodedData) → IsQuiet c k → read_lines c k n ls ≡ Ok (lines_of numbered)
+  reading : (k : Option CodedData) (limits : List NodeLimits) → IsQuiet c k → read_lines c k limits n ls ≡ Ok (lines_of numbered)
   steps_are : steps ≡ steps_of numbered
 
 more-steps : (c : Parts) (n : ℕ) (l : List ℕ) (ls : List (List ℕ)) (o : Option (PortId × Step)) (r : log.Steps) (steps : List (PortId × Step))
@@ -158,7 +178,7 @@ more-steps c n l ls None r steps more h e =
     let q = more steps e in
     record {
       numbered = q.numbered;
-      reading = λ k quiet. rw (quiet-read c k (strip_carriage_return l) None quiet h, q.reading k quiet) refl;
+      reading = λ k limits quiet. rw (quiet-read c k limits (strip_carriage_return l) None quiet h, q.reading k limits quiet) refl;
       steps_are = q.steps_are;
     }
 more-steps c n l ls (Some s) (Err bad) steps more h e = absurd (cc)
@@ -167,7 +187,7 @@ more-steps c n l ls (Some s) (Ok ys) steps more h e =
     let same : steps ≡ s ∷ ys = cc in
     record {
       numbered = (n, s) ∷ q.numbered;
-      reading = λ k quiet. rw (quiet-read c k (strip_carriage_return l) (Some s) quiet h, q.reading k quiet) refl;
+      reading = λ k limits quiet. rw (quiet-read c k limits (strip_carriage_return l) (Some s) quiet h, q.reading k limits quiet) refl;
       steps_are = same ∙ ap (λ ss. s ∷ ss) q.steps_are;
     }
 
@@ -178,7 +198,7 @@ lines-by c n l ls steps (Err why) more h e = let no : Err _ ≡ Ok steps = rw h 
 lines-by c n l ls steps (Ok o) more h e = more-steps c n l ls o (steps_from (named_language c) (n + 1) ls) steps more h (rw h at e)
 
 lines-say : (c : Parts) (n : ℕ) (ls : List (List ℕ)) (steps : List (PortId × Step)) → steps_from (named_language c) n ls ≡ Ok steps → SayLines c n ls steps
-lines-say c n [] steps e = record { numbered = []; reading = λ k quiet. refl; steps_are = cc }
+lines-say c n [] steps e = record { numbered = []; reading = λ k limits quiet. refl; steps_are = cc }
 lines-say c n (l ∷ ls) steps e =
     lines-by c n l ls steps (line_says (named_language c) (strip_carriage_return l)) (λ ys k. lines-say c (n + 1) ls ys k) refl e
 
@@ -288,8 +308,8 @@ named-texts c opening capacity text steps e =
     let q = lines-say c 1 (slice_split (λ b. b == 10) text) steps e in
     record {
       lines = lines_of q.numbered;
-      reading = rw (no-mark c text steps e) (q.reading None tt);
-      coded = λ none k. rw (no-mark c text steps e) (q.reading (Some k) none);
+      reading = λ limits. rw (no-mark c text steps e) (q.reading None limits tt);
+      coded = λ none k limits. rw (no-mark c text steps e) (q.reading (Some k) limits none);
       steps_alone =
           ap (λ js. with_judgements js (come_to c opening capacity (lines_of q.numbered))) (unjudged c opening capacity initial_bench q.numbered)
           ∙ ap (with_judgements []) (turns c opening capacity initial_bench q.numbered refl)

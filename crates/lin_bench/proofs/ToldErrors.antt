@@ -33,10 +33,10 @@ pub damaged-told : (c : Parts) (o cap : ℕ) (past : List LogEntry) (by : PortId
 damaged-told c o cap past by s e m = rw (finish-done c o cap past by s e m) (rw e refl)
 
 -- what is told of the slot that was finished
-pub errors-told : (core : CoreData) (by : PortId) (past : List LogEntry) (s : Slot) → HasFinished core by past s
-    → filter_map (error_told core.cluster (past_of core) (ended_slot core.cluster s)) core.cluster.errors
-    ≡ errors_told core.cluster (finish_of core past by) past true
-errors-told core by past s fin =
+pub errors-told : (core : CoreData) (by : PortId) (past : List LogEntry) (s : Slot) (offs : List ℕ) → HasFinished core by past s
+    → filter_map (error_told core.cluster (past_of core) (ended_slot core.cluster s) offs) core.cluster.errors
+    ≡ errors_told core.cluster (finish_of core past by) past offs true
+errors-told core by past s offs fin =
     rw (finished-slot core.cluster core.opening core.capacity past by s fin.slot fin.may, fin.newest) refl
 
 -- ---- the slot that was open before the newest entry
@@ -75,9 +75,9 @@ pub none-ended : (core : CoreData) (by : PortId) (past : List LogEntry) (s : Slo
 none-ended core by past s fin kept = let no = kept-shape core by past s None fin kept in absurd (cc)
 
 -- ---- what is added
-pub writes-told : (core : CoreData) (by : PortId) (past : List LogEntry) (s : Slot) (o : EndedSlot) (before after : List (PortId × Step)) → HasFinished core by past s
-    → Some o ≡ Some (ended_slot core.cluster s) → after ≡ before ++ filter_map (error_told core.cluster (past_of core) o) core.cluster.errors
-    → after ≡ before ++ errors_told core.cluster (finish_of core past by) past true
-writes-told core by past s o before after fin same is =
-    is ∙ ap (λ x. before ++ filter_map (error_told core.cluster (past_of core) x) core.cluster.errors) (some-is o (ended_slot core.cluster s) same)
-    ∙ ap (λ l. before ++ l) (errors-told core by past s fin)
+pub writes-told : (core : CoreData) (by : PortId) (past : List LogEntry) (s : Slot) (o : EndedSlot) (offs : List ℕ) (before after : List (PortId × Step)) → HasFinished core by past s
+    → Some o ≡ Some (ended_slot core.cluster s) → after ≡ before ++ filter_map (error_told core.cluster (past_of core) o offs) core.cluster.errors
+    → after ≡ before ++ errors_told core.cluster (finish_of core past by) past offs true
+writes-told core by past s o offs before after fin same is =
+    is ∙ ap (λ x. before ++ filter_map (error_told core.cluster (past_of core) x offs) core.cluster.errors) (some-is o (ended_slot core.cluster s) same)
+    ∙ ap (λ l. before ++ l) (errors-told core by past s offs fin)

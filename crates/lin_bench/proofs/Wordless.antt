@@ -36,7 +36,7 @@ no-mark F f x m one other e = elim (mark-cases f m) [
   | inr is ↦ other (sym (ap F is) ∙ e)
 ]
 
-other-word : (f g : List ℕ) (p : List ℕ → Bool) → p f ≡ true → p g ≡ false → bytes_eq f g ≡ false
+pub other-word : (f g : List ℕ) (p : List ℕ → Bool) → p f ≡ true → p g ≡ false → bytes_eq f g ≡ false
 other-word f g p holds fails = elim (bytes_eq f g) as (λ b. bytes_eq f g ≡ b → b ≡ false) [
   | true ↦ λ e. (let same : true ≡ false = sym holds ∙ ap p ((bytes_eq-Decides f g).0 e) ∙ fails in cc)
   | false ↦ λ e. refl

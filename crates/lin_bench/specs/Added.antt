@@ -1,6 +1,6 @@
 -- The steps that rules add after a finish that is done. They are told by the history with that
 -- finish and by the rules, and by nothing else.
-use Rattle.std.specs.Prelude.{ℕ, ◌==◌, ◌-◌, ◌*◌, ◌/◌, ◌&&◌, Bool, false, nat_le, nat_lt}
+use Rattle.std.specs.Prelude.{ℕ, ◌==◌, ◌-◌, ◌*◌, ◌/◌, ◌&&◌, Bool, false, nat_le, nat_lt, not}
 use Rattle.std.specs.Prelude.{if◌then◌else◌, List, [], ◌∷◌, ◌++◌, filter, flat_map, length, map}
 use Rattle.std.specs.Prelude.{slice_index, Option, Some, None, is_some}
 use Rattle.std.specs.Option.{option_map_or}
@@ -8,7 +8,7 @@ use Rattle.lin_frame.specs.Words.{numbers}
 use Rattle.lin_transport.specs.Transport.{functional}
 use Rattle.lin_parts.specs.Cluster.{nad, nodes}
 use Rattle.lin_parts.specs.declared.parts.Parts.{Parts}
-use Rattle.lin_core.specs.History.{Slot, events, finished_slot, good, time}
+use Rattle.lin_core.specs.History.{Slot, events, finished_slot, good, is_in, time}
 use Rattle.lin_core.specs.Links.{Link, put_on}
 use Rattle.lin_core.specs.Replies.{begun_on, link_at}
 use Rattle.lin_core.specs.declared.link.Direction.TheVariants.{Down, Up}
@@ -16,9 +16,9 @@ use Rattle.lin_core.specs.declared.log.LogEntry.{LogEntry}
 use Rattle.lin_core.specs.declared.port.PortId.{PortId}
 use Rattle.lin_core.specs.declared.port.PortId.TheVariants.{Bus, Host}
 use Rattle.lin_core.specs.declared.step.Step.{Step}
-use Rattle.lin_core.specs.declared.step.Step.TheVariants.{Send, Timeout}
+use Rattle.lin_core.specs.declared.step.Step.TheVariants.{Send, Timeout, Write}
 use Rattle.lin_bench.specs.Errors.{errors_told}
-use Rattle.lin_bench.specs.Rules.{after_events, kept_at, sent_at, serving}
+use Rattle.lin_bench.specs.Rules.{after_events, kept_at, limit_for, sent_at, serving}
 use Rattle.lin_bench.specs.declared.rules.Noted.{Noted}
 use Rattle.lin_bench.specs.declared.rules.Repeated.{Repeated}
 use Rattle.lin_bench.specs.declared.rules.Rules.{Rules}
@@ -42,18 +42,22 @@ links_at n = link_at n Down ∷ link_at n Up ∷ []
 abbrev pub links_in_turn : Parts → List Link
 links_in_turn c = flat_map links_at (filter (λ n. is_some (nad c n)) (numbers (nodes c)))
 
--- a message is begun on a link, and the last good frame there is so many milliseconds ago
+-- a message is begun on a link, and the last good frame there is so many microseconds ago
 abbrev pub is_given_up : Parts → List LogEntry → ℕ → Link → Bool
-is_given_up c past ms l =
+is_given_up c past us l =
     is_some (begun_on c past l.node l.dir)
-    && nat_le (1000 * ms) (time c past - last_good c past l)
+    && nat_le us (time c past - last_good c past l)
 
 abbrev pub timeout_step : Link → PortId × Step
 timeout_step l = (Bus, Timeout l.node l.dir)
 
-abbrev pub timeouts : Parts → List LogEntry → Option ℕ → List (PortId × Step)
-timeouts c past None = []
-timeouts c past (Some ms) = map timeout_step (filter (is_given_up c past ms) (links_in_turn c))
+-- likewise by the limit for the link, if there is one
+abbrev pub is_late : Parts → List LogEntry → Rules → Link → Bool
+is_late c past rules l =
+    option_map_or (λ us. is_given_up c past us l) (limit_for rules l.node l.dir) false
+
+abbrev pub timeouts : Parts → List LogEntry → Rules → List (PortId × Step)
+timeouts c past rules = map timeout_step (filter (is_late c past rules) (links_in_turn c))
 
 -- ---- messages that arrive (ISO 17987-2, functional requests go to all responders)
 abbrev pub went_to_all : Slot → Bool
@@ -76,20 +80,30 @@ times_until r time = (time - r.began) / (1000 * r.every.period_ms)
 abbrev pub has_time : ℕ → ℕ → Repeated → Bool
 has_time from to r = nat_lt (times_until r from) (times_until r to)
 
+-- a node that is off sends no message, and writes no signal
+abbrev pub is_by_off : List ℕ → Step → Bool
+is_by_off offs (Send from to message) = is_in offs from
+is_by_off offs (Write node signal value) = is_in offs node
+is_by_off offs step = false
+
+abbrev pub is_repeated : ℕ → ℕ → List ℕ → Repeated → Bool
+is_repeated from to offs r = has_time from to r && not (is_by_off offs r.every.step)
+
 abbrev pub step_to_repeat : Repeated → PortId × Step
 step_to_repeat r = (r.every.by, r.every.step)
 
 -- what has a time that isn't after a finish, and is after the one before it
 abbrev pub repeated_steps : Parts → LogEntry → List LogEntry → Rules → List (PortId × Step)
 repeated_steps c e past rules =
-    map step_to_repeat (filter (has_time (time c past) (time c (e ∷ past))) rules.everies)
+    map step_to_repeat
+    (filter (is_repeated (time c past) (time c (e ∷ past)) rules.offs) rules.everies)
 
 -- ---- the steps after a finish, in their order: what takes too long, the errors that are told, the
 -- answers whose time has come, and what is repeated
 abbrev pub added_after : Parts → LogEntry → List LogEntry → Rules → List (PortId × Step)
 added_after c e past rules =
-    timeouts c (e ∷ past) rules.limit_ms
-    ++ (errors_told c e past rules.errors
+    timeouts c (e ∷ past) rules
+    ++ (errors_told c e past rules.offs rules.errors
     ++ (map send_of (sent_at (time c (e ∷ past)) (rules_after_arrivals c e past rules).noted)
     ++ repeated_steps c e past rules))
 

@@ -1,6 +1,6 @@
 -- What a core keeps for its rules, and what making the steps that they add answers.
-use Rattle.std.specs.Prelude.{◌≡◌, Bool, true, false, ℕ, ◌<◌, ◌-◌, ◌^◌, List, [], ◌∷◌, ◌++◌, length, reverse, Option}
-use Rattle.std.specs.Prelude.{if◌then◌else◌, filter, is_some, map, slice_index, Some, None, Result, Ok, Err}
+use Rattle.std.specs.Prelude.{◌≡◌, Bool, true, false, ℕ, ◌<◌, ◌-◌, ◌^◌, ◌==◌, ◌&&◌, List, [], ◌∷◌, ◌++◌, length, reverse, Option}
+use Rattle.std.specs.Prelude.{if◌then◌else◌, filter, is_none, is_some, map, slice_index, Some, None, Result, Ok, Err}
 use Rattle.std.specs.Option.{option_map_or}
 use Rattle.lin_parts.specs.Cluster.{nad, nodes}
 use Rattle.lin_parts.specs.declared.parts.Parts.{Parts}
@@ -17,12 +17,12 @@ use Rattle.lin_core.specs.declared.port.PortId.{PortId}
 use Rattle.lin_core.specs.declared.step.Step.{Step}
 use Rattle.lin_core.specs.declared.step.Step.TheVariants.{Finish}
 use Rattle.lin_transport.specs.Transport.{looks_at}
-use Rattle.lin_bench.specs.Added.{added_after, rules_after_arrivals, is_given_up, is_good_on, last_good, links_at, rules_after, timeout_step}
+use Rattle.lin_bench.specs.Added.{added_after, rules_after_arrivals, is_good_on, is_late, last_good, links_at, rules_after, timeout_step}
 use Rattle.lin_bench.specs.Errors.{errors_told, is_damaged_seen}
 use Rattle.lin_bench.specs.Faults.{slots_finished}
 pub use Rattle.lin_bench.specs.Making.{RuledData}
-use Rattle.lin_bench.specs.Making.{IsGrown}
-use Rattle.lin_bench.specs.Slots.{past_after}
+use Rattle.lin_bench.specs.Making.{IsGrown, course_on}
+use Rattle.lin_bench.specs.Slots.{Course, past_after, with_called}
 use Rattle.lin_bench.specs.declared.ends.Ends.{Ends}
 use Rattle.lin_bench.specs.declared.fault.MakeFault.{MakeFault}
 use Rattle.lin_bench.specs.declared.fault.MakeFault.TheVariants.{LogFull, OutOfMemory}
@@ -116,10 +116,14 @@ AfterFinish core Holds =
     (by : PortId) (past : List LogEntry) (s : Slot) → HasFinished core by past s
     → Holds (finish_of core past by) past
 
+-- no transfer has a limit
+abbrev pub has_no_limit : Rules → Bool
+has_no_limit rules = is_none rules.limit && length rules.own_limits == 0
+
 -- the timeouts of the links of a node whose messages are given up
-abbrev pub timeouts_of : Parts → List LogEntry → ℕ → ℕ → List (PortId × Step)
-timeouts_of c past ms n =
-    map timeout_step (filter (is_given_up c past ms) (if is_some (nad c n) then links_at n else []))
+abbrev pub timeouts_of : Parts → List LogEntry → Rules → ℕ → List (PortId × Step)
+timeouts_of c past rules n =
+    map timeout_step (filter (is_late c past rules) (if is_some (nad c n) then links_at n else []))
 
 -- the rules of a core after the messages of a finish arrived
 abbrev pub with_arrived : RuledData → LogEntry → List LogEntry → Rules
@@ -127,7 +131,7 @@ with_arrived a e past = rules_after_arrivals a.core.cluster e past a.rules
 
 -- the steps by which errors are told after a finish, if a rule says so
 abbrev pub errors_after : RuledData → LogEntry → List LogEntry → List (PortId × Step)
-errors_after a e past = errors_told a.core.cluster e past a.rules.errors
+errors_after a e past = errors_told a.core.cluster e past a.rules.offs a.rules.errors
 
 -- what making a step answers to which no rule adds
 abbrev pub IsStepFault : MakeFault → CoreData → Type 0
@@ -156,13 +160,45 @@ abbrev pub MakesAdded : {X : Type 0} → CoreData → List (PortId × Step) → 
 MakesAdded old steps (Ok x) new = AreAdded old steps new
 MakesAdded old steps (Err fault) new = AddedFail fault old steps × IsGrown old new
 
--- what is added after a finish was made, and the answers that are noted are those that are left
+-- what is added by the history with a finish was made, and the answers that are noted are those that are left
+abbrev pub AddsFirst : {X : Type 0} → RuledData → LogEntry → List LogEntry → Result X MakeFault
+    → RuledData
+    → Type 0
+AddsFirst old e past (Ok x) new =
+    AreAdded old.core (added_after old.core.cluster e past old.rules) new.core
+    × (new.rules ≡ rules_after old.core.cluster e past old.rules)
+AddsFirst old e past (Err fault) new =
+    AddedFail fault old.core (added_after old.core.cluster e past old.rules)
+    × IsGrown old.core new.core
+
+-- the course after all steps that are added after a finish, and after those that are called for now
+abbrev pub called_on : RuledData → Course
+called_on a = with_called a.core.cluster a.core.opening a.core.capacity (course_on a)
+
+abbrev pub after_finish : RuledData → LogEntry → List LogEntry → Course
+after_finish a e past =
+    with_called a.core.cluster a.core.opening a.core.capacity (record {
+      past =
+          past_after a.core.cluster a.core.opening a.core.capacity (past_of a.core)
+          (added_after a.core.cluster e past a.rules);
+      rules = rules_after a.core.cluster e past a.rules;
+    })
+
+abbrev pub CourseFails : MakeFault → Course → Type 0
+CourseFails LogFull at = 2 ^ 32 - 1 < length at.past
+CourseFails OutOfMemory at = Unit {0}
+
+-- what is added after a finish was made, and the rules are those that are left
 abbrev pub AddsAfterFinish : {X : Type 0} → RuledData → LogEntry → List LogEntry → Result X MakeFault
     → RuledData
     → Type 0
 AddsAfterFinish old e past (Ok x) new =
-    AreAdded old.core (added_after old.core.cluster e past old.rules) new.core
-    × (new.rules ≡ rules_after old.core.cluster e past old.rules)
+    (course_on new ≡ after_finish old e past) × IsAlike old.core new.core
 AddsAfterFinish old e past (Err fault) new =
-    AddedFail fault old.core (added_after old.core.cluster e past old.rules)
-    × IsGrown old.core new.core
+    CourseFails fault (after_finish old e past) × IsGrown old.core new.core
+
+-- what is called for after the steps of a finish
+abbrev pub MakesCalled : {X : Type 0} → RuledData → Result X MakeFault → RuledData → Type 0
+MakesCalled old (Ok x) new =
+    (course_on new ≡ called_on old) × IsAlike old.core new.core
+MakesCalled old (Err fault) new = CourseFails fault (called_on old) × IsGrown old.core new.core

@@ -69,12 +69,17 @@ set_after c now o r =
 abbrev pub error_write : ErrorSignal → ℕ → PortId × Step
 error_write r n = (Host r.node, Write r.node r.signal (Scalar n))
 
-abbrev pub error_told : Parts → List LogEntry → EndedSlot → ErrorSignal → Option (PortId × Step)
-error_told c now o r = option_map (error_write r) (set_after c now o r)
+-- a node that is off sets nothing
+abbrev pub set_unless_off : Parts → List LogEntry → EndedSlot → List ℕ → ErrorSignal → Option ℕ
+set_unless_off c now o offs r = if is_in offs r.node then None else set_after c now o r
+
+abbrev pub error_told : Parts → List LogEntry → EndedSlot → List ℕ → ErrorSignal
+    → Option (PortId × Step)
+error_told c now o offs r = option_map (error_write r) (set_unless_off c now o offs r)
 
 -- the steps after a finish, by rising responder
-abbrev pub errors_told : Parts → LogEntry → List LogEntry → Bool → List (PortId × Step)
-errors_told c e past false = []
-errors_told c e past true =
+abbrev pub errors_told : Parts → LogEntry → List LogEntry → List ℕ → Bool → List (PortId × Step)
+errors_told c e past offs false = []
+errors_told c e past offs true =
     option_map_or
-    (λ s. filter_map (error_told c (e ∷ past) (ended_slot c s)) c.errors) (finished_slot e past) []
+    (λ s. filter_map (error_told c (e ∷ past) (ended_slot c s) offs) c.errors) (finished_slot e past) []

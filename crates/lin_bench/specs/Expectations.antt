@@ -146,14 +146,17 @@ data_pattern c f frame pattern =
     else Err (NoData f (data_length c frame))
 
 -- a frame, and a pattern of its data bytes, where it is said
+abbrev pub frame_with : Parts → List ℕ → List (List ℕ) → Result Condition Reason
+frame_with c f fs = do
+  frame ← frame_field c f
+  said ← pattern_fields fs
+  pattern ← data_pattern c f frame said
+  Ok (condition.Frame frame (Some pattern))
+
 abbrev pub frame_form : Parts → List (List ℕ) → List (List ℕ) → Result Condition Reason
 frame_form c all [] = Err (UnknownExpectation all)
 frame_form c all (f ∷ []) = frame_field c f >>= (λ frame. Ok (condition.Frame frame None))
-frame_form c all (f ∷ g ∷ fs) = do
-  frame ← frame_field c f
-  said ← pattern_fields (g ∷ fs)
-  pattern ← data_pattern c f frame said
-  Ok (condition.Frame frame (Some pattern))
+frame_form c all (f ∷ g ∷ fs) = frame_with c f (g ∷ fs)
 
 abbrev pub seen_form : List (List ℕ) → List (List ℕ) → Result Condition Reason
 seen_form all (word ∷ []) =

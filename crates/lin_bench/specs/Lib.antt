@@ -4,6 +4,7 @@ pub mod Errors
 pub mod Expectations
 pub mod Rules
 pub mod RuleLines
+pub mod OnLines
 pub mod Lines
 pub mod Meant
 pub mod Hints
@@ -14,6 +15,8 @@ pub mod Scripts
 pub mod Read
 pub mod Faults
 pub mod Added
+pub mod Pending
+pub mod Ons
 pub mod Slots
 pub mod Verdicts
 pub mod Searches

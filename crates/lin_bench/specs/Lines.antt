@@ -11,7 +11,8 @@ use Rattle.lin_log.specs.Said.{is_port, port_step, step_form}
 use Rattle.lin_log.specs.declared.reason.Reason.TheVariants.{Takes}
 use Rattle.lin_bench.specs.Fields.{◌>>=◌, bytes_fields, count_field, line_fields, node_field, of_step}
 use Rattle.lin_bench.specs.Expectations.{expectation, until_form, while_form}
-use Rattle.lin_bench.specs.RuleLines.{errors_form, every_form, services_form, state_form, timeouts_form, when_form}
+use Rattle.lin_bench.specs.OnLines.{on_form}
+use Rattle.lin_bench.specs.RuleLines.{errors_form, every_form, services_form, power_form, state_form, timeouts_form, when_form}
 use Rattle.lin_bench.specs.declared.reason.Reason.{Reason}
 use Rattle.lin_bench.specs.declared.reason.Reason.TheVariants.{Step, SlotsForm, SlotForm}
 use Rattle.lin_bench.specs.declared.reason.Reason.TheVariants.{LeaveForm, SlotsLeaveForm}
@@ -121,13 +122,15 @@ abbrev pub rule_or_step_form : Parts → List ℕ → List (List ℕ) → Result
 rule_or_step_form c word fs =
     if bytes_eq word (codes "when") then when_form c fs >>= (λ rule. Ok (line.Rule rule))
     else if bytes_eq word (codes "timeouts")
-    then timeouts_form fs >>= (λ rule. Ok (line.Rule rule))
+    then timeouts_form c fs >>= (λ rule. Ok (line.Rule rule))
     else if bytes_eq word (codes "every") then every_form c fs >>= (λ rule. Ok (line.Rule rule))
     else if bytes_eq word (codes "services")
     then services_form c fs >>= (λ rule. Ok (line.Rule rule))
     else if bytes_eq word (codes "response_errors")
     then errors_form c fs >>= (λ rule. Ok (line.Rule rule))
     else if bytes_eq word (codes "state") then state_form c fs >>= (λ rule. Ok (line.Rule rule))
+    else if bytes_eq word (codes "node") then power_form c fs >>= (λ rule. Ok (line.Rule rule))
+    else if bytes_eq word (codes "on") then on_form c fs >>= (λ rule. Ok (line.Rule rule))
     else of_step (step_form (named_language c) word fs) >>= (λ step. Ok (line.Step Bus step))
 
 -- what a line says, by its first field and those after it

@@ -7,11 +7,11 @@ use Rattle.lin_core.specs.History.{time}
 use Rattle.lin_core.specs.declared.log.LogEntry.{LogEntry}
 use Rattle.lin_core.specs.declared.port.PortId.{PortId}
 use Rattle.lin_core.specs.declared.step.Step.{Step}
+pub use Rattle.lin_bench.specs.Ons.{condition_begun}
+use Rattle.lin_bench.specs.Ons.{begun_rule}
 use Rattle.lin_bench.specs.Rules.{has_rule, ruled}
 use Rattle.lin_bench.specs.Slots.{Course, course_after, extent_steps, most, ended_slot_count}
-use Rattle.lin_bench.specs.Verdicts.{all_taken, kind_taken, next_event, taking, value_seen, verdict}
-use Rattle.lin_bench.specs.declared.expected.Condition.{Condition}
-use Rattle.lin_bench.specs.declared.expected.Condition.TheVariants as condition
+use Rattle.lin_bench.specs.Verdicts.{all_taken, kind_taken, next_event, taking, verdict}
 use Rattle.lin_bench.specs.declared.expected.Expected.{Expected}
 use Rattle.lin_bench.specs.declared.expected.Expected.TheVariants as expected
 use Rattle.lin_bench.specs.declared.got.Got.{Got}
@@ -42,11 +42,6 @@ course_of b = record { past = b.past; rules = b.rules }
 
 -- what is expected of a line that begins in this history: a signal is to change from the value that it
 -- has now
-abbrev pub condition_begun : Parts → List LogEntry → Condition → Condition
-condition_begun c past (condition.Changed node signal first) =
-    condition.Changed node signal (value_seen c past node signal)
-condition_begun c past what = what
-
 abbrev pub expected_begun : Parts → List LogEntry → Expected → Expected
 expected_begun c past (expected.Is what) = expected.Is (condition_begun c past what)
 expected_begun c past (expected.Not what) = expected.Not (condition_begun c past what)
@@ -147,7 +142,7 @@ forgotten b = record b { taken = all_taken b.past }
 
 -- a bench with one more rule, which is in force for the lines after it
 abbrev pub with_rule : Parts → BenchState → Rule → BenchState
-with_rule c b r = record b { rules = ruled (time c b.past) b.rules r }
+with_rule c b r = record b { rules = ruled (time c b.past) b.rules (begun_rule c b.past r) }
 
 -- the end of rules is a check only where there is no such rule
 abbrev pub ended_verdict : Bool → RuleEnd → Verdict

@@ -12,19 +12,23 @@ use Rattle.lin_values.specs.Coded.{CodedData}
 use Rattle.lin_bench.specs.Scripts.{read}
 use Rattle.lin_bench.specs.Played.{initial_bench, play_result}
 use Rattle.lin_bench.specs.declared.line.ScriptLine.{ScriptLine}
+use Rattle.lin_bench.specs.declared.rules.NodeLimits.{NodeLimits}
 
 -- no signal is called `=` or `~`, as no identifier is (LIN 2.2A, section 9.2)
 pub record HasNoMarks (c : Parts) : Type 0 where
   pub equals : number_named (named_language c).signals (codes "=") ≡ None
   pub tilde : number_named (named_language c).signals (codes "~") ≡ None
 
--- a bench script that reads well, also where what signals mean is known, whose lines come to these
+-- a bench script that reads well, also where what signals mean is known, and whatever the limits of transfers
+-- in the LDF are, whose lines come to these
 -- steps and to nothing else: they make no slot of their own and expect nothing
 pub record SaysSteps (c : Parts) (opening : ℕ) (capacity : ℕ) (text : List ℕ)
     (steps : List (PortId × Step)) : Type 0 where
   pub lines : List (ℕ × ScriptLine)
-  pub reading : read c None text ≡ Ok lines
-  pub coded : HasNoMarks c → (k : CodedData) → read c (Some k) text ≡ Ok lines
+  pub reading : (limits : List NodeLimits) → read c None limits text ≡ Ok lines
+  pub coded
+      : HasNoMarks c → (k : CodedData) (limits : List NodeLimits)
+      → read c (Some k) limits text ≡ Ok lines
   pub steps_alone :
       play_result false c opening capacity lines
       ≡ Ok (record {

@@ -9,6 +9,7 @@ use Rattle.lin_bench.specs.declared.fault.ReadFault.TheVariants.{BadLine, OutOfM
 use Rattle.lin_bench.specs.declared.line.ScriptLine.{ScriptLine}
 use Rattle.lin_bench.specs.declared.reason.Reason.{Reason}
 use Rattle.lin_bench.specs.declared.reason.Reason.TheVariants.{Step}
+use Rattle.lin_bench.specs.declared.rules.NodeLimits.{NodeLimits}
 use Rattle.lin_bench.specs.declared.script.LinesLeft.{LinesLeft}
 use Rattle.lin_values.specs.Coded.{CodedData}
 use Rattle.lin_bench.specs.Scripts.{Script, read_lines, with_line}
@@ -43,8 +44,8 @@ ReadsBenchScript view (Ok x) said = said ≡ Ok (view x)
 ReadsBenchScript view (Err e) said = ReadFails e said
 
 -- what the lines that are left say
-abbrev pub script_left : Parts → Option CodedData → LinesLeft → Script
-script_left c k lines = read_lines c k lines.number (lines_left lines.left)
+abbrev pub script_left : Parts → Option CodedData → List NodeLimits → LinesLeft → Script
+script_left c k limits lines = read_lines c k limits lines.number (lines_left lines.left)
 
 -- what asking for the next line answers: of what the lines said, and of what those after it say
 abbrev pub NextLine : Result (Option (ℕ × ScriptLine)) ReadFault → Script → Script → Type 0

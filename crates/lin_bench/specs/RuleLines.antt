@@ -6,7 +6,7 @@ use Rattle.std.specs.List.{list_all, slice_split}
 use Rattle.std.specs.Option.{option_map_or}
 use Rattle.std.specs.Str.{bytes_eq}
 use Rattle.hex.specs.Hex.{hex_digit_value}
-use Rattle.lin_parts.specs.Cluster.{nad, signal_of}
+use Rattle.lin_parts.specs.Cluster.{nad, nodes, signal_of}
 use Rattle.lin_parts.specs.declared.parts.ErrorSignal.{ErrorSignal}
 use Rattle.lin_parts.specs.declared.parts.Parts.{Parts}
 use Rattle.lin_core.specs.declared.port.PortId.{PortId}
@@ -23,6 +23,7 @@ use Rattle.lin_bench.specs.declared.reason.Reason.TheVariants.{Step as BadStep, 
 use Rattle.lin_bench.specs.declared.reason.Reason.TheVariants.{NoPattern, TimeoutsForm, EveryForm}
 use Rattle.lin_bench.specs.declared.reason.Reason.TheVariants.{EveryStep, ErrorsForm, NoErrorSignal}
 use Rattle.lin_bench.specs.declared.reason.Reason.TheVariants.{NoName, NoServices, ServicesForm, StateForm}
+use Rattle.lin_bench.specs.declared.reason.Reason.TheVariants.{NodeForm, NotResponder}
 use Rattle.lin_bench.specs.declared.reason.Reason.TheVariants.{LongAnswer, WideErrorSignal}
 use Rattle.lin_bench.specs.declared.rules.RuleAnswer.{RuleAnswer}
 use Rattle.lin_bench.specs.declared.rules.Part.{Part}
@@ -254,15 +255,31 @@ when_fields c (n ∷ fs) =
 unfoldable pub when_form : Parts → List (List ℕ) → Result Rule Reason
 when_form c fs = if is_only (codes "off") fs then Ok rule.WhenOff else when_fields c fs
 
--- ---- `timeouts`
-abbrev pub timeouts_fields : List (List ℕ) → Result Rule Reason
-timeouts_fields (f ∷ unit ∷ []) =
-    if bytes_eq unit (codes "ms") then count_field f >>= (λ n. Ok (rule.Timeouts n))
+-- ---- `timeouts`: a limit of all responders, those of an LDF, which aren't known here, or that of one
+abbrev pub timeouts_of_all : Parts → List ℕ → List ℕ → Result Rule Reason
+timeouts_of_all c f word =
+    if bytes_eq word (codes "ms") then count_field f >>= (λ n. Ok (rule.Timeouts n))
+    else if bytes_eq word (codes "off")
+    then responder_field c f >>= (λ node. Ok (rule.TimeoutsOf node None))
     else Err TimeoutsForm
-timeouts_fields fs = Err TimeoutsForm
 
-unfoldable pub timeouts_form : List (List ℕ) → Result Rule Reason
-timeouts_form fs = if is_only (codes "off") fs then Ok rule.TimeoutsOff else timeouts_fields fs
+abbrev pub timeouts_of_one : Parts → List ℕ → List ℕ → Result Rule Reason
+timeouts_of_one c n f = do
+  node ← responder_field c n
+  limit ← count_field f
+  Ok (rule.TimeoutsOf node (Some limit))
+
+abbrev pub timeouts_fields : Parts → List (List ℕ) → Result Rule Reason
+timeouts_fields c (f ∷ word ∷ []) = timeouts_of_all c f word
+timeouts_fields c (n ∷ f ∷ unit ∷ []) =
+    if bytes_eq unit (codes "ms") then timeouts_of_one c n f else Err TimeoutsForm
+timeouts_fields c fs = Err TimeoutsForm
+
+unfoldable pub timeouts_form : Parts → List (List ℕ) → Result Rule Reason
+timeouts_form c fs =
+    if is_only (codes "off") fs then Ok rule.TimeoutsOff
+    else if is_only (codes "ldf") fs then Ok (rule.TimeoutsLdf [])
+    else timeouts_fields c fs
 
 -- ---- `every`
 abbrev pub sends_or_writes : PortId × Step → Result (PortId × Step) Reason
@@ -340,3 +357,23 @@ state_of_node c n f = do
 unfoldable pub state_form : Parts → List (List ℕ) → Result Rule Reason
 state_form c (n ∷ f ∷ []) = state_of_node c n f
 state_form c fs = Err StateForm
+
+-- ---- `node`: a responder, with an address or without, has power or has none
+abbrev pub any_responder_field : Parts → List ℕ → Result ℕ Reason
+any_responder_field c f =
+    node_field c f
+    >>= (λ node. if nat_lt 0 node && nat_lt node (nodes c) then Ok node else Err (NotResponder f))
+
+abbrev pub is_on_word : List ℕ → Option Bool
+is_on_word word =
+    if bytes_eq word (codes "on") then Some true
+    else if bytes_eq word (codes "off") then Some false
+    else None
+
+abbrev pub power_of_node : Parts → List ℕ → Option Bool → Result Rule Reason
+power_of_node c n None = Err NodeForm
+power_of_node c n (Some is_on) = any_responder_field c n >>= (λ node. Ok (rule.Power node is_on))
+
+unfoldable pub power_form : Parts → List (List ℕ) → Result Rule Reason
+power_form c (n ∷ word ∷ []) = power_of_node c n (is_on_word word)
+power_form c fs = Err NodeForm

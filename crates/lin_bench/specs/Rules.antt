@@ -12,8 +12,13 @@ use Rattle.lin_frame.specs.declared.value.Value.{Value}
 use Rattle.lin_frame.specs.declared.value.Value.TheVariants.{Scalar, Bytes}
 use Rattle.lin_parts.specs.Cluster.{nad, response_of}
 use Rattle.lin_parts.specs.declared.parts.Parts.{Parts}
+use Rattle.lin_core.specs.History.{is_in}
+use Rattle.lin_core.specs.Tables.{look_number}
 use Rattle.lin_core.specs.declared.event.Event.{Event}
 use Rattle.lin_core.specs.declared.event.Event.TheVariants.{Message}
+use Rattle.lin_core.specs.declared.event.Look.{Look}
+use Rattle.lin_core.specs.declared.link.Direction.{Direction}
+use Rattle.lin_core.specs.declared.link.Direction.TheVariants.{Down, Up}
 use Rattle.lin_core.specs.declared.port.PortId.{PortId}
 use Rattle.lin_core.specs.declared.port.PortId.TheVariants.{Bus, Host, Node}
 use Rattle.lin_core.specs.declared.step.Step.{Step}
@@ -21,9 +26,19 @@ use Rattle.lin_core.specs.declared.step.Step.TheVariants.{Send, Write}
 use Rattle.lin_bench.specs.declared.rules.RuleAnswer.{RuleAnswer}
 use Rattle.lin_bench.specs.declared.rules.Noted.{Noted}
 use Rattle.lin_bench.specs.declared.rules.NodeState.{NodeState}
+use Rattle.lin_bench.specs.declared.rules.Limit.{Limit}
+use Rattle.lin_bench.specs.declared.rules.Limit.TheVariants.{Ldf, Milliseconds}
+use Rattle.lin_bench.specs.declared.rules.NodeLimits.{NodeLimits}
+use Rattle.lin_bench.specs.declared.rules.OwnLimit.{OwnLimit}
 use Rattle.lin_bench.specs.declared.rules.Part.{Part}
 use Rattle.lin_bench.specs.declared.rules.Part.TheVariants.{Byte, Copied}
+use Rattle.lin_log.specs.declared.line_words.Carried.{Carried}
+use Rattle.lin_log.specs.declared.line_words.Carried.TheVariants.{Signals, Request as RequestFrame, Response}
 use Rattle.lin_log.specs.declared.pattern.Pattern.{Pattern}
+use Rattle.lin_bench.specs.declared.expected.Condition.{Condition}
+use Rattle.lin_bench.specs.declared.expected.Condition.TheVariants as condition
+use Rattle.lin_bench.specs.declared.rules.Form.{Form}
+use Rattle.lin_bench.specs.declared.rules.Watched.{Watched}
 use Rattle.lin_bench.specs.declared.rules.Repeated.{Repeated}
 use Rattle.lin_bench.specs.declared.rules.Rule.{Rule}
 use Rattle.lin_bench.specs.declared.rules.Rule.TheVariants as rule
@@ -36,11 +51,14 @@ use Rattle.lin_bench.specs.declared.rules.When.{When}
 abbrev pub no_rules : Rules
 no_rules = record {
   whens = [];
-  limit_ms = None;
+  limit = None;
+  own_limits = [];
   everies = [];
+  ons = [];
   errors = false;
   services = false;
   states = [];
+  offs = [];
   noted = [];
   faults = [];
 }
@@ -201,7 +219,7 @@ all_noted noted (n ∷ ns) = all_noted (noted_with noted n) ns
 
 -- ---- what an event of a finish at a time changes: a message from host 0 is answered by the rule for it,
 -- and its responder enters the state that the rule names; if no rule is for it, the responder answers by
--- itself. A message to all responders isn't answered
+-- itself. A message to all responders isn't answered, and one to a responder that is off changes nothing
 abbrev pub states_after_entering : List NodeState → ℕ → Option (List ℕ) → List NodeState
 states_after_entering states node None = states
 states_after_entering states node (Some name) = with_state states node name
@@ -224,7 +242,9 @@ rules_after_message served is_to_all time rules node message =
 
 abbrev pub after_event : Option Parts → Bool → ℕ → Rules → Event → Rules
 after_event served is_to_all time rules (Message from to message) =
-    if from == 0 then rules_after_message served is_to_all time rules to message else rules
+    if from == 0 && not (is_in rules.offs to)
+    then rules_after_message served is_to_all time rules to message
+    else rules
 after_event served is_to_all time rules event = rules
 
 -- and what all events change, each on what those before it left
@@ -270,8 +290,8 @@ abbrev pub whens_with : List When → When → List When
 whens_with [] w = w ∷ []
 whens_with (v ∷ vs) w = if same_rule w v then w ∷ vs else v ∷ whens_with vs w
 
--- ---- the end of single rules: the rule of a node for a state and a pattern, all rules of a node, or each
--- step that is repeated by this port
+-- ---- the end of single rules: the rule of a node for a state and a pattern, all rules of a node, each step
+-- that is repeated by this port, or each step that a form calls for
 abbrev pub same_port : PortId → PortId → Bool
 same_port Bus Bus = true
 same_port (Host m) (Host n) = m == n
@@ -297,36 +317,161 @@ same_step (Send from to message) other = is_send from to message other
 same_step (Write node signal value) other = is_write node signal value other
 same_step step other = false
 
+-- ---- the same form: that the same condition holds, or doesn't. Where words say values, they are the same
+abbrev pub same_frame : Carried → Carried → Bool
+same_frame (Signals f) (Signals g) = f == g
+same_frame RequestFrame RequestFrame = true
+same_frame Response Response = true
+same_frame frame other = false
+
+abbrev pub same_data : Option Pattern → Option Pattern → Bool
+same_data None None = true
+same_data None (Some b) = false
+same_data (Some a) None = false
+same_data (Some a) (Some b) = same_pattern a b
+
+abbrev pub is_value_of : ℕ → ℕ → Value → Condition → Bool
+is_value_of node signal value (condition.Signal n s v) = node == n && signal == s && same_value value v
+is_value_of node signal value other = false
+
+abbrev pub is_value_within : ℕ → ℕ → ℕ → ℕ → Condition → Bool
+is_value_within node signal low high (condition.SignalWithin n s l h) =
+    node == n && signal == s && low == l && high == h
+is_value_within node signal low high other = false
+
+abbrev pub is_meant_by : ℕ → ℕ → List ℕ → Condition → Bool
+is_meant_by node signal text (condition.SignalMeans n s t values) =
+    node == n && signal == s && bytes_eq text t
+is_meant_by node signal text other = false
+
+abbrev pub is_look : Look → Condition → Bool
+is_look how (condition.Seen l) = look_number how == look_number l
+is_look how other = false
+
+abbrev pub is_pattern_of : Carried → Option Pattern → Condition → Bool
+is_pattern_of frame pattern (condition.Frame f p) = same_frame frame f && same_data pattern p
+is_pattern_of frame pattern other = false
+
+abbrev pub is_entry : ℕ → ℕ → Condition → Bool
+is_entry table entry (condition.Slot t e) = table == t && entry == e
+is_entry table entry other = false
+
+abbrev pub is_change_of : ℕ → ℕ → Condition → Bool
+is_change_of node signal (condition.Changed n s first) = node == n && signal == s
+is_change_of node signal other = false
+
+abbrev pub same_condition : Condition → Condition → Bool
+same_condition (condition.Signal node signal value) other = is_value_of node signal value other
+same_condition (condition.SignalWithin node signal low high) other =
+    is_value_within node signal low high other
+same_condition (condition.SignalMeans node signal text values) other = is_meant_by node signal text other
+same_condition (condition.Seen how) other = is_look how other
+same_condition (condition.Frame frame pattern) other = is_pattern_of frame pattern other
+same_condition (condition.Slot table entry) other = is_entry table entry other
+same_condition (condition.Changed node signal first) other = is_change_of node signal other
+same_condition what other = false
+
+abbrev pub same_form : Form → Form → Bool
+same_form f g = (if f.wanted then g.wanted else not g.wanted) && same_condition f.what g.what
+
 abbrev pub is_ended_when : RuleEnd → When → Bool
 is_ended_when (end.When node state pattern) w =
     w.node == node && same_state w.state state && same_pattern w.pattern pattern
 is_ended_when (end.WhensOf node) w = w.node == node
-is_ended_when (end.Every by step) w = false
+is_ended_when ending w = false
 
 abbrev pub is_ended_every : RuleEnd → Repeated → Bool
 is_ended_every (end.Every by step) r = same_port r.every.by by && same_step r.every.step step
 is_ended_every ending r = false
 
+abbrev pub is_ended_on : RuleEnd → Watched → Bool
+is_ended_on (end.On form) w = same_form w.on.form form
+is_ended_on ending w = false
+
 abbrev pub has_rule : Rules → RuleEnd → Bool
-has_rule rules e = list_any (is_ended_when e) rules.whens || list_any (is_ended_every e) rules.everies
+has_rule rules e =
+    list_any (is_ended_when e) rules.whens
+    || (list_any (is_ended_every e) rules.everies || list_any (is_ended_on e) rules.ons)
 
 abbrev pub without_rule : Rules → RuleEnd → Rules
 without_rule rules e = record rules {
   whens = filter (λ w. not (is_ended_when e w)) rules.whens;
   everies = filter (λ r. not (is_ended_every e r)) rules.everies;
+  ons = filter (λ w. not (is_ended_on e w)) rules.ons;
 }
 
--- the rules after a line that is made at a time. What is noted stays, and so do states
+-- ---- limits of transfers (ISO 17987-2, N_As and N_Cr): in microseconds that of a message to a responder, and
+-- of one from it, which an LDF may have (LIN 2.2A, 9.2.2.2); without that a second
+abbrev pub one_way : Direction → NodeLimits → ℕ
+one_way Down l = l.down_us
+one_way Up l = l.up_us
+
+abbrev pub ldf_limit : List NodeLimits → ℕ → Direction → ℕ
+ldf_limit limits node dir =
+    option_map_or (one_way dir) (find (λ l. l.node == node) limits) 1000000
+
+abbrev pub limit_us : ℕ → Direction → Limit → ℕ
+limit_us node dir (Milliseconds ms) = 1000 * ms
+limit_us node dir (Ldf limits) = ldf_limit limits node dir
+
+-- the limit of all responders, and those of single ones, which go before it
+abbrev pub is_limit_of : ℕ → OwnLimit → Bool
+is_limit_of node o = o.node == node
+
+abbrev pub own_limit_us : OwnLimit → Option ℕ
+own_limit_us o = option_map (λ ms. 1000 * ms) o.limit_ms
+
+abbrev pub limit_for : Rules → ℕ → Direction → Option ℕ
+limit_for rules node dir =
+    option_map_or own_limit_us (find (is_limit_of node) rules.own_limits)
+    (option_map (limit_us node dir) rules.limit)
+
+abbrev pub with_own_limit : List OwnLimit → ℕ → Option ℕ → List OwnLimit
+with_own_limit own node limit =
+    filter (λ o. not (is_limit_of node o)) own ++ record { node = node; limit_ms = limit } ∷ []
+
+-- the limit of all responders ends those of single ones
+abbrev pub with_limit : Rules → Option Limit → Rules
+with_limit rules limit = record rules { limit = limit; own_limits = [] }
+
+-- ---- responders that are off. By that a responder loses its noted answers, and its state is `default`
+abbrev pub without_node : List ℕ → ℕ → List ℕ
+without_node nodes node = filter (λ n. not (n == node)) nodes
+
+abbrev pub is_noted_of : ℕ → Noted → Bool
+is_noted_of node m = m.node == node
+
+abbrev pub switched_off : Rules → ℕ → Rules
+switched_off rules node = record rules {
+  states = with_state rules.states node default_state;
+  offs = without_node rules.offs node ++ node ∷ [];
+  noted = filter (λ m. not (is_noted_of node m)) rules.noted;
+}
+
+abbrev pub switched_on : Rules → ℕ → Rules
+switched_on rules node = record rules { offs = without_node rules.offs node }
+
+abbrev pub with_power : Rules → ℕ → Bool → Rules
+with_power rules node is_on = if is_on then switched_on rules node else switched_off rules node
+
+-- the rules after a line that is made at a time. What is noted stays, and so do states, unless a responder
+-- loses its power
 unfoldable pub ruled : ℕ → Rules → Rule → Rules
 ruled time rules (rule.When w) = record rules { whens = whens_with rules.whens w }
 ruled time rules rule.WhenOff = record rules { whens = [] }
-ruled time rules (rule.Timeouts ms) = record rules { limit_ms = Some ms }
-ruled time rules rule.TimeoutsOff = record rules { limit_ms = None }
+ruled time rules (rule.Timeouts ms) = with_limit rules (Some (Milliseconds ms))
+ruled time rules (rule.TimeoutsLdf limits) = with_limit rules (Some (Ldf limits))
+ruled time rules rule.TimeoutsOff = with_limit rules None
+ruled time rules (rule.TimeoutsOf node limit) =
+    record rules { own_limits = with_own_limit rules.own_limits node limit }
 ruled time rules (rule.Every every) =
     record rules { everies = rules.everies ++ record { began = time; every = every } ∷ [] }
 ruled time rules rule.EveryOff = record rules { everies = [] }
+ruled time rules (rule.On w) = record rules { ons = rules.ons ++ w ∷ [] }
+ruled time rules rule.OnOff = record rules { ons = [] }
 ruled time rules (rule.Errors on) = record rules { errors = on }
 ruled time rules (rule.Services on) = record rules { services = on }
 ruled time rules (rule.End e) = without_rule rules e
 ruled time rules (rule.State node name) =
     record rules { states = with_state rules.states node name }
+ruled time rules (rule.Power node is_on) = with_power rules node is_on

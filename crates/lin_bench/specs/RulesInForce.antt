@@ -8,12 +8,18 @@ use Rattle.lin_parts.specs.Cluster.{nodes}
 use Rattle.lin_parts.specs.declared.parts.Parts.{Parts}
 use Rattle.lin_core.specs.declared.port.PortId.{PortId}
 use Rattle.lin_core.specs.declared.port.PortId.TheVariants.{Bus}
+use Rattle.lin_core.specs.History.{is_in}
 use Rattle.lin_log.specs.Language.{named_language}
 use Rattle.lin_log.specs.Words.{pattern_word, spaced_word, step_words, word_text}
 use Rattle.lin_log.specs.Words.Word.{Node, Port}
-use Rattle.lin_bench.specs.Rules.{is_state_of}
+use Rattle.lin_bench.specs.Rules.{is_limit_of, is_state_of}
+use Rattle.lin_bench.specs.Texts.{cluster_text, condition_words}
 use Rattle.lin_bench.specs.declared.rules.Every.{Every}
+use Rattle.lin_bench.specs.declared.rules.Limit.{Limit}
+use Rattle.lin_bench.specs.declared.rules.Limit.TheVariants.{Ldf, Milliseconds}
 use Rattle.lin_bench.specs.declared.rules.NodeState.{NodeState}
+use Rattle.lin_bench.specs.declared.rules.On.{On}
+use Rattle.lin_bench.specs.declared.rules.OwnLimit.{OwnLimit}
 use Rattle.lin_bench.specs.declared.rules.Part.{Part}
 use Rattle.lin_bench.specs.declared.rules.Part.TheVariants.{Byte, Copied}
 use Rattle.lin_bench.specs.declared.rules.RuleAnswer.{RuleAnswer}
@@ -77,6 +83,14 @@ every_line c e =
     time_text (codes "every ") e.period_ms
     ++ (port_text c e.by ++ flat_map spaced_word (map (word_text (named_language c)) (step_words e.step)))
 
+-- ---- `on`
+abbrev pub on_line : Parts → On → List ℕ
+on_line c o =
+    codes "on "
+    ++ (cluster_text c (condition_words o.form.wanted o.form.what)
+    ++ (codes " do"
+    ++ (port_text c o.by ++ flat_map spaced_word (map (word_text (named_language c)) (step_words o.step)))))
+
 -- ---- `state`: those that aren't `default`, by rising node
 abbrev pub state_line : Parts → NodeState → List ℕ
 state_line c s =
@@ -88,6 +102,34 @@ state_lines_of c states n = option_map_or (λ s. state_line c s ∷ []) (find (i
 abbrev pub state_lines : Parts → List NodeState → List (List ℕ)
 state_lines c states = flat_map (state_lines_of c states) (numbers (nodes c))
 
+-- ---- `timeouts` of single responders, by rising node
+abbrev pub limit_text : Option ℕ → List ℕ
+limit_text None = codes " off"
+limit_text (Some ms) = time_text (codes " ") ms
+
+abbrev pub own_limit_line : Parts → OwnLimit → List ℕ
+own_limit_line c o =
+    codes "timeouts"
+    ++ (spaced_word (word_text (named_language c) (Node o.node)) ++ limit_text o.limit_ms)
+
+abbrev pub own_limit_lines_of : Parts → List OwnLimit → ℕ → List (List ℕ)
+own_limit_lines_of c own n =
+    option_map_or (λ o. own_limit_line c o ∷ []) (find (is_limit_of n) own) []
+
+abbrev pub own_limit_lines : Parts → List OwnLimit → List (List ℕ)
+own_limit_lines c own = flat_map (own_limit_lines_of c own) (numbers (nodes c))
+
+-- ---- the nodes that are off, by rising node
+abbrev pub off_line : Parts → ℕ → List ℕ
+off_line c node =
+    codes "node" ++ (spaced_word (word_text (named_language c) (Node node)) ++ codes " off")
+
+abbrev pub off_lines_of : Parts → List ℕ → ℕ → List (List ℕ)
+off_lines_of c offs n = if is_in offs n then off_line c n ∷ [] else []
+
+abbrev pub off_lines : Parts → List ℕ → List (List ℕ)
+off_lines c offs = flat_map (off_lines_of c offs) (numbers (nodes c))
+
 -- ---- all of them
 -- the line of a rule, as code has it
 abbrev pub rule_line : Parts → RuleLine → List ℕ
@@ -95,11 +137,15 @@ rule_line c (code.When w) = when_line c w.now
 rule_line c (code.Timeouts ms) = time_text (codes "timeouts ") ms
 rule_line c (code.Switch line) = line.now
 rule_line c (code.Every e) = every_line c e.now
+rule_line c (code.On o) = on_line c o.now
 rule_line c (code.State s) = state_line c s.now
+rule_line c (code.OwnLimit o) = own_limit_line c o
+rule_line c (code.Off node) = off_line c node
 
-abbrev pub timeouts_lines : Option ℕ → List (List ℕ)
+abbrev pub timeouts_lines : Option Limit → List (List ℕ)
 timeouts_lines None = []
-timeouts_lines (Some ms) = time_text (codes "timeouts ") ms ∷ []
+timeouts_lines (Some (Milliseconds ms)) = time_text (codes "timeouts ") ms ∷ []
+timeouts_lines (Some (Ldf limits)) = codes "timeouts ldf" ∷ []
 
 -- a line that stands where something is on
 abbrev pub line_if : Bool → List ℕ → List (List ℕ)
@@ -111,6 +157,9 @@ switch_lines r =
 
 abbrev pub lines_of_rules : Parts → Rules → List (List ℕ)
 lines_of_rules c r =
-    (((map (when_line c) r.whens ++ timeouts_lines r.limit_ms) ++ switch_lines r)
+    ((((((map (when_line c) r.whens ++ timeouts_lines r.limit) ++ own_limit_lines c r.own_limits)
+    ++ switch_lines r)
     ++ map (λ repeated. every_line c repeated.every) r.everies)
-    ++ state_lines c r.states
+    ++ map (λ watched. on_line c watched.on) r.ons)
+    ++ state_lines c r.states)
+    ++ off_lines c r.offs

@@ -2,12 +2,12 @@
 -- before them: the entries of a log, the newest first.
 use Rattle.std.specs.Prelude.{ℕ, suc, zero, ◌+◌, ◌-◌, ◌*◌, ◌==◌, Bool, true, false, not, ◌&&◌, ◌||◌}
 use Rattle.std.specs.Prelude.{nat_lt, if◌then◌else◌, List, [], ◌∷◌, ◌++◌, map, filter, length}
-use Rattle.std.specs.Prelude.{count_by, Option, Some, None}
+use Rattle.std.specs.Prelude.{is_some, Option, Some, None}
 use Rattle.std.specs.List.{list_any, filter_map}
 use Rattle.lin_frame.specs.Words.{numbers}
 use Rattle.lin_parts.specs.Cluster.{nodes}
 use Rattle.lin_parts.specs.declared.parts.Parts.{Parts}
-use Rattle.lin_core.specs.History.{is_finish, is_in, time}
+use Rattle.lin_core.specs.History.{finished_slot, is_finish, is_in, time}
 use Rattle.lin_core.specs.Links.{waiting}
 use Rattle.lin_core.specs.Replies.{reply}
 use Rattle.lin_core.specs.Runs.{entry_of}
@@ -21,14 +21,13 @@ use Rattle.lin_core.specs.declared.reply.Reply.TheVariants.{Done, Refused}
 use Rattle.lin_core.specs.declared.step.Step.{Step}
 use Rattle.lin_core.specs.declared.step.Step.TheVariants.{Open, Answer, Leave, Hurt, Finish}
 use Rattle.lin_bench.specs.Added.{added_steps, rules_after}
+use Rattle.lin_bench.specs.Ons.{after_look, reactions}
+pub use Rattle.lin_bench.specs.Pending.{hosts_waiting, nodes_noted, pending}
 use Rattle.lin_bench.specs.Faults.{disturbed_steps, struck}
-use Rattle.lin_bench.specs.declared.got.Pending.{Pending}
-use Rattle.lin_bench.specs.declared.got.Pending.TheVariants.{MessagesWait, AnswersNoted}
 use Rattle.lin_bench.specs.declared.line.Disturbance.{Disturbance}
 use Rattle.lin_bench.specs.declared.line.Disturbance.TheVariants as slot
 use Rattle.lin_bench.specs.declared.line.Extent.{Extent}
 use Rattle.lin_bench.specs.declared.line.Extent.TheVariants as slots
-use Rattle.lin_bench.specs.declared.rules.Noted.{Noted}
 use Rattle.lin_bench.specs.declared.rules.Rules.{Rules}
 
 -- the history after more steps
@@ -42,12 +41,28 @@ pub record Course : Type 0 where
   pub past : List LogEntry
   pub rules : Rules
 
--- an entry, and after it the steps that the rules add, which add nothing themselves
-abbrev pub with_entry : Parts → ℕ → ℕ → Course → LogEntry → Course
-with_entry c opening capacity at e = record {
+-- an entry, and after it the steps that the rules add, which add nothing themselves: first those that the
+-- history with the entry tells
+abbrev pub first_added : Parts → ℕ → ℕ → Course → LogEntry → Course
+first_added c opening capacity at e = record {
   past = past_after c opening capacity (e ∷ at.past) (added_steps c e at.past at.rules);
   rules = rules_after c e at.past at.rules;
 }
+
+-- and then, after a finish, those that signals and frames call for, as they are after these
+abbrev pub with_called : Parts → ℕ → ℕ → Course → Course
+with_called c opening capacity at = record {
+  past = past_after c opening capacity at.past (reactions c at.past at.rules);
+  rules = after_look c at.past at.rules;
+}
+
+abbrev pub called_if : Parts → ℕ → ℕ → Bool → Course → Course
+called_if c opening capacity finishes at =
+    if finishes then with_called c opening capacity at else at
+
+abbrev pub with_entry : Parts → ℕ → ℕ → Course → LogEntry → Course
+with_entry c opening capacity at e =
+    called_if c opening capacity (is_some (finished_slot e at.past)) (first_added c opening capacity at e)
 
 -- what steps that are made come to, each with those that the rules add after it
 abbrev pub after_made : Parts → ℕ → ℕ → Course → List (PortId × Step) → Course
@@ -88,23 +103,33 @@ abbrev pub hurt_steps : Disturbance → List (PortId × Step)
 hurt_steps (slot.Hurt bytes) = (Bus, Hurt bytes) ∷ []
 hurt_steps how = []
 
--- a node that is due answers, or leaves its response out where it is to
-abbrev pub decision : Disturbance → ℕ → PortId × Step
-decision how node = (Bus, if is_in (leave_nodes how) node then Leave node else Answer node)
+-- how a line disturbs a slot, and the nodes that are off
+pub record Way : Type 0 where
+  pub how : Disturbance
+  pub offs : List ℕ
+
+abbrev pub way : Disturbance → List ℕ → Way
+way how offs = record { how = how; offs = offs }
+
+-- a node that is due answers, or leaves its response out if it is to, or is off
+abbrev pub leaves : Way → ℕ → Bool
+leaves w node = is_in (leave_nodes w.how) node || is_in w.offs node
+
+abbrev pub decision : Way → ℕ → PortId × Step
+decision w node = (Bus, if leaves w node then Leave node else Answer node)
 
 -- the steps of a slot after its open; none where that was refused
-abbrev pub slot_rest : Disturbance → Option (List ℕ) → List (PortId × Step)
-slot_rest how None = []
-slot_rest how (Some due) = map (decision how) due ++ (hurt_steps how ++ (Bus, Finish) ∷ [])
+abbrev pub slot_rest : Way → Option (List ℕ) → List (PortId × Step)
+slot_rest w None = []
+slot_rest w (Some due) = map (decision w) due ++ (hurt_steps w.how ++ (Bus, Finish) ∷ [])
 
 -- the nodes that are due in a slot that is opened now, none where it can't be
 abbrev pub due_now : Parts → ℕ → ℕ → List LogEntry → Option (List ℕ)
 due_now c opening capacity past = due_in (reply c opening capacity past Bus Open)
 
 -- the steps of a slot (ISO 17987-3, frame slots)
-unfoldable pub slot_steps : Parts → ℕ → ℕ → Disturbance → List LogEntry → List (PortId × Step)
-slot_steps c opening capacity how past =
-    (Bus, Open) ∷ slot_rest how (due_now c opening capacity past)
+unfoldable pub slot_steps : Parts → ℕ → ℕ → Way → List LogEntry → List (PortId × Step)
+slot_steps c opening capacity w past = (Bus, Open) ∷ slot_rest w (due_now c opening capacity past)
 
 abbrev pub is_opened : Option (List ℕ) → Bool
 is_opened None = false
@@ -116,33 +141,15 @@ unfoldable pub slots_steps : Parts → ℕ → ℕ → Disturbance → (Course �
     → List (PortId × Step)
 slots_steps c opening capacity how goes zero at = []
 slots_steps c opening capacity how goes (suc n) at =
-    let steps = slot_steps c opening capacity how at.past
+    let steps = slot_steps c opening capacity (way how at.rules.offs) at.past
     in if goes at
     then steps ++ (if is_opened (due_now c opening capacity at.past)
     then slots_steps c opening capacity how goes n (course_after c opening capacity at steps)
     else [])
     else []
 
--- the hosts of which messages wait, and how many
-abbrev pub hosts_waiting : Parts → List LogEntry → List (ℕ × ℕ)
-hosts_waiting c past =
-    filter (λ (h : ℕ × ℕ). nat_lt 0 h.1)
-    (map (λ h. (h, length (waiting c past h))) (numbers (nodes c)))
-
 abbrev pub some_wait : Parts → List LogEntry → Bool
 some_wait c past = list_any (λ h. nat_lt 0 (length (waiting c past h))) (numbers (nodes c))
-
--- the nodes of which answers are noted, and how many
-abbrev pub nodes_noted : Parts → List Noted → List (ℕ × ℕ)
-nodes_noted c noted =
-    filter (λ (n : ℕ × ℕ). nat_lt 0 n.1)
-    (map (λ n. (n, count_by (λ m. m.node == n) noted)) (numbers (nodes c)))
-
--- the hosts of which messages wait, and then the nodes of which answers are noted
-abbrev pub pending : Parts → List LogEntry → List Noted → List Pending
-pending c past noted =
-    map (λ (h : ℕ × ℕ). MessagesWait h.0 h.1) (hosts_waiting c past)
-    ++ map (λ (n : ℕ × ℕ). AnswersNoted n.0 n.1) (nodes_noted c noted)
 
 -- whether one more slot is to be made, by the time in microseconds at the line's beginning
 abbrev pub goes_on : Parts → Extent → ℕ → Course → Bool

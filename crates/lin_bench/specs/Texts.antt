@@ -34,6 +34,7 @@ use Rattle.lin_bench.specs.declared.got.Pending.TheVariants.{MessagesWait, Answe
 use Rattle.lin_bench.specs.declared.got.Judged.{Judged}
 use Rattle.lin_bench.specs.declared.got.Judged.TheVariants as judged
 use Rattle.lin_bench.specs.declared.got.Judgement.{Judgement}
+use Rattle.lin_bench.specs.declared.rules.Form.{Form}
 use Rattle.lin_bench.specs.declared.rules.RuleEnd.{RuleEnd}
 use Rattle.lin_bench.specs.declared.rules.RuleEnd.TheVariants as end
 use Rattle.lin_bench.specs.Played.{is_unmet}
@@ -123,17 +124,22 @@ reason_words (reason.UnknownWhile fields) =
     Fixed (codes "while doesn't accept") ∷ Fields fields ∷ []
 reason_words reason.WhenForm =
     Fixed (codes "usage: when NODE PATTERN answer BYTES, when NODE PATTERN silent or when NODE PATTERN off") ∷ []
+reason_words reason.OnForm = Fixed (codes "usage: on FORM do STEP, on FORM off or on off") ∷ []
+reason_words (reason.UnknownOn fields) = Fixed (codes "on doesn't accept") ∷ Fields fields ∷ []
+reason_words reason.OnStep = Fixed (codes "on accepts only send, write, switch and sleep") ∷ []
 reason_words reason.StateForm = Fixed (codes "usage: state NODE NAME") ∷ []
+reason_words reason.NodeForm = Fixed (codes "usage: node NODE off or node NODE on") ∷ []
 reason_words (reason.NoName field) = Fixed (codes "expected a name, not") ∷ Said field ∷ []
 reason_words (reason.NoResponder field) =
     Said field ∷ Fixed (codes "isn't a responder with a NAD") ∷ []
+reason_words (reason.NotResponder field) = Said field ∷ Fixed (codes "isn't a responder") ∷ []
 reason_words (reason.NoMessages from to) =
     Fixed (codes "no message goes from") ∷ Said from ∷ Fixed (codes "to") ∷ Said to ∷ []
 reason_words (reason.NotItsSignal node signal) =
     Said node ∷ Fixed (codes "neither publishes nor subscribes") ∷ Said signal ∷ []
 reason_words (reason.NoPattern fields) = Fields fields ∷ Fixed (codes "isn't a pattern") ∷ []
 reason_words reason.LongAnswer = Fixed (codes "answer has more than 4095 bytes") ∷ []
-reason_words reason.TimeoutsForm = Fixed (codes "usage: timeouts N ms or timeouts off") ∷ []
+reason_words reason.TimeoutsForm = Fixed (codes "usage: timeouts N ms, timeouts ldf, timeouts NODE N ms, timeouts NODE off or timeouts off") ∷ []
 reason_words reason.EveryForm = Fixed (codes "usage: every N ms STEP, every off STEP or every off") ∷ []
 reason_words reason.EveryStep = Fixed (codes "every accepts only send and write") ∷ []
 reason_words reason.ServicesForm = Fixed (codes "usage: services on or services off") ∷ []
@@ -182,11 +188,6 @@ when_end_words node (Some state) pattern =
     Fixed (codes "when") ∷ Node node ∷ Fixed (codes "in") ∷ Said state ∷ Matching pattern
     ∷ Fixed (codes "off") ∷ []
 
-abbrev pub end_words : RuleEnd → List Word
-end_words (end.When node state pattern) = when_end_words node state pattern
-end_words (end.WhensOf node) = Fixed (codes "when") ∷ Node node ∷ Fixed (codes "off") ∷ []
-end_words (end.Every by s) = repeated_words by s
-
 -- a number of messages, or a range of them
 abbrev pub counts_word : ℕ → ℕ → Word
 counts_word low high = if low == high then Number low else Range low high
@@ -218,6 +219,16 @@ condition_words wanted (condition.Slot table entry) =
     word_if wanted (codes "slot") (codes "not slot") ∷ Table table ∷ Number entry ∷ []
 condition_words wanted (condition.Changed node signal first) =
     word_if wanted (codes "changed") (codes "not changed") ∷ Node node ∷ Signal signal ∷ []
+
+abbrev pub on_end_words : Form → List Word
+on_end_words f =
+    Fixed (codes "on") ∷ (condition_words f.wanted f.what ++ Fixed (codes "off") ∷ [])
+
+abbrev pub end_words : RuleEnd → List Word
+end_words (end.When node state pattern) = when_end_words node state pattern
+end_words (end.WhensOf node) = Fixed (codes "when") ∷ Node node ∷ Fixed (codes "off") ∷ []
+end_words (end.Every by s) = repeated_words by s
+end_words (end.On form) = on_end_words form
 
 -- what is expected
 abbrev pub expected_words : Expected → List Word

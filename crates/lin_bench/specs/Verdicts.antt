@@ -29,9 +29,9 @@ use Rattle.lin_core.specs.declared.reply.Reply.{Reply}
 use Rattle.lin_core.specs.declared.reply.Reply.TheVariants.{Done, Refused}
 use Rattle.lin_log.specs.LastFinish.{before_last_finish}
 use Rattle.lin_bench.specs.Meant.{is_among_values}
-pub use Rattle.lin_bench.specs.Rules.{same_value}
+pub use Rattle.lin_bench.specs.Rules.{same_frame, same_value}
 use Rattle.lin_bench.specs.Rules.{fits}
-use Rattle.lin_bench.specs.Slots.{pending}
+use Rattle.lin_bench.specs.Pending.{pending}
 use Rattle.lin_log.specs.declared.line_words.Carried.{Carried}
 use Rattle.lin_log.specs.declared.line_words.Carried.TheVariants.{Signals, Request as RequestFrame, Response}
 use Rattle.lin_bench.specs.declared.conditions.Finding.{Finding}
@@ -205,12 +205,6 @@ last_carried c past = option_map_or (carried_by_slot c) (last_slot past) None
 abbrev pub running_table : Parts → ℕ → List LogEntry → ℕ
 running_table c opening past =
     option_map_or (λ (s : Slot). s.table) (open_slot past) (next_due c opening past).0
-
-abbrev pub same_frame : Carried → Carried → Bool
-same_frame (Signals f) (Signals g) = f == g
-same_frame RequestFrame RequestFrame = true
-same_frame Response Response = true
-same_frame frame other = false
 
 -- the data bytes of a response: all but its checksum
 abbrev pub data_of : List ℕ → List ℕ

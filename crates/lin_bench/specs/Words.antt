@@ -23,6 +23,7 @@ use Rattle.lin_bench.specs.Fields.{◌>>=◌, all_fields, line_fields, range_end
 use Rattle.lin_bench.specs.Hints.{names_hash, texts_in, unit_hint, units_hint, units_in, value_hint, values_hint}
 use Rattle.lin_bench.specs.Lines.{read_line}
 use Rattle.lin_bench.specs.Meant.{values_within}
+use Rattle.lin_bench.specs.OnLines.{off_at}
 use Rattle.lin_bench.specs.LineWords.{fields_text}
 use Rattle.lin_bench.specs.declared.expected.Condition.{Condition}
 use Rattle.lin_bench.specs.declared.expected.Condition.TheVariants as condition
@@ -33,6 +34,13 @@ use Rattle.lin_bench.specs.declared.line.ScriptLine.TheVariants as lines
 use Rattle.lin_bench.specs.declared.reason.Hint.{Hint}
 use Rattle.lin_bench.specs.declared.reason.Reason.{Reason}
 use Rattle.lin_bench.specs.declared.reason.Reason.TheVariants.{NoDecimal, NoWords, NoValue, SeveralValues, NoRange, Unmarked, WideSignal}
+use Rattle.lin_bench.specs.declared.rules.Form.{Form}
+use Rattle.lin_bench.specs.declared.rules.NodeLimits.{NodeLimits}
+use Rattle.lin_bench.specs.declared.rules.Rule.{Rule}
+use Rattle.lin_bench.specs.declared.rules.Rule.TheVariants as rule
+use Rattle.lin_bench.specs.declared.rules.RuleEnd.{RuleEnd}
+use Rattle.lin_bench.specs.declared.rules.RuleEnd.TheVariants as end
+use Rattle.lin_bench.specs.declared.rules.Watched.{Watched}
 use Rattle.lin_bench.specs.declared.words.Wish.{Wish}
 use Rattle.lin_bench.specs.declared.words.Wish.TheVariants.{Write, Nearest, Expect}
 
@@ -196,10 +204,26 @@ meant_by (expected.Is what) text values = expected.Is (meant_condition what text
 meant_by (expected.Not what) text values = expected.Not (meant_condition what text values)
 meant_by other text values = other
 
+abbrev pub meant_form : List ℕ → List Value → Form → Form
+meant_form text values f = record f { what = meant_condition f.what text values }
+
+abbrev pub meant_on : List ℕ → List Value → Watched → Watched
+meant_on text values w = record w { on = record w.on { form = meant_form text values w.on.form } }
+
+abbrev pub meant_end : List ℕ → List Value → RuleEnd → RuleEnd
+meant_end text values (end.On form) = end.On (meant_form text values form)
+meant_end text values other = other
+
+abbrev pub meant_rule : List ℕ → List Value → Rule → Rule
+meant_rule text values (rule.On w) = rule.On (meant_on text values w)
+meant_rule text values (rule.End e) = rule.End (meant_end text values e)
+meant_rule text values other = other
+
 abbrev pub meant_line : List ℕ → List Value → Option ScriptLine → Option ScriptLine
 meant_line text values (Some (lines.Expect e)) = Some (lines.Expect (meant_by e text values))
 meant_line text values (Some (lines.Until s e)) = Some (lines.Until s (meant_by e text values))
 meant_line text values (Some (lines.While s e)) = Some (lines.While s (meant_by e text values))
+meant_line text values (Some (lines.Rule r)) = Some (lines.Rule (meant_rule text values r))
 meant_line text values other = other
 
 -- ---- what lines say
@@ -372,8 +396,94 @@ abbrev pub worded_or_plain : Parts → CodedData → List ℕ → Option WordedL
 worded_or_plain c k l None = or_unmarked c k (line_fields l) (read_line c l)
 worded_or_plain c k l (Some w) = worded_line c k w l
 
+abbrev pub marked_line : Parts → CodedData → List ℕ → Result (Option ScriptLine) Reason
+marked_line c k l = worded_or_plain c k l (worded (line_fields l))
+
+-- ---- lines of `on` whose form says values in words, after `=`: such a line says what it says with the raw
+-- value 0 in their place, in which its step may say a value in words, but its form is that the value is one
+-- that the words say
+
+-- a form ends with the first `do`, or with `off` at the end
+abbrev pub or_off : List (List ℕ) → Option ℕ → Option ℕ
+or_off fs None = off_at fs
+or_off fs (Some at) = Some at
+
+abbrev pub form_end : List (List ℕ) → Option ℕ
+form_end fs = or_off fs (position (λ f. bytes_eq f (codes "do")) fs)
+
+abbrev pub is_not_signal : List ℕ → List ℕ → List ℕ → Bool
+is_not_signal f g h =
+    bytes_eq f (codes "on") && bytes_eq g (codes "not") && bytes_eq h (codes "signal")
+
+abbrev pub is_on_signal : List (List ℕ) → Bool
+is_on_signal (f ∷ g ∷ n ∷ []) = bytes_eq f (codes "on") && bytes_eq g (codes "signal")
+is_on_signal (f ∷ g ∷ h ∷ n ∷ []) = is_not_signal f g h
+is_on_signal fs = false
+
+-- its fields before the signal, the signal's, the words, and the fields after the form
+pub record OnLine : Type 0 where
+  pub before : List (List ℕ)
+  pub signal : List ℕ
+  pub words : List (List ℕ)
+  pub behind : List (List ℕ)
+
+abbrev pub on_line_at : List (List ℕ) → List (List ℕ) → ℕ → Option OnLine
+on_line_at form behind zero = None
+on_line_at form behind (suc at) =
+    if is_on_signal (take at form)
+    then Some (record {
+      before = take at form;
+      signal = slice_index_or form at [];
+      words = drop (suc (suc at)) form;
+      behind = behind;
+    })
+    else None
+
+abbrev pub equals_place : List (List ℕ) → Option ℕ
+equals_place fs = position (λ f. bytes_eq f (codes "=")) fs
+
+abbrev pub marked_form : List (List ℕ) → List (List ℕ) → Option OnLine
+marked_form form behind = option_and_then (on_line_at form behind) (equals_place form)
+
+unfoldable pub worded_on : List (List ℕ) → Option OnLine
+worded_on fs = option_and_then (λ at. marked_form (take at fs) (drop at fs)) (form_end fs)
+
+abbrev pub with_zero : OnLine → List ℕ
+with_zero o = fields_text (o.before ++ o.signal ∷ codes "0" ∷ o.behind)
+
+abbrev pub meant_by_words : CodedData → OnLine → Option ScriptLine → ℕ → List (List ℕ)
+    → Result (Option ScriptLine) Reason
+meant_by_words k o at_zero s [] = Err NoWords
+meant_by_words k o at_zero s (word ∷ ws) = expected_line k s o.signal (fields_text (word ∷ ws)) word ws at_zero
+
+unfoldable pub worded_on_line : Parts → CodedData → OnLine → Result (Option ScriptLine) Reason
+worded_on_line c k o = do
+  at_zero ← marked_line c k (with_zero o)
+  s ← worded_signal c k o.signal
+  meant_by_words k o at_zero s o.words
+
+abbrev pub on_or_marked : Parts → CodedData → List ℕ → Option OnLine → Result (Option ScriptLine) Reason
+on_or_marked c k l None = marked_line c k l
+on_or_marked c k l (Some o) = worded_on_line c k o
+
+abbrev pub said_line : Parts → CodedData → List ℕ → Result (Option ScriptLine) Reason
+said_line c k l = on_or_marked c k l (worded_on (line_fields l))
+
 -- what a line of a bench script says, where what signals mean is known, or isn't
-unfoldable pub read_worded_line : Parts → Option CodedData → List ℕ → Result (Option ScriptLine) Reason
-read_worded_line c None l = read_line c l
-read_worded_line c (Some k) l =
-    if slice_index l 0 == 62 then Ok None else worded_or_plain c k l (worded (line_fields l))
+unfoldable pub line_in_words : Parts → Option CodedData → List ℕ → Result (Option ScriptLine) Reason
+line_in_words c None l = read_line c l
+line_in_words c (Some k) l = if slice_index l 0 == 62 then Ok None else said_line c k l
+
+-- ---- `timeouts ldf`: the limits are those of the LDF
+abbrev pub limited : List NodeLimits → Rule → Rule
+limited limits (rule.TimeoutsLdf known) = rule.TimeoutsLdf limits
+limited limits other = other
+
+abbrev pub limited_line : List NodeLimits → Result (Option ScriptLine) Reason
+    → Result (Option ScriptLine) Reason
+limited_line limits (Ok (Some (lines.Rule r))) = Ok (Some (lines.Rule (limited limits r)))
+limited_line limits other = other
+
+unfoldable pub read_worded_line : Parts → Option CodedData → List NodeLimits → List ℕ
+    → Result (Option ScriptLine) Reason
+read_worded_line c k limits l = limited_line limits (line_in_words c k l)

@@ -1,11 +1,12 @@
 //! What rules answer to messages.
 
-ghost use Rattle.std.specs.Prelude.{◌≡◌, ◌==◌, ◌<◌, ◌≤◌, ◌^◌, ◌&&◌, ℕ, length};
+ghost use Rattle.std.specs.Prelude.{◌≡◌, ◌==◌, ◌<◌, ◌≤◌, ◌^◌, ◌&&◌, ℕ, length, not};
 ghost use Rattle.std.specs.Prelude.{IfOk, IfSome, OnOk, find, Option, option_map, position, zip};
 ghost use Rattle.std.specs.Cmp.Lexicographic.{pointwise};
 ghost use Rattle.std.specs.List.{list_all};
 ghost use Rattle.std.specs.Option.{option_copied, option_map_or};
 ghost use Rattle.lin_parts.specs.Cluster.{nodes};
+ghost use Rattle.lin_core.specs.History.{is_in};
 ghost use Rattle.lin_bench.specs.Rules.{all_noted, answer_bytes, fits, fits_byte, has_length, noted_with, noted_answers};
 ghost use Rattle.lin_bench.specs.Rules.{is_below, is_rule_for, more_specific, rank_at, rule_for};
 ghost use Rattle.lin_bench.specs.Rules.{after_event, after_events, with_answers, states_after_entering, is_below_pattern};
@@ -13,6 +14,7 @@ ghost use Rattle.lin_bench.specs.Rules.{part_byte, rules_after_message, same_byt
 ghost use Rattle.lin_bench.specs.Rules.{data_by, request_byte, request_of, service_answer};
 ghost use Rattle.lin_bench.specs.Rules.{service_data, service_notes, whens_with};
 
+use crate::powers::is_off;
 use crate::rules::{NodeState, Noted, Part, RuleAnswer, Rules, When};
 use crate::states::{enter, is_for_state, same_state, state_of};
 use lin_core::{Event, Payload};
@@ -367,6 +369,13 @@ fn react(alloc: Global, rules: &mut Rules, at: Arrival<'_>) -> Result<(), AllocE
     }
 }
 
+/// Whether a receiver reacts to a message: host 0 sent it, and the receiver isn't off.
+fn may_react(from: u8, offs: &[u8], to: u8) -> bool
+    ensures { result ≡ (from == 0 && not (is_in offs.now to)) }
+{
+    from == 0 && !is_off(offs, to)
+}
+
 /// Changes what an event changes.
 fn react_to_event(
     alloc: Global,
@@ -379,7 +388,7 @@ fn react_to_event(
     ensures { OnOk result (rules.new ≡ after_event (option_copied served.entry) to_all time rules.old event.now) }
 {
     match event {
-        Event::Message { from, to, bytes } if *from == 0 => react(
+        Event::Message { from, to, bytes } if may_react(*from, rules.offs.as_slice(), *to) => react(
             alloc,
             rules,
             Arrival {

@@ -182,9 +182,9 @@ impl Bench {
     }
 
     /// Returns the lines that make the rules in force, each without its end: `when` in the order of the
-    /// first lines of a node, a state and a pattern, then `timeouts`, `response_errors on`, `services on`,
-    /// `every` in the order of the lines, and the states that aren't `default`. An error means out of
-    /// memory.
+    /// first lines of a node, a state and a pattern, then `timeouts` of all and of single responders,
+    /// `response_errors on`, `services on`, `every` and `on` in the order of the lines, the states that
+    /// aren't `default`, and the nodes that are off. An error means out of memory.
     #[inline(never)]
     pub fn rules(&self, alloc: Global) -> Result<Vec<Text>, AllocError>
         ensures { IfOk result (λ lines. lines.items

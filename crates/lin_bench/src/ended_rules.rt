@@ -2,11 +2,12 @@
 
 ghost use Rattle.std.specs.Prelude.{◌≡◌, filter, not, OnOk};
 ghost use Rattle.std.specs.List.{list_any};
-ghost use Rattle.lin_bench.specs.Rules.{has_rule, is_ended_every, is_ended_when, is_send, is_write};
+ghost use Rattle.lin_bench.specs.Rules.{has_rule, is_ended_every, is_ended_on, is_ended_when, is_send, is_write};
 ghost use Rattle.lin_bench.specs.Rules.{same_port, same_step, same_value, without_rule};
 
 use crate::answers::same_pattern;
-use crate::rules::{Repeated, RuleEnd, Rules, When};
+use crate::forms::same_form;
+use crate::rules::{Repeated, RuleEnd, Rules, Watched, When};
 use crate::states::same_state;
 use lin_core::{PortId, Step};
 use lin_frame::Value;
@@ -89,7 +90,7 @@ fn is_ended_when(end: &RuleEnd, when: &When) -> bool
                 && same_pattern(&when.pattern, pattern)
         }
         RuleEnd::WhensOf(node) => when.node == *node,
-        RuleEnd::Every { .. } => false,
+        RuleEnd::Every { .. } | RuleEnd::On(_) => false,
     }
 }
 
@@ -101,7 +102,17 @@ fn is_ended_every(end: &RuleEnd, repeated: &Repeated) -> bool
         RuleEnd::Every { by, step } => {
             same_port(repeated.every.by, *by) && same_step(&repeated.every.step, step)
         }
-        RuleEnd::When { .. } | RuleEnd::WhensOf(_) => false,
+        RuleEnd::When { .. } | RuleEnd::WhensOf(_) | RuleEnd::On(_) => false,
+    }
+}
+
+/// Whether a step that a form calls for is one of those that end.
+fn is_ended_on(end: &RuleEnd, watched: &Watched) -> bool
+    ensures { result ≡ is_ended_on end.now watched.now }
+{
+    match end {
+        RuleEnd::On(form) => same_form(&watched.on.form, form),
+        RuleEnd::When { .. } | RuleEnd::WhensOf(_) | RuleEnd::Every { .. } => false,
     }
 }
 
@@ -117,11 +128,19 @@ fn some_every(everies: &[Repeated], end: &RuleEnd) -> bool
     everies.iter().any(|repeated| is_ended_every(end, repeated))
 }
 
+fn some_on(ons: &[Watched], end: &RuleEnd) -> bool
+    ensures { result ≡ list_any (is_ended_on end.now) ons.now }
+{
+    ons.iter().any(|watched| is_ended_on(end, watched))
+}
+
 /// Whether one of the rules in force is one of those that a line ends.
 pub(crate) fn has_rule(rules: &Rules, end: &RuleEnd) -> bool
     ensures { result ≡ has_rule rules.now end.now }
 {
-    some_when(rules.whens.as_slice(), end) || some_every(rules.everies.as_slice(), end)
+    some_when(rules.whens.as_slice(), end)
+        || some_every(rules.everies.as_slice(), end)
+        || some_on(rules.ons.as_slice(), end)
 }
 
 /// Keeps the rules of responders that don't end.
@@ -155,10 +174,24 @@ fn keep_everies(
     Ok(())
 }
 
+/// Keeps the steps that forms call for that don't end.
+fn keep_ons(alloc: Global, ons: &mut Many<Watched>, end: &RuleEnd) -> Result<(), AllocError>
+    ensures { OnOk result (ons.new ≡ filter (λ o. not (is_ended_on end.now o)) ons.old) }
+{
+    let all = mem::replace(ons, Many::new(Vec::new(alloc)));
+    for watched in all.into_vec() {
+        if !is_ended_on(end, &watched) {
+            ons.push(watched)?;
+        }
+    }
+    Ok(())
+}
+
 /// Puts single rules out of force. An error means out of memory.
 pub(crate) fn end_rules(alloc: Global, rules: &mut Rules, end: &RuleEnd) -> Result<(), AllocError>
     ensures { OnOk result (rules.new ≡ without_rule rules.old end.now) }
 {
     keep_whens(alloc, &mut rules.whens, end)?;
-    keep_everies(alloc, &mut rules.everies, end)
+    keep_everies(alloc, &mut rules.everies, end)?;
+    keep_ons(alloc, &mut rules.ons, end)
 }

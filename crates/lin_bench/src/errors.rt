@@ -13,9 +13,10 @@ ghost use Rattle.lin_core.specs.declared.port.PortId.{PortId};
 ghost use Rattle.lin_bench.specs.Adding.{AfterFinish, HasFinished, damaged_in, good_in};
 ghost use Rattle.lin_bench.specs.Carried.{shape, shape_in};
 ghost use Rattle.lin_bench.specs.Errors.{concerns, ended_slot, error_told, errors_told, is_damaged_seen};
-ghost use Rattle.lin_bench.specs.Errors.{equals_scalar, reports_error, set_after, set_to, error_write};
+ghost use Rattle.lin_bench.specs.Errors.{equals_scalar, reports_error, set_after, set_to, set_unless_off, error_write};
 
 use crate::carried::{OpenSlot, entry_at, has, open_after, signals_in};
+use crate::powers::is_off;
 use crate::replies::{good_bytes, is_damaged};
 use lin_core::{Core, LogEntry, MASTER_REQUEST, PortId, SLAVE_RESPONSE, Step};
 use lin_frame::Value;
@@ -195,37 +196,51 @@ fn write_of(signal: &ErrorSignal, number: u16) -> (PortId, Step)
     (PortId::Host(signal.node), step)
 }
 
-/// Adds the writes by which responders tell what they know of a slot.
+/// What the signal of a node is set to after a slot, unless the node is off.
+fn set_unless_off(core: &Core, ended: &EndedSlot, offs: &[u8], signal: &ErrorSignal) -> Option<u16>
+    requires { IsErrorSignal core.now.cluster signal.now }
+    ensures { result ≡ set_unless_off core.now.cluster (past_of core.now) ended.now offs.now signal.now }
+{
+    if is_off(offs, signal.node) {
+        None
+    } else {
+        set_after(core, ended, signal)
+    }
+}
+
+/// Adds the writes by which responders that aren't off tell what they know of a slot.
 fn add_writes(
     core: &Core,
     ended: &EndedSlot,
+    offs: &[u8],
     steps: &mut Vec<(PortId, Step)>,
 ) -> Result<(), AllocError>
     ensures { OnOk result (steps.new.items ≡ steps.old.items ++ filter_map
-        (error_told core.now.cluster (past_of core.now) ended.now) core.now.cluster.errors) }
+        (error_told core.now.cluster (past_of core.now) ended.now offs.now) core.now.cluster.errors) }
 {
     core.cluster().sound();
     for signal in core.cluster().error_signals() {
-        if let Some(number) = set_after(core, ended, signal) {
+        if let Some(number) = set_unless_off(core, ended, offs, signal) {
             steps.push(write_of(signal, number))?;
         }
     }
     Ok(())
 }
 
-/// Adds the steps by which responders tell errors after the finish that is the newest entry of a
-/// core. An error means out of memory.
+/// Adds the steps by which responders that aren't off tell errors after the finish that is the newest
+/// entry of a core. An error means out of memory.
 pub(crate) fn tell_errors(
     alloc: Global,
     core: &Core,
+    offs: &[u8],
     steps: &mut Vec<(PortId, Step)>,
 ) -> Result<(), AllocError>
     requires { 0 < length core.now.log }
     ensures { OnOk result (AfterFinish core.now (λ e past. steps.new.items
-        ≡ steps.old.items ++ errors_told core.now.cluster e past true)) }
+        ≡ steps.old.items ++ errors_told core.now.cluster e past offs.now true)) }
 {
     match last_ended(alloc, core)? {
-        Some(ended) => add_writes(core, &ended, steps),
+        Some(ended) => add_writes(core, &ended, offs, steps),
         None => Ok(()),
     }
 }

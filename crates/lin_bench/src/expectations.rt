@@ -3,7 +3,7 @@
 ghost use Rattle.std.specs.Prelude.{◌≡◌, ◌<◌, ◌&&◌, IfOk, codes, length, option_map};
 ghost use Rattle.std.specs.Str.{bytes_eq};
 ghost use Rattle.lin_bench.specs.Expectations.{begins_change, changed_form, condition_form, cycle_form, cycle_within_form, exact_cycle, near_cycle, needs_slots, not_form, other_expectation};
-ghost use Rattle.lin_bench.specs.Expectations.{before_last, data_length, data_pattern, entry_field, expectation, frame_form, lone_form};
+ghost use Rattle.lin_bench.specs.Expectations.{before_last, data_length, data_pattern, entry_field, expectation, frame_form, frame_with, lone_form};
 ghost use Rattle.lin_bench.specs.Expectations.{loss_expectation, lost_form, pattern_form, rows_and_limit};
 ghost use Rattle.lin_bench.specs.Expectations.{message_form, messages_form, next_form, next_message_form, no_form, no_lost_form, no_message_form, signal_expectation};
 ghost use Rattle.lin_bench.specs.Expectations.{refusal_called, refusal_field, refused_form, seen_form, sent_form};
@@ -329,6 +329,24 @@ fn data_pattern(
     }))
 }
 
+/// A frame with the data bytes in these fields.
+fn frame_with(
+    alloc: Global,
+    cluster: &Cluster,
+    name: &[u8],
+    rows: &[&[u8]],
+) -> Result<Condition, LineFault>
+    ensures { Gives (λ w. w) result (frame_with cluster.now name.now (field_texts rows.now)) }
+{
+    let frame = frame_field(alloc, cluster, name)?;
+    let said = pattern(alloc, rows)?;
+    let pattern = data_pattern(alloc, cluster, name, frame, said)?;
+    Ok(Condition::Frame {
+        frame,
+        pattern: Some(pattern),
+    })
+}
+
 fn frame(
     alloc: Global,
     cluster: &Cluster,
@@ -343,15 +361,7 @@ fn frame(
             frame: frame_field(alloc, cluster, frame)?,
             pattern: None,
         }),
-        [name, rows @ ..] => {
-            let frame = frame_field(alloc, cluster, name)?;
-            let said = pattern(alloc, rows)?;
-            let pattern = data_pattern(alloc, cluster, name, frame, said)?;
-            Ok(Condition::Frame {
-                frame,
-                pattern: Some(pattern),
-            })
-        }
+        [frame, rows @ ..] => frame_with(alloc, cluster, frame, rows),
     }
 }
 
@@ -642,7 +652,7 @@ fn changed(
 }
 
 /// The condition that a word names, with the fields after it, if it names one; `all` are the line.
-fn condition(
+pub(crate) fn condition(
     alloc: Global,
     cluster: &Cluster,
     all: &[u8],

@@ -131,7 +131,7 @@ impl Drop for Condition {
 
 impl Condition {
     /// The condition of a line that begins now: a signal is to change from the value that it has now.
-    fn begun(self, core: &Core) -> Condition
+    pub(crate) fn begun(self, core: &Core) -> Condition
         ensures { result ≡ condition_begun core.now.cluster (past_of core.now) self }
     {
         match self {
@@ -149,7 +149,7 @@ impl Condition {
     }
 
     /// The condition, with the values that words say in the place of the one of a line in numbers.
-    fn meant(self, text: Text, values: MeantValues) -> Condition
+    pub(crate) fn meant(self, text: Text, values: MeantValues) -> Condition
         ensures { result ≡ meant_condition self text values }
     {
         match self {

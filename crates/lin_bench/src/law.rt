@@ -3,7 +3,7 @@
 ghost use Rattle.lin_bench.specs.FaultLaws.{IsAlikeBefore, NoFaultIsRefused, UnderNoneIsPlayed};
 ghost use Rattle.lin_bench.specs.Plain.{NamedTexts, PlainScripts};
 ghost use Rattle.lin_bench.specs.RuleLaws.{AddedByAnyFinish, AddedByHistoryAndRules, NoRuleAddsNothing};
-ghost use Rattle.lin_bench.specs.RuleLaws.{KeepsDistinct, NoRuleChangesNothing, OldScripts, OrderOfRules};
+ghost use Rattle.lin_bench.specs.RuleLaws.{KeepsDistinct, NoRuleChangesNothing, OffIsLeave, OldScripts, OrderOfRules};
 
 /// A script that `replay` reads says the same steps as a bench script, and makes and expects
 /// nothing else; and so does a text of steps with the cluster's names.
@@ -27,6 +27,11 @@ pub fn order_of_rules_is_free()
     ensures order { OrderOfRules }
     ensures distinct { KeepsDistinct }
     ensures old { OldScripts }
+{}
+
+/// In a slot, a responder that is off is one that leaves its response out.
+pub fn responders_off_leave_responses_out()
+    ensures { OffIsLeave }
 {}
 
 /// A play under no fault is a play. A step that a fault makes is never refused. A line comes to what it

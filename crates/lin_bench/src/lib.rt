@@ -33,16 +33,21 @@ mod expected;
 mod fault;
 mod faults;
 mod fields;
+mod forms;
 mod got;
 mod got_meanings;
 mod hints;
 mod law;
 mod left_events;
+mod limits;
 mod line;
 mod lines;
 mod marks;
 mod meant;
+mod on_lines;
+mod ons;
 mod playing;
+mod powers;
 mod reason;
 mod replies;
 mod rule_lines;
@@ -61,6 +66,7 @@ mod unmarked;
 mod verdicts;
 mod watches;
 mod word_list;
+mod worded_ons;
 mod words;
 
 pub use bench::Bench;
@@ -72,7 +78,7 @@ pub use got::{Got, Judged, Judgement, Pending, Verdict, is_unmet, some_unmet};
 pub use got_meanings::{told_meaning, told_meanings};
 pub use law::{
     faults_change_their_slots_alone, order_of_rules_is_free, plain_scripts_say_the_same,
-    rules_alone_add_steps,
+    responders_off_leave_responses_out, rules_alone_add_steps,
 };
 pub use lin_core::Look;
 pub use lin_log::{Carried, Pattern};
@@ -83,7 +89,9 @@ pub use meant::MeantValues;
 pub use playing::{LineEnd, Played, PlayedUnder, play, play_under};
 pub use reason::{Hint, Reason};
 pub use replies::first_refusal;
-pub use rules::{Every, Part, Rule, RuleAnswer, RuleEnd, When};
+pub use rules::{
+    Every, Form, Limit, NodeLimits, On, Part, Rule, RuleAnswer, RuleEnd, Watched, When,
+};
 pub use script::{bad_lines, read, without_mark};
 pub use texts::{
     put_found, put_judged, put_pending, put_reason, put_unmet, put_verdict, put_what, reason_line,

@@ -12,8 +12,9 @@ use crate::expectations::{expectation, holding, until};
 use crate::fault::LineFault;
 use crate::fields::{bytes_fields, count_field, node_field};
 use crate::line::{Disturbance, Extent, ScriptLine, Slots};
+use crate::on_lines::on;
 use crate::reason::Reason;
-use crate::rule_lines::{every, response_errors, services, state, timeouts, when};
+use crate::rule_lines::{every, power, response_errors, services, state, timeouts, when};
 use lin_core::PortId;
 use lin_log::{first_field, is_over, is_port, port_step, step};
 use lin_parts::Cluster;
@@ -268,6 +269,10 @@ fn rule_or_step(
         Ok(ScriptLine::Rule(response_errors(alloc, cluster, rest)?))
     } else if word == b"state".as_slice() {
         Ok(ScriptLine::Rule(state(alloc, cluster, rest)?))
+    } else if word == b"node".as_slice() {
+        Ok(ScriptLine::Rule(power(alloc, cluster, rest)?))
+    } else if word == b"on".as_slice() {
+        Ok(ScriptLine::Rule(on(alloc, cluster, rest)?))
     } else {
         Ok(ScriptLine::Step(PortId::Bus, step(alloc, cluster, word, rest)?))
     }

@@ -8,12 +8,13 @@ use lin_frame::Value;
 use lin_values::{Coded, Raws};
 use std::alloc::{AllocError, Global};
 use std::marker::Model;
+use std::rc::Rc;
 
 /// The values of a signal that words say. Contracts see all of them: scalars from the lowest on, and
 /// arrays.
 #[derive(Drop)]
 pub struct MeantValues {
-    raws: Raws,
+    raws: Rc<Raws, Global>,
 }
 
 impl Model for MeantValues {
@@ -23,9 +24,9 @@ impl Model for MeantValues {
 
     ghost Value = { List RawValue };
 
-    ghost view = { λ m. values_in m.raws };
+    ghost view = { λ m. values_in m.raws.value };
 
-    ghost invariant = { λ m. AreSmall m.raws };
+    ghost invariant = { λ m. AreSmall m.raws.value };
 }
 
 impl MeantValues {
@@ -42,7 +43,9 @@ impl MeantValues {
         ensures { IfOk result (λ m. m ≡ values_of coded.now signal text.now) }
     {
         let raws = coded.raws_of(alloc, signal, text)?;
-        Ok(MeantValues { raws })
+        Ok(MeantValues {
+            raws: Rc::new(alloc, raws)?,
+        })
     }
 
     /// Those that mean a decimal from one to another, in units of 10 ^ -24, with this unit, or with any
@@ -62,31 +65,39 @@ impl MeantValues {
         ensures { IfOk result (λ m. m ≡ values_within coded.now signal low high unit.now) }
     {
         let raws = coded.raws_within(alloc, signal, low, high, unit)?;
-        Ok(MeantValues { raws })
+        Ok(MeantValues {
+            raws: Rc::new(alloc, raws)?,
+        })
+    }
+
+    /// Returns the same values. An error means out of memory.
+    pub(crate) fn copy(&self) -> Result<MeantValues, AllocError>
+        ensures { IfOk result (λ m. m ≡ self.now) }
+    {
+        Ok(MeantValues {
+            raws: self.raws.clone()?,
+        })
     }
 
     /// Whether a value is one of them.
     pub fn has(&self, value: &Value) -> bool
         ensures { result ≡ is_among_values self.now value.now }
     {
-        self.raws.has(value)
+        self.raws.as_ref().has(value)
     }
 
     /// How many there are.
     pub fn count(&self) -> u64
         ensures { result ≡ length self.now }
     {
-        self.raws.count()
+        self.raws.as_ref().count()
     }
 
     /// The one that there is, where it is one alone.
     pub fn only(&self) -> Option<Value>
         ensures { result ≡ only_one self.now }
     {
-        if self.raws.count() == 1 {
-            self.raws.only()
-        } else {
-            None
-        }
+        let raws = self.raws.as_ref();
+        if raws.count() == 1 { raws.only() } else { None }
     }
 }

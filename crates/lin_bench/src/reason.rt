@@ -1,9 +1,13 @@
 //! Why a line is bad.
 
-ghost use Rattle.std.specs.Prelude.{◌≡◌};
+ghost use Rattle.std.specs.Prelude.{◌≡◌, IfOk};
 ghost use Rattle.lin_bench.specs.Expectations.{until_reason, while_reason};
+ghost use Rattle.lin_bench.specs.Fields.{field_texts};
+ghost use Rattle.lin_bench.specs.OnLines.{on_reason};
 
+use crate::fields::copied_fields;
 use lin_text::{Many, Text};
+use std::alloc::{AllocError, Global};
 
 /// The hint about the values of a signal that doesn't have a value. Of more than eight units or texts it
 /// has the first eight, and `..`.
@@ -68,12 +72,22 @@ pub enum Reason {
     UnknownWhile(Many<Text>),
     /// `when` takes a node, a pattern and answers, `silent` or `off`.
     WhenForm,
+    /// `on` takes a form, `do` and a step, or `off`.
+    OnForm,
+    /// `on` has no form of these fields.
+    UnknownOn(Many<Text>),
+    /// `on` takes a send, a write, a switch or a sleep.
+    OnStep,
     /// `state` takes a node and a name.
     StateForm,
+    /// `node` takes a node, and `off` or `on`.
+    NodeForm,
     /// A field is no name: a letter or `_`, then letters, digits and `_`.
     NoName(Text),
     /// No responder with an address has this name or number.
     NoResponder(Text),
+    /// No responder has this name or number.
+    NotResponder(Text),
     /// No message goes from the first of these nodes to the second: not exactly one is the commander.
     NoMessages {
         from: Text,
@@ -162,9 +176,14 @@ impl Drop for Reason {
             Reason::WhileForm => {}
             Reason::UnknownWhile(_field) => {}
             Reason::WhenForm => {}
+            Reason::OnForm => {}
+            Reason::UnknownOn(_field) => {}
+            Reason::OnStep => {}
             Reason::StateForm => {}
+            Reason::NodeForm => {}
             Reason::NoName(_field) => {}
             Reason::NoResponder(_field) => {}
+            Reason::NotResponder(_field) => {}
             Reason::NoMessages {
                 from: _from,
                 to: _to,
@@ -226,6 +245,18 @@ impl Reason {
         match self {
             Reason::UnknownExpectation(fields) => Reason::UnknownWhile(fields),
             other => other,
+        }
+    }
+
+    /// The same of these fields of a form after `on`. An error means out of memory.
+    pub(crate) fn of_on(self, alloc: Global, all: &[&[u8]]) -> Result<Reason, AllocError>
+        ensures { IfOk result (λ why. why ≡ on_reason (field_texts all.now) self) }
+    {
+        match self {
+            Reason::UnknownExpectation(_fields) => Ok(Reason::UnknownOn(copied_fields(
+                alloc, all,
+            )?)),
+            other => Ok(other),
         }
     }
 }

@@ -10,11 +10,13 @@ ghost use Rattle.lin_bench.specs.Read.{Gives};
 ghost use Rattle.lin_bench.specs.RuleLines.{AddsRow, answer_form, answer_parts, answers_form, answers_of, copied_part};
 ghost use Rattle.lin_bench.specs.RuleLines.{after_state, before_enter, errors_form, errors_on, every_off, is_digit, is_letter};
 ghost use Rattle.lin_bench.specs.RuleLines.{ends_rule, is_name, is_name_sign, is_only, maybe_name, name_field, state_form, state_of_node, silent_or_end};
+ghost use Rattle.lin_bench.specs.RuleLines.{any_responder_field, is_on_word, power_form};
 ghost use Rattle.lin_bench.specs.RuleLines.{when_end, when_in, whens_end};
 ghost use Rattle.lin_bench.specs.RuleLines.{services_form, services_on, has_several_bits, every_fields, every_form, has_star, hex_byte, hex_part};
 ghost use Rattle.lin_bench.specs.RuleLines.{all_parts, last_field, parts_field, parts_fields, pattern_byte};
 ghost use Rattle.lin_bench.specs.RuleLines.{pattern_fields, pattern_of, repeated_step, responder_field};
 ghost use Rattle.lin_bench.specs.RuleLines.{row_of_pairs, sends_or_writes, timeouts_form};
+ghost use Rattle.lin_bench.specs.RuleLines.{timeouts_of_all, timeouts_of_one};
 ghost use Rattle.lin_bench.specs.RuleLines.{wait_field, when_fields, when_form, when_of, without_star};
 ghost use Rattle.lin_bench.specs.declared.rules.Part.{Part};
 
@@ -249,7 +251,7 @@ fn answer(alloc: Global, all: &[&[u8]]) -> Result<RuleAnswer, LineFault>
 }
 
 /// The number of the first field that is a word.
-fn word_at(fields: &[&[u8]], word: &[u8]) -> Option<usize>
+pub(crate) fn word_at(fields: &[&[u8]], word: &[u8]) -> Option<usize>
     ensures first { result ≡ position (λ f. bytes_eq f.now word.now) fields.now }
     ensures within { IfSome result (λ i. i < length fields.now) }
 {
@@ -531,16 +533,57 @@ pub(crate) fn when(alloc: Global, cluster: &Cluster, line: &[u8]) -> Result<Rule
     }
 }
 
+/// The limit of all responders, or that one has none, by two fields after `timeouts`.
+fn timeouts_of_all(
+    alloc: Global,
+    cluster: &Cluster,
+    field: &[u8],
+    word: &[u8],
+) -> Result<Rule, LineFault>
+    ensures { Gives (λ r. r) result (timeouts_of_all cluster.now field.now word.now) }
+{
+    if word == b"ms".as_slice() {
+        return Ok(Rule::Timeouts(count_field(alloc, field)?));
+    }
+    if word == b"off".as_slice() {
+        let node = responder(alloc, cluster, field)?;
+        return Ok(Rule::TimeoutsOf {
+            node,
+            limit_ms: None,
+        });
+    }
+    Err(LineFault::Bad(Reason::TimeoutsForm))
+}
+
+/// The limit of one responder.
+fn timeouts_of_one(
+    alloc: Global,
+    cluster: &Cluster,
+    node: &[u8],
+    number: &[u8],
+) -> Result<Rule, LineFault>
+    ensures { Gives (λ r. r) result (timeouts_of_one cluster.now node.now number.now) }
+{
+    let node = responder(alloc, cluster, node)?;
+    let ms = count_field(alloc, number)?;
+    Ok(Rule::TimeoutsOf {
+        node,
+        limit_ms: Some(ms),
+    })
+}
+
 /// When transfers are given up, by the fields after `timeouts`.
 #[tactic(auto, unfolding(crate::specs::RuleLines::timeouts_form))]
 pub(crate) fn timeouts(alloc: Global, cluster: &Cluster, line: &[u8]) -> Result<Rule, LineFault>
-    ensures { Gives (λ r. r) result (timeouts_form (line_fields line.now)) }
+    ensures { Gives (λ r. r) result (timeouts_form cluster.now (line_fields line.now)) }
 {
     let all = fields(alloc, cluster, line)?;
     match all.as_slice() {
         [word] if *word == b"off".as_slice() => Ok(Rule::TimeoutsOff),
-        [number, unit] if *unit == b"ms".as_slice() => {
-            Ok(Rule::Timeouts(count_field(alloc, *number)?))
+        [word] if *word == b"ldf".as_slice() => Ok(Rule::TimeoutsLdf(Many::new(Vec::new(alloc)))),
+        [field, word] => timeouts_of_all(alloc, cluster, *field, *word),
+        [node, number, unit] if *unit == b"ms".as_slice() => {
+            timeouts_of_one(alloc, cluster, *node, *number)
         }
         _ => Err(LineFault::Bad(Reason::TimeoutsForm)),
     }
@@ -731,4 +774,45 @@ pub(crate) fn state(alloc: Global, cluster: &Cluster, line: &[u8]) -> Result<Rul
 {
     let all = fields(alloc, cluster, line)?;
     state_by(alloc, cluster, all.as_slice())
+}
+
+/// A responder, with an address or without, by its name or its number.
+fn any_responder(alloc: Global, cluster: &Cluster, field: &[u8]) -> Result<u8, LineFault>
+    ensures { Gives (λ n. n) result (any_responder_field cluster.now field.now) }
+{
+    let node = node_field(alloc, cluster, field)?;
+    if node > 0 && (node as usize) < cluster.nodes() {
+        Ok(node)
+    } else {
+        Err(LineFault::Bad(Reason::NotResponder(Text::copied(alloc, field)?)))
+    }
+}
+
+/// Whether a word is `on`; none if it is neither `on` nor `off`.
+fn is_on(word: &[u8]) -> Option<bool>
+    ensures { result ≡ is_on_word word.now }
+{
+    if word == b"on".as_slice() {
+        Some(true)
+    } else if word == b"off".as_slice() {
+        Some(false)
+    } else {
+        None
+    }
+}
+
+/// Whether a responder has power, by the fields after `node`.
+#[tactic(auto, unfolding(crate::specs::RuleLines::power_form))]
+pub(crate) fn power(alloc: Global, cluster: &Cluster, line: &[u8]) -> Result<Rule, LineFault>
+    ensures { Gives (λ r. r) result (power_form cluster.now (line_fields line.now)) }
+{
+    let all = fields(alloc, cluster, line)?;
+    let [node, word] = all.as_slice() else {
+        return Err(LineFault::Bad(Reason::NodeForm));
+    };
+    let Some(is_on) = is_on(*word) else {
+        return Err(LineFault::Bad(Reason::NodeForm));
+    };
+    let node = any_responder(alloc, cluster, *node)?;
+    Ok(Rule::Power { node, is_on })
 }

@@ -9,10 +9,11 @@ ghost use Rattle.lin_core.specs.Runs.{steps_of};
 ghost use Rattle.lin_core.specs.Replies.{link_at};
 ghost use Rattle.lin_core.specs.declared.port.PortId.TheVariants.{Bus};
 ghost use Rattle.lin_core.specs.declared.step.Step.TheVariants.{Finish, Hurt};
-ghost use Rattle.lin_bench.specs.Added.{has_time, is_given_up, send_of, step_to_repeat};
+ghost use Rattle.lin_bench.specs.Added.{is_given_up, is_late, is_repeated, send_of, step_to_repeat};
 ghost use Rattle.lin_bench.specs.Added.{timeouts, times_until};
-ghost use Rattle.lin_bench.specs.Adding.{AddsAfterFinish, AfterFinish, CountsFinished, MakesAdded, MakesOne};
-ghost use Rattle.lin_bench.specs.Adding.{errors_after, timeouts_of, with_arrived};
+ghost use Rattle.lin_bench.specs.Adding.{AddsAfterFinish, AddsFirst, AfterFinish, CountsFinished, MakesAdded, MakesCalled, MakesOne};
+ghost use Rattle.lin_bench.specs.Ons.{begun_rule};
+ghost use Rattle.lin_bench.specs.Adding.{errors_after, has_no_limit, timeouts_of, with_arrived};
 ghost use Rattle.lin_bench.specs.Faults.{changed_steps};
 ghost use Rattle.lin_bench.specs.Making.{MakesSteps, MakesUnchanged, is_changed_on, struck_on};
 ghost use Rattle.std.specs.Option.{option_copied};
@@ -27,8 +28,11 @@ use crate::errors::tell_errors;
 use crate::fault::MakeFault;
 use crate::faults::{ArmedFault, missed, no_bytes, strike, target};
 use crate::got::Pending;
+use crate::limits::{limit_for, set_limit, set_limit_of_all};
+use crate::ons::{begun_rule, look};
+use crate::powers::{is_by_off, set_power};
 use crate::replies::{is_done, is_finish, went_to_all};
-use crate::rules::{Noted, Repeated, Rule, RuleEnd, Rules};
+use crate::rules::{Limit, Noted, Repeated, Rule, RuleEnd, Rules};
 use crate::slot_runs::hosts_waiting;
 use crate::states::set_state;
 use lin_core::{Core, Direction, Hold, Log, PortId, Reply, Step};
@@ -108,6 +112,15 @@ fn times_until(repeated: &Repeated, time: u64) -> u64
         .unwrap_or(0)
 }
 
+/// Whether a step is repeated by a time that is after the first time and not after the second, and isn't
+/// one of a node that is off.
+fn is_repeated(repeated: &Repeated, from: u64, to: u64, offs: &[u8]) -> bool
+    ensures { result ≡ is_repeated from to offs.now repeated.now }
+{
+    times_until(repeated, from) < times_until(repeated, to)
+        && !is_by_off(offs, &repeated.every.step)
+}
+
 /// The sending of an answer.
 fn send_of(noted: Noted) -> (PortId, Step)
     ensures { result ≡ send_of noted }
@@ -177,15 +190,22 @@ fn put_rule(alloc: Global, rules: &mut Rules, time: u64, rule: Rule) -> Result<(
         Rule::When(when) => add_when(&mut rules.whens, when)?,
         Rule::End(end) => end_rules(alloc, rules, &end)?,
         Rule::WhenOff => rules.whens = Many::new(Vec::new(alloc)),
-        Rule::Timeouts(ms) => rules.limit_ms = Some(ms),
-        Rule::TimeoutsOff => rules.limit_ms = None,
+        Rule::Timeouts(ms) => set_limit_of_all(alloc, rules, Some(Limit::Milliseconds(ms))),
+        Rule::TimeoutsLdf(limits) => set_limit_of_all(alloc, rules, Some(Limit::Ldf(limits))),
+        Rule::TimeoutsOff => set_limit_of_all(alloc, rules, None),
+        Rule::TimeoutsOf { node, limit_ms } => {
+            set_limit(alloc, &mut rules.own_limits, node, limit_ms)?;
+        }
         Rule::Every(every) => rules.everies.push(Repeated { began: time, every })?,
         Rule::EveryOff => rules.everies = Many::new(Vec::new(alloc)),
+        Rule::On(watched) => rules.ons.push(watched)?,
+        Rule::OnOff => rules.ons = Many::new(Vec::new(alloc)),
         Rule::Errors(on) => rules.errors = on,
         Rule::Services(on) => rules.services = on,
         Rule::State { node, name } => {
             set_state(alloc, &mut rules.states, node, name.as_slice())?;
         }
+        Rule::Power { node, is_on } => set_power(alloc, rules, node, is_on)?,
     }
     Ok(())
 }
@@ -283,10 +303,12 @@ impl RuledCore {
     /// Puts a rule in force, or out of it. An error means out of memory.
     pub(crate) fn rule(&mut self, alloc: Global, rule: Rule) -> Result<(), AllocError>
         ensures rules { OnOk result (self.new.rules
-            ≡ ruled (time self.old.core.cluster (past_of self.old.core)) self.old.rules rule) }
+            ≡ ruled (time self.old.core.cluster (past_of self.old.core)) self.old.rules
+            (begun_rule self.old.core.cluster (past_of self.old.core) rule)) }
         ensures core { self.new.core ≡ self.old.core }
     {
         let time = self.core.time();
+        let rule = begun_rule(alloc, &self.core, rule)?;
         put_rule(alloc, &mut self.rules, time, rule)
     }
 
@@ -323,12 +345,15 @@ impl RuledCore {
         ensures { result ≡ false → self.now.rules ≡ no_rules }
     {
         let rules = &self.rules;
-        rules.limit_ms.is_some()
+        rules.limit.is_some()
+            || !rules.own_limits.as_slice().is_empty()
             || rules.errors
             || rules.services
             || !rules.whens.as_slice().is_empty()
             || !rules.everies.as_slice().is_empty()
+            || !rules.ons.as_slice().is_empty()
             || !rules.states.as_slice().is_empty()
+            || !rules.offs.as_slice().is_empty()
             || !rules.noted.as_slice().is_empty()
             || !rules.faults.as_slice().is_empty()
     }
@@ -417,57 +442,72 @@ impl RuledCore {
         }
     }
 
-    /// Whether a message is begun on a link whose last good frame is too long ago.
-    fn is_given_up(&self, ms: u32, node: u8, dir: Direction) -> bool
+    /// Whether a message is begun on a link whose last good frame is so many microseconds ago.
+    fn is_given_up(&self, us: u64, node: u8, dir: Direction) -> bool
         requires node { node < nodes self.now.core.cluster }
         requires closed { open_slot (past_of self.now.core) ≡ None }
-        ensures { result ≡ is_given_up self.now.core.cluster (past_of self.now.core) ms
+        ensures { result ≡ is_given_up self.now.core.cluster (past_of self.now.core) us
             (link_at node dir) }
     {
-        self.core.time().saturating_sub(self.ends.of(node, dir)) >= 1000 * u64::from(ms)
+        self.core.time().saturating_sub(self.ends.of(node, dir)) >= us
             && self
                 .core
                 .refusal_of(PortId::Bus, &Step::Timeout { node, dir })
                 .is_none()
     }
 
+    /// Whether a message is begun on a link whose last good frame is longer ago than the limit of its node.
+    fn is_late(&self, node: u8, dir: Direction) -> bool
+        requires node { node < nodes self.now.core.cluster }
+        requires closed { open_slot (past_of self.now.core) ≡ None }
+        ensures { result ≡ is_late self.now.core.cluster (past_of self.now.core) self.now.rules
+            (link_at node dir) }
+    {
+        match limit_for(&self.rules, node, dir) {
+            Some(us) => self.is_given_up(us, node, dir),
+            None => false,
+        }
+    }
+
     /// Adds the timeouts of a node's links whose messages are given up, where it has an address.
-    fn give_up_at(
-        &self,
-        ms: u32,
-        node: u8,
-        steps: &mut Vec<(PortId, Step)>,
-    ) -> Result<(), AllocError>
+    fn give_up_at(&self, node: u8, steps: &mut Vec<(PortId, Step)>) -> Result<(), AllocError>
         requires node { node < nodes self.now.core.cluster }
         requires closed { open_slot (past_of self.now.core) ≡ None }
         ensures { OnOk result (steps.new.items ≡ steps.old.items
-            ++ timeouts_of self.now.core.cluster (past_of self.now.core) ms node) }
+            ++ timeouts_of self.now.core.cluster (past_of self.now.core) self.now.rules node) }
     {
         if self.core.cluster().nad(node).is_none() {
             return Ok(());
         }
-        if self.is_given_up(ms, node, Direction::Down) {
+        if self.is_late(node, Direction::Down) {
             let dir = Direction::Down;
             steps.push((PortId::Bus, Step::Timeout { node, dir }))?;
         }
-        if self.is_given_up(ms, node, Direction::Up) {
+        if self.is_late(node, Direction::Up) {
             let dir = Direction::Up;
             steps.push((PortId::Bus, Step::Timeout { node, dir }))?;
         }
         Ok(())
     }
 
+    /// Whether no transfer has a limit.
+    fn has_no_limit(&self) -> bool
+        ensures { result ≡ has_no_limit self.now.rules }
+    {
+        self.rules.limit.is_none() && self.rules.own_limits.as_slice().is_empty()
+    }
+
     /// Adds the timeouts of messages that take too long.
     fn give_up(&self, steps: &mut Vec<(PortId, Step)>) -> Result<(), AllocError>
         requires { open_slot (past_of self.now.core) ≡ None }
         ensures { OnOk result (steps.new.items ≡ steps.old.items
-            ++ timeouts self.now.core.cluster (past_of self.now.core) self.now.rules.limit_ms) }
+            ++ timeouts self.now.core.cluster (past_of self.now.core) self.now.rules) }
     {
-        let Some(ms) = self.rules.limit_ms else {
+        if self.has_no_limit() {
             return Ok(());
-        };
+        }
         for node in 0..self.core.cluster().nodes() as u8 {
-            self.give_up_at(ms, node, steps)?;
+            self.give_up_at(node, steps)?;
         }
         Ok(())
     }
@@ -481,10 +521,10 @@ impl RuledCore {
         if !self.rules.errors {
             return Ok(());
         }
-        tell_errors(alloc, &self.core, steps)
+        tell_errors(alloc, &self.core, self.rules.offs.as_slice(), steps)
     }
 
-    /// Adds what is repeated and whose time has come since a time.
+    /// Adds what is repeated and whose time has come since a time, but for the steps of nodes that are off.
     fn repeat(
         &self,
         alloc: Global,
@@ -493,10 +533,10 @@ impl RuledCore {
         steps: &mut Vec<(PortId, Step)>,
     ) -> Result<(), AllocError>
         ensures { OnOk result (steps.new.items ≡ steps.old.items
-            ++ map step_to_repeat (filter (has_time began time) self.now.rules.everies)) }
+            ++ map step_to_repeat (filter (is_repeated began time self.now.rules.offs) self.now.rules.everies)) }
     {
         for repeated in self.rules.everies.as_slice() {
-            if times_until(repeated, began) < times_until(repeated, time) {
+            if is_repeated(repeated, began, time, self.rules.offs.as_slice()) {
                 let every = &repeated.every;
                 steps.push((every.by, every.step.copy(alloc)?))?;
             }
@@ -515,12 +555,31 @@ impl RuledCore {
         Ok(())
     }
 
-    /// Makes the steps that the rules add after the finish of a slot that began at a time.
-    fn add(&mut self, alloc: Global, began: u64) -> Result<(), MakeFault>
+    /// Looks at what calls for steps, and makes these.
+    fn look(&mut self, alloc: Global) -> Result<(), MakeFault>
+        ensures { MakesCalled self.old result self.new }
+    {
+        if self.rules.ons.as_slice().is_empty() {
+            return Ok(());
+        }
+        let mut steps = Vec::new(alloc);
+        let rules = &mut self.rules;
+        look(
+            alloc,
+            &self.core,
+            rules.offs.as_slice(),
+            &mut rules.ons,
+            &mut steps,
+        )?;
+        self.make_all(steps)
+    }
+
+    /// Makes the steps that the rules add by the history with the finish of a slot that began at a time.
+    fn add_first(&mut self, alloc: Global, began: u64) -> Result<(), MakeFault>
         requires logged { 0 < length self.old.core.log }
         requires closed { open_slot (past_of self.old.core) ≡ None }
         ensures { AfterFinish self.old.core (λ e past. began ≡ time self.old.core.cluster past
-            → AddsAfterFinish self.old e past result self.new) }
+            → AddsFirst self.old e past result self.new) }
     {
         self.react(alloc)?;
         let time = self.core.time();
@@ -530,6 +589,18 @@ impl RuledCore {
         take_noted(alloc, &mut self.rules.noted, time, &mut steps)?;
         self.repeat(alloc, began, time, &mut steps)?;
         self.make_all(steps)
+    }
+
+    /// Makes the steps that the rules add after the finish of a slot that began at a time, and then those that
+    /// are called for.
+    fn add(&mut self, alloc: Global, began: u64) -> Result<(), MakeFault>
+        requires logged { 0 < length self.old.core.log }
+        requires closed { open_slot (past_of self.old.core) ≡ None }
+        ensures { AfterFinish self.old.core (λ e past. began ≡ time self.old.core.cluster past
+            → AddsAfterFinish self.old e past result self.new) }
+    {
+        self.add_first(alloc, began)?;
+        self.look(alloc)
     }
 }
 

@@ -3,12 +3,18 @@
 ghost use Rattle.std.specs.Prelude.{◌≡◌, ◌∷◌, ◌++◌, [], IfOk, None, OnOk, flat_map, map};
 ghost use Rattle.lin_text.specs.Written.{Grows};
 ghost use Rattle.lin_bench.specs.RulesInForce.{answer_text, answers_text, every_line, further_answer_text};
-ghost use Rattle.lin_bench.specs.RulesInForce.{line_if, lines_of_rules, name_text, part_gap, part_word, parts_text};
+ghost use Rattle.lin_bench.specs.RulesInForce.{limit_text, line_if, lines_of_rules, name_text, own_limit_line, off_line, off_lines, on_line, own_limit_lines, part_gap, part_word, parts_text};
 ghost use Rattle.lin_bench.specs.RulesInForce.{port_text, rule_line, time_text, timeouts_lines};
-ghost use Rattle.lin_bench.specs.RulesInForce.{state_line, state_lines, wait_text, when_line};
+ghost use Rattle.lin_bench.specs.RulesInForce.{state_line, state_lines, switch_lines, wait_text, when_line};
 
-use crate::rules::{Every, NodeState, Part, Repeated, RuleAnswer, Rules, When};
+use crate::limits::own_limit;
+use crate::powers::is_off;
+use crate::rules::{
+    Every, Limit, NodeState, On, OwnLimit, Part, Repeated, RuleAnswer, Rules, Watched, When,
+};
 use crate::states::kept_state;
+use crate::texts::condition_line;
+use crate::word_list::put_word_list;
 use lin_core::PortId;
 use lin_log::{put_node, put_pattern, put_port, put_step};
 use lin_parts::Cluster;
@@ -149,6 +155,42 @@ fn put_every<W: Write>(out: &mut TextWriter<'_, W>, cluster: &Cluster, every: &E
     put_step(out, cluster, &every.step);
 }
 
+/// A limit, or that there is none.
+fn put_limit<W: Write>(out: &mut TextWriter<'_, W>, limit_ms: Option<u32>)
+    ensures { Grows W.contents out.old out.new (limit_text limit_ms) }
+{
+    match limit_ms {
+        Some(ms) => put_time(out, " ", ms),
+        None => out.put_text(" off"),
+    }
+}
+
+fn put_own_limit<W: Write>(out: &mut TextWriter<'_, W>, cluster: &Cluster, limit: OwnLimit)
+    ensures { Grows W.contents out.old out.new (own_limit_line cluster.now limit) }
+{
+    out.put_text("timeouts");
+    put_node(out, cluster, limit.node);
+    put_limit(out, limit.limit_ms);
+}
+
+fn put_on<W: Write>(out: &mut TextWriter<'_, W>, cluster: &Cluster, on: &On)
+    ensures { Grows W.contents out.old out.new (on_line cluster.now on.now) }
+{
+    out.put_text("on ");
+    put_word_list(out, cluster, &condition_line(&on.form.what, on.form.wanted));
+    out.put_text(" do");
+    put_repeating_port(out, cluster, on.by);
+    put_step(out, cluster, &on.step);
+}
+
+fn put_off<W: Write>(out: &mut TextWriter<'_, W>, cluster: &Cluster, node: u8)
+    ensures { Grows W.contents out.old out.new (off_line cluster.now node) }
+{
+    out.put_text("node");
+    put_node(out, cluster, node);
+    out.put_text(" off");
+}
+
 /// A rule that has a line.
 #[derive(Clone, Copy)]
 enum RuleLine<'r> {
@@ -157,7 +199,11 @@ enum RuleLine<'r> {
     /// A rule that is on or off; its line is always the same.
     Switch(&'r str),
     Every(&'r Every),
+    On(&'r On),
     State(&'r NodeState),
+    OwnLimit(OwnLimit),
+    /// A node that is off.
+    Off(u8),
 }
 
 fn put_rule<W: Write>(out: &mut TextWriter<'_, W>, cluster: &Cluster, rule: RuleLine<'_>)
@@ -168,7 +214,10 @@ fn put_rule<W: Write>(out: &mut TextWriter<'_, W>, cluster: &Cluster, rule: Rule
         RuleLine::Timeouts(ms) => put_time(out, "timeouts ", ms),
         RuleLine::Switch(line) => out.put_text(line),
         RuleLine::Every(every) => put_every(out, cluster, every),
+        RuleLine::On(on) => put_on(out, cluster, on),
         RuleLine::State(state) => put_state(out, cluster, state),
+        RuleLine::OwnLimit(limit) => put_own_limit(out, cluster, limit),
+        RuleLine::Off(node) => put_off(out, cluster, node),
     }
 }
 
@@ -217,13 +266,31 @@ fn add_whens(
 fn add_timeouts(
     alloc: Global,
     cluster: &Cluster,
-    limit_ms: Option<u32>,
+    limit: &Option<Limit>,
     lines: &mut Vec<Text>,
 ) -> Result<(), AllocError>
-    ensures { OnOk result (lines.new.items ≡ lines.old.items ++ timeouts_lines limit_ms) }
+    ensures { OnOk result (lines.new.items ≡ lines.old.items ++ timeouts_lines limit.now) }
 {
-    if let Some(ms) = limit_ms {
-        add_line(alloc, cluster, RuleLine::Timeouts(ms), lines)?;
+    match limit {
+        Some(Limit::Milliseconds(ms)) => add_line(alloc, cluster, RuleLine::Timeouts(*ms), lines),
+        Some(Limit::Ldf(_)) => add_line(alloc, cluster, RuleLine::Switch("timeouts ldf"), lines),
+        None => Ok(()),
+    }
+}
+
+/// Adds the lines of the limits of single responders, by rising node.
+fn add_own_limits(
+    alloc: Global,
+    cluster: &Cluster,
+    limits: &[OwnLimit],
+    lines: &mut Vec<Text>,
+) -> Result<(), AllocError>
+    ensures { OnOk result (lines.new.items ≡ lines.old.items ++ own_limit_lines cluster.now limits.now) }
+{
+    for node in 0..cluster.nodes() as u8 {
+        if let Some(limit) = own_limit(limits, node) {
+            add_line(alloc, cluster, RuleLine::OwnLimit(*limit), lines)?;
+        }
     }
     Ok(())
 }
@@ -259,6 +326,21 @@ fn add_everies(
     Ok(())
 }
 
+fn add_ons(
+    alloc: Global,
+    cluster: &Cluster,
+    ons: &[Watched],
+    lines: &mut Vec<Text>,
+) -> Result<(), AllocError>
+    ensures { OnOk result (lines.new.items
+        ≡ lines.old.items ++ map (λ watched. on_line cluster.now watched.on) ons.now) }
+{
+    for watched in ons {
+        add_line(alloc, cluster, RuleLine::On(&watched.on), lines)?;
+    }
+    Ok(())
+}
+
 /// Adds the lines of states that aren't `default`, by rising node.
 fn add_states(
     alloc: Global,
@@ -276,9 +358,40 @@ fn add_states(
     Ok(())
 }
 
+/// Adds the lines of the nodes that are off, by rising node.
+fn add_offs(
+    alloc: Global,
+    cluster: &Cluster,
+    offs: &[u8],
+    lines: &mut Vec<Text>,
+) -> Result<(), AllocError>
+    ensures { OnOk result (lines.new.items ≡ lines.old.items ++ off_lines cluster.now offs.now) }
+{
+    for node in 0..cluster.nodes() as u8 {
+        if is_off(offs, node) {
+            add_line(alloc, cluster, RuleLine::Off(node), lines)?;
+        }
+    }
+    Ok(())
+}
+
+/// Adds the lines of `response_errors on` and `services on`, if they are. An error means out of memory.
+fn add_switches(
+    alloc: Global,
+    cluster: &Cluster,
+    rules: &Rules,
+    lines: &mut Vec<Text>,
+) -> Result<(), AllocError>
+    ensures { OnOk result (lines.new.items ≡ lines.old.items ++ switch_lines rules.now) }
+{
+    add_if(alloc, cluster, rules.errors, "response_errors on", lines)?;
+    add_if(alloc, cluster, rules.services, "services on", lines)
+}
+
 /// The lines that make the rules in force: each `when` in the order of the first lines of its node, state
-/// and pattern, `timeouts`, `response_errors on`, `services on`, each `every` in the order of the lines, and
-/// the states that aren't `default`, by rising node.
+/// and pattern, `timeouts` of all and then of single responders by rising node, `response_errors on`,
+/// `services on`, each `every` and each `on` in the order of the lines, and by rising node the states that
+/// aren't `default` and the nodes that are off.
 ///
 /// # Errors
 /// Out of memory.
@@ -291,16 +404,12 @@ pub(crate) fn lines_of_rules(
 {
     let mut lines = Vec::new(alloc);
     add_whens(alloc, cluster, rules.whens.as_slice(), &mut lines)?;
-    add_timeouts(alloc, cluster, rules.limit_ms, &mut lines)?;
-    add_if(
-        alloc,
-        cluster,
-        rules.errors,
-        "response_errors on",
-        &mut lines,
-    )?;
-    add_if(alloc, cluster, rules.services, "services on", &mut lines)?;
+    add_timeouts(alloc, cluster, &rules.limit, &mut lines)?;
+    add_own_limits(alloc, cluster, rules.own_limits.as_slice(), &mut lines)?;
+    add_switches(alloc, cluster, rules, &mut lines)?;
     add_everies(alloc, cluster, rules.everies.as_slice(), &mut lines)?;
+    add_ons(alloc, cluster, rules.ons.as_slice(), &mut lines)?;
     add_states(alloc, cluster, rules.states.as_slice(), &mut lines)?;
+    add_offs(alloc, cluster, rules.offs.as_slice(), &mut lines)?;
     Ok(lines)
 }

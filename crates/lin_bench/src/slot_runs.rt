@@ -8,7 +8,7 @@ ghost use Rattle.lin_core.specs.Core.{past_of};
 ghost use Rattle.lin_core.specs.declared.port.PortId.TheVariants.{Bus};
 ghost use Rattle.lin_bench.specs.Making.{MakesSlots, MakesSteps, course_on, line_ends};
 ghost use Rattle.lin_bench.specs.Searches.{IsSearchState, taken_by};
-ghost use Rattle.lin_bench.specs.Slots.{decision, due_in, due_now, goes_on, hosts_waiting};
+ghost use Rattle.lin_bench.specs.Slots.{decision, due_in, due_now, goes_on, hosts_waiting, leaves, way};
 ghost use Rattle.lin_bench.specs.Slots.{due_node, hurt_steps, is_opened, leave_nodes, most, goes_on_until};
 ghost use Rattle.lin_bench.specs.Slots.{slot_rest, slot_steps, some_wait};
 ghost use Rattle.lin_bench.specs.Watches.{IsWatch};
@@ -16,6 +16,7 @@ ghost use Rattle.lin_bench.specs.Watches.{IsWatch};
 use crate::expected::Expected;
 use crate::fault::MakeFault;
 use crate::line::{Disturbance, Extent};
+use crate::powers::is_off;
 use crate::ruled::RuledCore;
 use crate::taken::TakenEvents;
 use crate::verdicts::comes;
@@ -55,8 +56,8 @@ pub(crate) fn due_in(alloc: Global, reply: &Reply) -> Result<Option<Vec<u8>>, Al
     }
 }
 
-/// Whether a node leaves its response out.
-fn leaves(how: &Disturbance, node: u8) -> bool
+/// Whether a line says that a node leaves its response out.
+fn is_left_out(how: &Disturbance, node: u8) -> bool
     ensures { result ≡ is_in (leave_nodes how.now) node }
 {
     match how {
@@ -65,11 +66,18 @@ fn leaves(how: &Disturbance, node: u8) -> bool
     }
 }
 
-/// What a node does that is due.
-fn decision(how: &Disturbance, node: u8) -> Step
-    ensures { (Bus, result) ≡ decision how.now node }
+/// Whether a node leaves its response out: a line says so, or the node is off.
+fn leaves(how: &Disturbance, offs: &[u8], node: u8) -> bool
+    ensures { result ≡ leaves (way how.now offs.now) node }
 {
-    if leaves(how, node) {
+    is_left_out(how, node) || is_off(offs, node)
+}
+
+/// What a node does that is due.
+fn decision(how: &Disturbance, offs: &[u8], node: u8) -> Step
+    ensures { (Bus, result) ≡ decision (way how.now offs.now) node }
+{
+    if leaves(how, offs, node) {
         Step::Leave { node }
     } else {
         Step::Answer { node }
@@ -81,12 +89,13 @@ fn decide(
     alloc: Global,
     ruled: &mut RuledCore,
     how: &Disturbance,
+    offs: &[u8],
     due: &[u8],
 ) -> Result<(), MakeFault>
-    ensures { MakesSteps ruled.old (map (decision how.now) due.now) result ruled.new }
+    ensures { MakesSteps ruled.old (map (decision (way how.now offs.now)) due.now) result ruled.new }
 {
     for node in due {
-        ruled.make(alloc, PortId::Bus, decision(how, *node))?;
+        ruled.make(alloc, PortId::Bus, decision(how, offs, *node))?;
     }
     Ok(())
 }
@@ -128,11 +137,12 @@ fn rest_of_slot(
     alloc: Global,
     ruled: &mut RuledCore,
     how: &Disturbance,
+    offs: &[u8],
     due: &[u8],
 ) -> Result<(), MakeFault>
-    ensures { MakesSteps ruled.old (slot_rest how.now (Some due.now)) result ruled.new }
+    ensures { MakesSteps ruled.old (slot_rest (way how.now offs.now) (Some due.now)) result ruled.new }
 {
-    decide(alloc, ruled, how, due)?;
+    decide(alloc, ruled, how, offs, due)?;
     hurt(alloc, ruled, how)?;
     ruled.make(alloc, PortId::Bus, Step::Finish)
 }
@@ -141,16 +151,17 @@ fn rest_of_slot(
 #[tactic(auto, unfolding(crate::specs::Slots::slot_steps))]
 fn slot(alloc: Global, ruled: &mut RuledCore, how: &Disturbance) -> Result<bool, MakeFault>
     ensures steps { MakesSteps ruled.old
-        (slot_steps ruled.old.core.cluster ruled.old.core.opening ruled.old.core.capacity how.now
-        (past_of ruled.old.core)) result ruled.new }
+        (slot_steps ruled.old.core.cluster ruled.old.core.opening ruled.old.core.capacity
+        (way how.now ruled.old.rules.offs) (past_of ruled.old.core)) result ruled.new }
     ensures opened { IfOk result (λ is. is ≡ is_opened
         (due_now ruled.old.core.cluster ruled.old.core.opening ruled.old.core.capacity
         (past_of ruled.old.core))) }
 {
+    let offs = Vec::from_slice(alloc, ruled.rules().offs.as_slice())?;
     let Some(due) = open(alloc, ruled)? else {
         return Ok(false);
     };
-    rest_of_slot(alloc, ruled, how, due.as_slice())?;
+    rest_of_slot(alloc, ruled, how, offs.as_slice(), due.as_slice())?;
     Ok(true)
 }
 

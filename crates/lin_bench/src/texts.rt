@@ -10,7 +10,7 @@ ghost use Rattle.lin_bench.specs.LineWords.{spaced_words};
 ghost use Rattle.lin_bench.specs.Texts.{bad_line_text, bytes_word, cluster_text, condition_words, counts_word, end_words, entries_word, expected_text, expected_words, fields_word};
 ghost use Rattle.lin_bench.specs.declared.expected.Expected.TheVariants.{HasRule};
 ghost use Rattle.lin_bench.specs.declared.rules.RuleEnd.{RuleEnd};
-ghost use Rattle.lin_bench.specs.Texts.{found_text, got_text, hint_words, judged_text};
+ghost use Rattle.lin_bench.specs.Texts.{found_text, got_text, hint_words, judged_text, on_end_words};
 ghost use Rattle.lin_bench.specs.Texts.{or_marked, other_pending_words, pending_text};
 ghost use Rattle.lin_bench.specs.Texts.{pending_words, reason_text, reason_words, repeated_words};
 ghost use Rattle.lin_bench.specs.Texts.{short_words, since_word, step_reason_words};
@@ -19,7 +19,7 @@ ghost use Rattle.lin_bench.specs.Texts.{unmet_text, verdict_text, what_text, whe
 use crate::expected::{Condition, Expected, Since};
 use crate::got::{Got, Judged, Judgement, Pending, is_unmet};
 use crate::reason::{Hint, Reason};
-use crate::rules::RuleEnd;
+use crate::rules::{Form, RuleEnd};
 use crate::rules_in_force::put_repeating_port;
 use crate::word_list::{WordList, put_all_after, put_joined, put_word_list};
 use lin_core::{Listed, PortId, Step};
@@ -208,10 +208,23 @@ pub fn reason_line(reason: &Reason) -> WordList<'_>
             Word::Fixed("while doesn't accept"),
             Word::Fields(fields.as_slice()),
         ]),
+        Reason::UnknownOn(fields) => return WordList::of(&[
+            Word::Fixed("on doesn't accept"),
+            Word::Fields(fields.as_slice()),
+        ]),
+        Reason::OnForm => {
+            return WordList::of(&[Word::Fixed("usage: on FORM do STEP, on FORM off or on off")]);
+        }
+        Reason::OnStep => {
+            return WordList::of(&[Word::Fixed("on accepts only send, write, switch and sleep")]);
+        }
         Reason::WhenForm => return WordList::of(&[Word::Fixed(
             "usage: when NODE PATTERN answer BYTES, when NODE PATTERN silent or when NODE PATTERN off",
         )]),
         Reason::StateForm => return WordList::of(&[Word::Fixed("usage: state NODE NAME")]),
+        Reason::NodeForm => {
+            return WordList::of(&[Word::Fixed("usage: node NODE off or node NODE on")]);
+        }
         Reason::NoName(field) => return WordList::of(&[
             Word::Fixed("expected a name, not"),
             Word::Said(field.as_slice()),
@@ -219,6 +232,10 @@ pub fn reason_line(reason: &Reason) -> WordList<'_>
         Reason::NoResponder(field) => return WordList::of(&[
             Word::Said(field.as_slice()),
             Word::Fixed("isn't a responder with a NAD"),
+        ]),
+        Reason::NotResponder(field) => return WordList::of(&[
+            Word::Said(field.as_slice()),
+            Word::Fixed("isn't a responder"),
         ]),
         Reason::NoMessages { from, to } => return WordList::of(&[
             Word::Fixed("no message goes from"),
@@ -239,7 +256,7 @@ pub fn reason_line(reason: &Reason) -> WordList<'_>
             "answer has more than 4095 bytes",
         )]),
         Reason::TimeoutsForm => return WordList::of(&[Word::Fixed(
-            "usage: timeouts N ms or timeouts off",
+            "usage: timeouts N ms, timeouts ldf, timeouts NODE N ms, timeouts NODE off or timeouts off",
         )]),
         Reason::EveryForm => return WordList::of(&[Word::Fixed(
             "usage: every N ms STEP, every off STEP or every off",
@@ -374,7 +391,7 @@ fn word_if(wanted: bool, plain: &'static str, negated: &'static str) -> Word<'st
 }
 
 /// That a condition is to hold, or isn't.
-fn condition_line(condition: &Condition, wanted: bool) -> WordList<'_>
+pub(crate) fn condition_line(condition: &Condition, wanted: bool) -> WordList<'_>
     ensures { result ≡ condition_words wanted condition.now }
 {
     match condition {
@@ -613,6 +630,16 @@ fn put_every_end<W: Write>(out: &mut TextWriter<'_, W>, cluster: &Cluster, by: P
     put_step(out, cluster, step);
 }
 
+/// The end of the steps that a form calls for, with a space before it.
+fn put_on_end<W: Write>(out: &mut TextWriter<'_, W>, cluster: &Cluster, form: &Form)
+    ensures { Grows W.contents out.old out.new
+        (spaced_word (cluster_text cluster.now (on_end_words form.now))) }
+{
+    out.put_text(" on ");
+    put_word_list(out, cluster, &condition_line(&form.what, form.wanted));
+    out.put_text(" off");
+}
+
 /// The line that ends rules, with a space before it.
 fn put_end<W: Write>(out: &mut TextWriter<'_, W>, cluster: &Cluster, end: &RuleEnd)
     ensures { Grows W.contents out.old out.new
@@ -633,6 +660,7 @@ fn put_end<W: Write>(out: &mut TextWriter<'_, W>, cluster: &Cluster, end: &RuleE
             out.put_text(" off");
         }
         RuleEnd::Every { by, step } => put_every_end(out, cluster, *by, step),
+        RuleEnd::On(form) => put_on_end(out, cluster, form),
     }
 }
 

@@ -42,7 +42,7 @@ fn tolerance(within: &Option<SaidTime>) -> u32
 }
 
 /// The verdict on a condition that is to hold, or not to hold, by what is found of it.
-fn judged(finding: Finding, wanted: bool) -> Option<Got>
+pub(crate) fn judged(finding: Finding, wanted: bool) -> Option<Got>
     ensures { result ≡ judged_so wanted finding }
 {
     let Finding { holds, got } = finding;

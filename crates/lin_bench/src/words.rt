@@ -9,12 +9,11 @@ ghost use Rattle.lin_bench.specs.Lines.{read_line};
 ghost use Rattle.lin_bench.specs.Parts.{worded_line_of};
 ghost use Rattle.lin_bench.specs.Read.{Gives};
 ghost use Rattle.lin_bench.specs.Words.{expected_line, from_end, in_numbers, is_expect, is_expectation_word, is_value_mark};
-ghost use Rattle.lin_bench.specs.Words.{by_wish, nearest_line, worded_by, written_line};
-ghost use Rattle.lin_bench.specs.Words.{is_write, meant_by, meant_condition, meant_line, read_worded_line, wish_of};
-ghost use Rattle.lin_bench.specs.Words.{line_with_signal, worded_signal};
+ghost use Rattle.lin_bench.specs.Words.{by_wish, limited, line_in_words, nearest_line, worded_by, written_line};
+ghost use Rattle.lin_bench.specs.Words.{is_write, meant_line, read_worded_line, wish_of};
+ghost use Rattle.lin_bench.specs.Words.{line_with_signal, marked_line, said_line, worded_signal};
 ghost use Rattle.lin_bench.specs.Words.{without_comment, worded, worded_line, worded_or_plain};
 
-use crate::expected::{Condition, Expected};
 use crate::fault::LineFault;
 use crate::fields::{fields, signal_field, untabbed};
 use crate::hints::names_hash;
@@ -22,12 +21,14 @@ use crate::line::ScriptLine;
 use crate::lines::read_line;
 use crate::meant::MeantValues;
 use crate::reason::Reason;
+use crate::rules::{NodeLimits, Rule};
 use crate::said_values::{Said, expected_values, joined, nearest_value, only_value};
 use crate::unmarked::read_unworded;
+use crate::worded_ons::{read_worded_on, worded_on};
 use lin_frame::Value;
 use lin_log::{NumberNaming, Word, first_field, put_shown};
 use lin_parts::Cluster;
-use lin_text::{Text, TextBuffer, TextWriter};
+use lin_text::{Many, Text, TextBuffer, TextWriter};
 use lin_values::Coded;
 use std::alloc::{AllocError, Global};
 
@@ -163,7 +164,7 @@ pub(crate) fn in_numbers<'a>(
     joined(alloc, all.as_slice())
 }
 
-/// A line that expects a value, with the values that words say in the place of this one.
+/// A line that expects a value, or waits for one, with the values that words say in the place of this one.
 fn meant_line(said: Option<ScriptLine>, text: Text, values: MeantValues) -> Option<ScriptLine>
     ensures { result ≡ meant_line text values said }
 {
@@ -177,6 +178,7 @@ fn meant_line(said: Option<ScriptLine>, text: Text, values: MeantValues) -> Opti
         Some(ScriptLine::While(slots, expected)) => {
             Some(ScriptLine::While(slots, expected.meant(text, values)))
         }
+        Some(ScriptLine::Rule(rule)) => Some(ScriptLine::Rule(rule.meant(text, values))),
         other => other,
     }
 }
@@ -229,7 +231,7 @@ fn nearest_line(
 
 /// What a line that expects a value in words says, by what it says with the value 0.
 #[tactic(auto, unfolding(crate::specs::Words::expected_line))]
-fn expected_line(
+pub(crate) fn expected_line(
     alloc: Global,
     coded: &Coded,
     said: Said<'_>,
@@ -343,7 +345,7 @@ fn without_comment(
 
 /// The number of the signal that a field names, whose value words may say: that of a wide signal they may
 /// not.
-fn worded_signal(
+pub(crate) fn worded_signal(
     alloc: Global,
     cluster: &Cluster,
     coded: &Coded,
@@ -429,8 +431,69 @@ fn read_words(
     }
 }
 
+/// What a line says whose values may be in words after one mark.
+pub(crate) fn read_marked(
+    alloc: Global,
+    cluster: &Cluster,
+    coded: &Coded,
+    line: &[u8],
+) -> Result<Option<ScriptLine>, LineFault>
+    ensures { Gives (λ l. l) result (marked_line cluster.now coded.now line.now) }
+{
+    if has_words(alloc, cluster, line)? {
+        return read_words(alloc, cluster, coded, line);
+    }
+    read_unworded(alloc, cluster, coded, line)
+}
+
+/// What a line says whose values may be in words, also in the form of `on`.
+fn read_said(
+    alloc: Global,
+    cluster: &Cluster,
+    coded: &Coded,
+    line: &[u8],
+) -> Result<Option<ScriptLine>, LineFault>
+    ensures { Gives (λ l. l) result (said_line cluster.now coded.now line.now) }
+{
+    let all = fields(alloc, cluster, line)?;
+    match worded_on(all.as_slice()) {
+        Some(on) => read_worded_on(alloc, cluster, coded, &on),
+        None => read_marked(alloc, cluster, coded, line),
+    }
+}
+
+/// What a line of a bench script says, without the limits of an LDF.
+#[tactic(auto, unfolding(crate::specs::Words::line_in_words))]
+fn line_in_words(
+    alloc: Global,
+    cluster: &Cluster,
+    coded: Option<&Coded>,
+    line: &[u8],
+) -> Result<Option<ScriptLine>, LineFault>
+    ensures { Gives (λ l. l) result
+        (line_in_words cluster.now (option_map (λ k. k.now) coded.entry) line.now) }
+{
+    let Some(coded) = coded else {
+        return read_line(alloc, cluster, line);
+    };
+    if let [b'>', ..] = line {
+        return Ok(None);
+    }
+    read_said(alloc, cluster, coded, line)
+}
+
+/// A rule, with the limits of an LDF if it takes these.
+fn limited(alloc: Global, limits: &[NodeLimits], rule: Rule) -> Result<Rule, AllocError>
+    ensures { IfOk result (λ r. r ≡ limited limits.now rule) }
+{
+    match rule {
+        Rule::TimeoutsLdf(_) => Ok(Rule::TimeoutsLdf(Many::new(Vec::from_slice(alloc, limits)?))),
+        other => Ok(other),
+    }
+}
+
 /// What a line of a bench script, without its end, says, as `read_line`; values of signals may stand
-/// in words behind `=` or `~`, where what signals mean is known.
+/// in words behind `=` or `~`, where what signals mean is known. `limits` are those of the LDF.
 ///
 /// # Errors
 /// `Bad` with why the line is; `OutOfMemory`.
@@ -439,19 +502,14 @@ pub fn read_worded_line(
     alloc: Global,
     cluster: &Cluster,
     coded: Option<&Coded>,
+    limits: &[NodeLimits],
     line: &[u8],
 ) -> Result<Option<ScriptLine>, LineFault>
     ensures { Gives (λ l. l) result
-        (read_worded_line cluster.now (option_map (λ k. k.now) coded.entry) line.now) }
+        (read_worded_line cluster.now (option_map (λ k. k.now) coded.entry) limits.now line.now) }
 {
-    let Some(coded) = coded else {
-        return read_line(alloc, cluster, line);
-    };
-    if let [b'>', ..] = line {
-        return Ok(None);
+    match line_in_words(alloc, cluster, coded, line)? {
+        Some(ScriptLine::Rule(rule)) => Ok(Some(ScriptLine::Rule(limited(alloc, limits, rule)?))),
+        other => Ok(other),
     }
-    if has_words(alloc, cluster, line)? {
-        return read_words(alloc, cluster, coded, line);
-    }
-    read_unworded(alloc, cluster, coded, line)
 }

@@ -1,17 +1,20 @@
 -- The entries of answers are the log.
-use Rattle.std.proofs.Common.{◌≡◌, ◌∙◌, ℕ, List, [], ◌∷◌, ◌++◌, true, false, Option, Some, None, Result, Ok, Err, refl, sym, ap, append_assoc, append-nil, drop, flat_map, length, reverse, if◌then◌else◌, nat_le, nat_lt, codes, option_map}
+use Rattle.std.proofs.Common.{◌≡◌, ◌∙◌, ℕ, List, [], ◌∷◌, ◌++◌, Bool, true, false, is_some, Option, Some, None, Result, Ok, Err, refl, sym, ap, append_assoc, append-nil, drop, flat_map, length, reverse, if◌then◌else◌, nat_le, nat_lt, codes, option_map}
 use Rattle.std.specs.Str.{bytes_eq}
 use Rattle.std.proofs.Math.Seq.{drop-append_seam}
 use Rattle.std.proofs.lemmas.List.{length-reverse, reverse-append, reverse-reverse}
 use Rattle.lin_parts.specs.declared.parts.Parts.{Parts}
+use Rattle.lin_core.specs.History.{finished_slot}
 use Rattle.lin_core.specs.Runs.{entry_of}
 use Rattle.lin_core.specs.declared.log.LogEntry.{LogEntry}
 use Rattle.lin_core.specs.declared.port.PortId.{PortId}
 use Rattle.lin_core.specs.declared.step.Step.{Step}
+use Rattle.lin_bench.specs.declared.rules.NodeLimits.{NodeLimits}
 use Rattle.lin_bench.specs.Made.{BenchState, course_of, expects_from, bench_with_verdict, made, made_within, steps_said, slots_made, bench_after_steps}
 use Rattle.lin_bench.specs.Added.{added_steps}
 use Rattle.lin_bench.specs.Faults.{disturbed_steps}
-use Rattle.lin_bench.specs.Slots.{Course, course_after as after_steps, after_made, most, past_after, with_entry, with_struck}
+use Rattle.lin_bench.specs.Ons.{reactions}
+use Rattle.lin_bench.specs.Slots.{Course, called_if, course_after as after_steps, after_made, first_added, most, past_after, with_entry, with_struck}
 use Rattle.lin_bench.proofs.Makes.{after_one}
 use Rattle.lin_bench.specs.declared.expected.Expected.{Expected}
 use Rattle.lin_bench.specs.declared.got.Verdict.TheVariants.{SlotLimit}
@@ -56,13 +59,19 @@ kept-past : (c : Parts) (opening capacity : ℕ) (P : List LogEntry → Type 0) 
 kept-past c opening capacity P keeps past [] h = h
 kept-past c opening capacity P keeps past (s ∷ ss) h = kept-past c opening capacity P keeps (entry_of c opening capacity past s ∷ past) ss (keeps past s h)
 
+kept-called : (c : Parts) (opening capacity : ℕ) (P : List LogEntry → Type 0) → Keeps c opening capacity P → (finishes : Bool) (at : Course) → P at.past
+    → P (called_if c opening capacity finishes at).past
+kept-called c opening capacity P keeps true at h = kept-past c opening capacity P keeps at.past (reactions c at.past at.rules) h
+kept-called c opening capacity P keeps false at h = h
+
 kept-after-made : (c : Parts) (opening capacity : ℕ) (P : List LogEntry → Type 0) → Keeps c opening capacity P → (at : Course) (ss : List (PortId × Step)) → P at.past
     → P (after_made c opening capacity at ss).past
 kept-after-made c opening capacity P keeps at [] h = h
 kept-after-made c opening capacity P keeps at (s ∷ ss) h =
     let e = entry_of c opening capacity at.past s in
     kept-after-made c opening capacity P keeps (with_entry c opening capacity at e) ss
-    (kept-past c opening capacity P keeps (e ∷ at.past) (added_steps c e at.past at.rules) (keeps at.past s h))
+    (kept-called c opening capacity P keeps (is_some (finished_slot e at.past)) (first_added c opening capacity at e)
+    (kept-past c opening capacity P keeps (e ∷ at.past) (added_steps c e at.past at.rules) (keeps at.past s h)))
 
 kept-after : (c : Parts) (opening capacity : ℕ) (P : List LogEntry → Type 0) → Keeps c opening capacity P → (at : Course) (ss : List (PortId × Step)) → P at.past
     → P (after_steps c opening capacity at ss).past
@@ -131,13 +140,13 @@ mark-forward : (r : Result (List ℕ) Reason) → IsForward (r >>= (λ name. Ok 
 mark-forward (Ok name) = tt
 mark-forward (Err why) = tt
 
-fields-forward : (c : Parts) (k : Option CodedData) (line : List ℕ) (fs : List (List ℕ)) → has_first_word (codes "back") fs ≡ false → IsForward (heard_in c k line fs)
-fields-forward c k line [] h = script-forward (read_worded_line c k line)
-fields-forward c k line (w ∷ fs) h =
-    let own : Result (Option Heard) Reason = of_script (read_worded_line c k line) in
+fields-forward : (c : Parts) (k : Option CodedData) (limits : List NodeLimits) (line : List ℕ) (fs : List (List ℕ)) → has_first_word (codes "back") fs ≡ false → IsForward (heard_in c k limits line fs)
+fields-forward c k limits line [] h = script-forward (read_worded_line c k limits line)
+fields-forward c k limits line (w ∷ fs) h =
+    let own : Result (Option Heard) Reason = of_script (read_worded_line c k limits line) in
     let back : Result (Option Heard) Reason = back_name fs >>= (λ name. Ok (Some (GoBack name))) in
     let mark : Result (Option Heard) Reason = mark_name fs >>= (λ name. Ok (Some (SetMark name))) in
-    let rest : IsForward (if bytes_eq w (codes "back") then back else own) = rw h (script-forward (read_worded_line c k line)) in
+    let rest : IsForward (if bytes_eq w (codes "back") then back else own) = rw h (script-forward (read_worded_line c k limits line)) in
     elim (bytes_eq w (codes "?")) as (λ t. IsForward (if t then question c fs >>= (λ asked. Ok (Some (Ask asked))) else (if bytes_eq w (codes "mark") then mark else (if bytes_eq w (codes "back") then back else own)))) [
       | true ↦ question-forward (question c fs)
       | false ↦
@@ -148,18 +157,19 @@ fields-forward c k line (w ∷ fs) h =
     ]
 
 -- a line that goes on says so
-pub line-forward : (h : HandData) (line : List ℕ) → KeepsLog line → IsForward (heard_as h.cluster h.coded (without_byte_order_mark h (short line)))
+pub line-forward : (h : HandData) (line : List ℕ) → KeepsLog line → IsForward (heard_as h.cluster h.coded h.limits (without_byte_order_mark h (short line)))
 line-forward h line g =
     let c = h.cluster in
     let k = h.coded in
-    elim (nat_le (length line) most_bytes) as (λ t. IsForward (heard_as c k (without_byte_order_mark h (if t then Some line else None)))) [
+    let limits = h.limits in
+    elim (nat_le (length line) most_bytes) as (λ t. IsForward (heard_as c k limits (without_byte_order_mark h (if t then Some line else None)))) [
       | true ↦
-          elim h.begun as (λ t. IsForward (heard_as c k (if t then Some line else option_map without_mark (Some line)))) [
-            | true ↦ fields-forward c k line (line_fields line) g.all
-            | false ↦ fields-forward c k (without_mark line) (line_fields (without_mark line)) g.rest
+          elim h.begun as (λ t. IsForward (heard_as c k limits (if t then Some line else option_map without_mark (Some line)))) [
+            | true ↦ fields-forward c k limits line (line_fields line) g.all
+            | false ↦ fields-forward c k limits (without_mark line) (line_fields (without_mark line)) g.rest
           ]
       | false ↦
-          elim h.begun as (λ t. IsForward (heard_as c k (if t then None else option_map without_mark None))) [
+          elim h.begun as (λ t. IsForward (heard_as c k limits (if t then None else option_map without_mark None))) [
             | true ↦ tt
             | false ↦ tt
           ]
@@ -181,23 +191,24 @@ answers-are-the-log h (line ∷ more) (on, rest-on) =
     let a = line_answer h (short line) in
     let rest = flat_map (λ b. b.entries) (answers a.0 more) in
     answers-are-the-log a.0 more rest-on
-    ∙ ap (λ l. l ++ rest) (told-grown (record h { begun = true }) (heard_as h.cluster h.coded (without_byte_order_mark h (short line))) (line-forward h line on))
+    ∙ ap (λ l. l ++ rest) (told-grown (record h { begun = true }) (heard_as h.cluster h.coded h.limits (without_byte_order_mark h (short line))) (line-forward h line on))
     ∙ append_assoc (reverse h.bench.past) a.1.entries rest
 
 back-kept : (h : HandData) (name : List ℕ) (at : Option (BenchState × List Marked))
-    → let t = (gone_back h name at).0 in (t.format ≡ h.format) × (t.cluster ≡ h.cluster) × (t.coded ≡ h.coded) × (t.is_physical ≡ h.is_physical)
-back-kept h name None = (refl, refl, refl, refl)
-back-kept h name (Some at) = (refl, refl, refl, refl)
+    → let t = (gone_back h name at).0 in (t.format ≡ h.format) × (t.cluster ≡ h.cluster) × (t.coded ≡ h.coded) × (t.is_physical ≡ h.is_physical) × (t.limits ≡ h.limits)
+back-kept h name None = (refl, refl, refl, refl, refl)
+back-kept h name (Some at) = (refl, refl, refl, refl, refl)
 
--- an answer changes neither how entries are told, nor the cluster, nor what signals mean
+-- an answer changes neither how entries are told, nor the cluster, nor what signals mean, nor the limits in the LDF
 pub told-kept : (h : HandData) (said : Result (Option Heard) Reason)
     → ((heard_answer h said).0.format ≡ h.format) × ((heard_answer h said).0.cluster ≡ h.cluster) × ((heard_answer h said).0.coded ≡ h.coded) × ((heard_answer h said).0.is_physical ≡ h.is_physical)
-told-kept h (Err why) = (refl, refl, refl, refl)
-told-kept h (Ok None) = (refl, refl, refl, refl)
-told-kept h (Ok (Some (Ask asked))) = (refl, refl, refl, refl)
-told-kept h (Ok (Some (SetMark name))) = (refl, refl, refl, refl)
+    × ((heard_answer h said).0.limits ≡ h.limits)
+told-kept h (Err why) = (refl, refl, refl, refl, refl)
+told-kept h (Ok None) = (refl, refl, refl, refl, refl)
+told-kept h (Ok (Some (Ask asked))) = (refl, refl, refl, refl, refl)
+told-kept h (Ok (Some (SetMark name))) = (refl, refl, refl, refl, refl)
 told-kept h (Ok (Some (GoBack name))) = back-kept h name (bench_at h.marks name)
-told-kept h (Ok (Some (Make line))) = (refl, refl, refl, refl)
+told-kept h (Ok (Some (Make line))) = (refl, refl, refl, refl, refl)
 
 shown-by : (a h : HandData) → a.coded ≡ h.coded → a.is_physical ≡ h.is_physical → shown_coding a ≡ shown_coding h
 shown-by a h e f = rw (e, f) refl
@@ -209,7 +220,7 @@ past-grown past later es e =
 pub answers-are-written : AnswersAreWritten
 answers-are-written h [] on = refl
 answers-are-written h (line ∷ more) (on, rest-on) =
-    let said = heard_as h.cluster h.coded (without_byte_order_mark h (short line)) in
+    let said = heard_as h.cluster h.coded h.limits (without_byte_order_mark h (short line)) in
     let b = record h { begun = true } in
     let a = heard_answer b said in
     let same = told-kept b said in

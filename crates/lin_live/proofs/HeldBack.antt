@@ -41,6 +41,7 @@ with_bench a b = record {
   opening = b.core.opening;
   capacity = b.core.capacity;
   coded = a.coded;
+  limits = a.limits;
   is_physical = a.is_physical;
   bench = state_of (with_all_slots b);
   marks = [];

@@ -15,6 +15,7 @@ use Rattle.lin_core.specs.Core.{CoreData}
 use Rattle.lin_core.specs.declared.log.LogEntry.{LogEntry}
 use Rattle.lin_parts.specs.declared.parts.Parts.{Parts}
 use Rattle.lin_values.specs.Coded.{CodedData}
+use Rattle.lin_bench.specs.declared.rules.NodeLimits.{NodeLimits}
 use Rattle.lin_bench.specs.Made.{BenchState}
 use Rattle.lin_bench.specs.Marks.{IsMarkOf, state_at}
 use Rattle.lin_bench.specs.Played.{initial_bench}
@@ -391,21 +392,21 @@ set-so h t name old new result is w =
 
 -- ---- what the functions of a hand come to
 -- a new session over a core that was opened so
-over-core : (f : AnswerFormat) (k : Option CodedData) (physical : Bool) (core : CoreData) (c : Parts) (o : Opening) → core.cluster ≡ c → core.opening ≡ o.table → core.capacity ≡ o.capacity
-    → new_hand f k physical core.cluster core.opening core.capacity ≡ new_hand f k physical c o.table o.capacity
-over-core f k physical core c o e g s = rw (e, g, s) refl
+over-core : (f : AnswerFormat) (k : Option CodedData) (limits : List NodeLimits) (physical : Bool) (core : CoreData) (c : Parts) (o : Opening) → core.cluster ≡ c → core.opening ≡ o.table → core.capacity ≡ o.capacity
+    → new_hand f k limits physical core.cluster core.opening core.capacity ≡ new_hand f k limits physical c o.table o.capacity
+over-core f k limits physical core c o e g s = rw (e, g, s) refl
 
-pub new-so : (f : AnswerFormat) (k : Option CodedData) (physical : Bool) (core : CoreData) (c : Parts) (o : Opening) (h : HandData) (ms : List NamedMark) → core.cluster ≡ c → core.opening ≡ o.table
-    → core.capacity ≡ o.capacity → h ≡ new_hand f k physical core.cluster core.opening core.capacity → ms ≡ [] → with_marks h (Some ms) ≡ new_hand f k physical c o.table o.capacity
-new-so f k physical core c o h ms e g s is none =
-    ap (λ (l : List NamedMark). with_marks h (Some l)) none ∙ ap (λ (x : HandData). with_marks x (Some [])) (is ∙ over-core f k physical core c o e g s)
+pub new-so : (f : AnswerFormat) (k : Option CodedData) (limits : List NodeLimits) (physical : Bool) (core : CoreData) (c : Parts) (o : Opening) (h : HandData) (ms : List NamedMark) → core.cluster ≡ c → core.opening ≡ o.table
+    → core.capacity ≡ o.capacity → h ≡ new_hand f k limits physical core.cluster core.opening core.capacity → ms ≡ [] → with_marks h (Some ms) ≡ new_hand f k limits physical c o.table o.capacity
+new-so f k limits physical core c o h ms e g s is none =
+    ap (λ (l : List NamedMark). with_marks h (Some l)) none ∙ ap (λ (x : HandData). with_marks x (Some [])) (is ∙ over-core f k limits physical core c o e g s)
 
-pub new-its : (f : AnswerFormat) (k : Option CodedData) (physical : Bool) (core : CoreData) (c : Parts) (o : Opening) (h : HandData) (ms : List NamedMark) → core.cluster ≡ c → core.opening ≡ o.table
-    → core.capacity ≡ o.capacity → h ≡ new_hand f k physical core.cluster core.opening core.capacity → ms ≡ [] → o.table < length c.tables → 1 ≤ o.capacity → o.capacity ≤ 1024 → AreItsMarks o h ms
-new-its f k physical core c o h ms e g s is none tables some few =
-    let new = new_hand f k physical c o.table o.capacity in
+pub new-its : (f : AnswerFormat) (k : Option CodedData) (limits : List NodeLimits) (physical : Bool) (core : CoreData) (c : Parts) (o : Opening) (h : HandData) (ms : List NamedMark) → core.cluster ≡ c → core.opening ≡ o.table
+    → core.capacity ≡ o.capacity → h ≡ new_hand f k limits physical core.cluster core.opening core.capacity → ms ≡ [] → o.table < length c.tables → 1 ≤ o.capacity → o.capacity ≤ 1024 → AreItsMarks o h ms
+new-its f k limits physical core c o h ms e g s is none tables some few =
+    let new = new_hand f k limits physical c o.table o.capacity in
     let opening : IsOpening o new = record { table = refl; capacity = refl; tables = tables; some = some; few = few } in
-    subst (λ (x : HandData). AreItsMarks o x ms) (sym (is ∙ over-core f k physical core c o e g s))
+    subst (λ (x : HandData). AreItsMarks o x ms) (sym (is ∙ over-core f k limits physical core c o e g s))
     (subst (λ (l : List NamedMark). AreItsMarks o new l) (sym none) (no-marks o new opening))
 
 -- a bench in hand whose bench and whose marks are known

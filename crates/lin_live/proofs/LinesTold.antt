@@ -61,6 +61,7 @@ made_hand a new v = record {
   opening = new.core.opening;
   capacity = new.core.capacity;
   coded = a.coded;
+  limits = a.limits;
   is_physical = a.is_physical;
   bench = state_of (with_all_slots new);
   marks = [];

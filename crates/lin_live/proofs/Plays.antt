@@ -9,6 +9,7 @@ use Rattle.lin_parts.specs.declared.parts.Parts.{Parts}
 use Rattle.lin_core.specs.declared.port.PortId.{PortId}
 use Rattle.lin_core.specs.declared.step.Step.{Step}
 use Rattle.lin_values.specs.Coded.{CodedData}
+use Rattle.lin_bench.specs.declared.rules.NodeLimits.{NodeLimits}
 use Rattle.lin_bench.specs.Fields.{line_fields}
 use Rattle.lin_bench.specs.Scripts.{Script, read_lines, with_read_line}
 use Rattle.lin_bench.specs.Made.{BenchState, expects_from, bench_with_verdict, made, made_within, steps_said, slots_made, bench_after_steps}
@@ -143,13 +144,14 @@ unmet-more c opening capacity b l ls =
     list_any-append (λ (j : Judgement). is_missed j.judged) (on_line l.0 (length m.0.past) (own m.1) ++ []) rest
     ∙ ap (λ t. t || some_unmet rest) (own-unmet l.0 (length m.0.past) m.1)
 
-abbrev hand_with : AnswerFormat → Option CodedData → Bool → Parts → ℕ → ℕ → BenchState → Bool → Bool → HandData
-hand_with f coded physical c opening capacity b bad unmet = record {
+abbrev hand_with : AnswerFormat → Option CodedData → List NodeLimits → Bool → Parts → ℕ → ℕ → BenchState → Bool → Bool → HandData
+hand_with f coded limits physical c opening capacity b bad unmet = record {
   format = f;
   cluster = c;
   opening = opening;
   capacity = capacity;
   coded = coded;
+  limits = limits;
   is_physical = physical;
   bench = record b { left = slot_limit };
   marks = [];
@@ -159,24 +161,24 @@ hand_with f coded physical c opening capacity b bad unmet = record {
 }
 
 -- a bench in hand on which no line was bad
-abbrev hand_of : AnswerFormat → Option CodedData → Bool → Parts → ℕ → ℕ → BenchState → Bool → HandData
-hand_of f coded physical c opening capacity b unmet = hand_with f coded physical c opening capacity b false unmet
+abbrev hand_of : AnswerFormat → Option CodedData → List NodeLimits → Bool → Parts → ℕ → ℕ → BenchState → Bool → HandData
+hand_of f coded limits physical c opening capacity b unmet = hand_with f coded limits physical c opening capacity b false unmet
 
-same-hand : (f : AnswerFormat) (coded : Option CodedData) (physical : Bool) (c : Parts) (opening capacity : ℕ) (p q : BenchState) (bad unmet wanted : Bool) → p.past ≡ q.past → p.rules ≡ q.rules → p.taken ≡ q.taken → bad ≡ false
+same-hand : (f : AnswerFormat) (coded : Option CodedData) (limits : List NodeLimits) (physical : Bool) (c : Parts) (opening capacity : ℕ) (p q : BenchState) (bad unmet wanted : Bool) → p.past ≡ q.past → p.rules ≡ q.rules → p.taken ≡ q.taken → bad ≡ false
     → unmet ≡ wanted
-    → hand_with f coded physical c opening capacity p bad unmet ≡ hand_with f coded physical c opening capacity q false wanted
-same-hand f coded physical c opening capacity p q bad unmet wanted e e2 g h k = cc
+    → hand_with f coded limits physical c opening capacity p bad unmet ≡ hand_with f coded limits physical c opening capacity q false wanted
+same-hand f coded limits physical c opening capacity p q bad unmet wanted e e2 g h k = cc
 
-line-same : (f : AnswerFormat) (coded : Option CodedData) (physical : Bool) (c : Parts) (opening capacity : ℕ) (b s : BenchState) (unmet : Bool) (l : ℕ × ScriptLine) → b.left ≤ slot_limit → next c opening capacity b l ≡ Ok s
-    → (after_line (hand_of f coded physical c opening capacity b unmet) (made c opening capacity (hand_of f coded physical c opening capacity b unmet).bench l.1)).0
-    ≡ hand_of f coded physical c opening capacity s (unmet || is_unmet_verdict (made c opening capacity b l.1).1)
-line-same f coded physical c opening capacity b s unmet l le h =
+line-same : (f : AnswerFormat) (coded : Option CodedData) (limits : List NodeLimits) (physical : Bool) (c : Parts) (opening capacity : ℕ) (b s : BenchState) (unmet : Bool) (l : ℕ × ScriptLine) → b.left ≤ slot_limit → next c opening capacity b l ≡ Ok s
+    → (after_line (hand_of f coded limits physical c opening capacity b unmet) (made c opening capacity (hand_of f coded limits physical c opening capacity b unmet).bench l.1)).0
+    ≡ hand_of f coded limits physical c opening capacity s (unmet || is_unmet_verdict (made c opening capacity b l.1).1)
+line-same f coded limits physical c opening capacity b s unmet l le h =
     let m = made c opening capacity b l.1 in
     let k = made c opening capacity (record b { left = slot_limit }) l.1 in
     let limit = not-limit l.0 m.0 s m.1 h in
     let alike = alike-made c opening capacity b slot_limit l.1 le limit in
     let came = told-bench l.0 m.0 s m.1 h in
-    same-hand f coded physical c opening capacity k.0 s (is_limit k.1) (unmet || is_unmet_verdict k.1) (unmet || is_unmet_verdict m.1)
+    same-hand f coded limits physical c opening capacity k.0 s (is_limit k.1) (unmet || is_unmet_verdict k.1) (unmet || is_unmet_verdict m.1)
     (alike.0 ∙ ap (λ (x : BenchState). x.past) came) (alike.1 ∙ ap (λ (x : BenchState). x.rules) came)
     (alike.2 ∙ ap (λ (x : BenchState). x.taken) came)
     (ap is_limit alike.3 ∙ limit) (ap (λ v. unmet || is_unmet_verdict v) alike.3)
@@ -199,20 +201,20 @@ none-of true b d h = absurd (cc)
 none-of false true d h = absurd (cc)
 none-of false false true h = absurd (cc)
 
-heard-plain : (c : Parts) (coded : Option CodedData) (line : List ℕ) (fs : List (List ℕ)) → is_of_live fs ≡ false
-    → heard_in c coded line fs ≡ of_script (read_worded_line c coded line)
-heard-plain c coded line [] h = refl
-heard-plain c coded line (w ∷ fs) h =
+heard-plain : (c : Parts) (coded : Option CodedData) (limits : List NodeLimits) (line : List ℕ) (fs : List (List ℕ)) → is_of_live fs ≡ false
+    → heard_in c coded limits line fs ≡ of_script (read_worded_line c coded limits line)
+heard-plain c coded limits line [] h = refl
+heard-plain c coded limits line (w ∷ fs) h =
     let p = none-of (bytes_eq w (codes "?")) (bytes_eq w (codes "mark")) (bytes_eq w (codes "back")) h in
     rw (p.0, p.1, p.2) refl
 
-answer-of : (f : AnswerFormat) (coded : Option CodedData) (physical : Bool) (c : Parts) (opening capacity : ℕ) (b : BenchState) (unmet : Bool) (line : List ℕ) (said : Result (Option ScriptLine) Reason)
-    → (length line ≤ most_bytes) × (is_of_live (line_fields line) ≡ false) → read_worded_line c coded line ≡ said
-    → (reply (hand_of f coded physical c opening capacity b unmet) (short line)).0 ≡ (heard_answer (hand_of f coded physical c opening capacity b unmet) (of_script said)).0
-answer-of f coded physical c opening capacity b unmet line said plain e =
-    let h = hand_of f coded physical c opening capacity b unmet in
+answer-of : (f : AnswerFormat) (coded : Option CodedData) (limits : List NodeLimits) (physical : Bool) (c : Parts) (opening capacity : ℕ) (b : BenchState) (unmet : Bool) (line : List ℕ) (said : Result (Option ScriptLine) Reason)
+    → (length line ≤ most_bytes) × (is_of_live (line_fields line) ≡ false) → read_worded_line c coded limits line ≡ said
+    → (reply (hand_of f coded limits physical c opening capacity b unmet) (short line)).0 ≡ (heard_answer (hand_of f coded limits physical c opening capacity b unmet) (of_script said)).0
+answer-of f coded limits physical c opening capacity b unmet line said plain e =
+    let h = hand_of f coded limits physical c opening capacity b unmet in
     ap (λ o. (reply h o).0) (short-line line plain.0)
-    ∙ ap (λ s. (heard_answer h s).0) (heard-plain c coded line (line_fields line) plain.1 ∙ ap of_script e)
+    ∙ ap (λ s. (heard_answer h s).0) (heard-plain c coded limits line (line_fields line) plain.1 ∙ ap of_script e)
 
 -- ---- all lines
 abbrev lines_or : Script → List (ℕ × ScriptLine)
@@ -224,60 +226,60 @@ bench_or b (Ok s) = s
 bench_or b (Err n) = b
 
 -- a bench in hand comes to another, and what of its lines isn't met is kept
-abbrev pub Same : AnswerFormat → Option CodedData → Bool → Parts → ℕ → ℕ → List (List ℕ) → BenchState → Bool → BenchState → Bool → Type 0
-Same f coded physical c opening capacity ls b unmet end more =
-    state_after reply (hand_of f coded physical c opening capacity b unmet) (map strip_carriage_return ls) ≡ hand_of f coded physical c opening capacity end (unmet || more)
+abbrev pub Same : AnswerFormat → Option CodedData → List NodeLimits → Bool → Parts → ℕ → ℕ → List (List ℕ) → BenchState → Bool → BenchState → Bool → Type 0
+Same f coded limits physical c opening capacity ls b unmet end more =
+    state_after reply (hand_of f coded limits physical c opening capacity b unmet) (map strip_carriage_return ls) ≡ hand_of f coded limits physical c opening capacity end (unmet || more)
 
-abbrev pub Goes : AnswerFormat → Option CodedData → Bool → Parts → ℕ → ℕ → List (List ℕ) → Type 0
-Goes f coded physical c opening capacity ls = (n : ℕ) (b end : BenchState) (unmet : Bool) (said : List (ℕ × ScriptLine)) → b.left ≤ slot_limit
-    → read_lines c coded n ls ≡ Ok said → in_turn c opening capacity (Ok b) said ≡ Ok end
-    → Same f coded physical c opening capacity ls b unmet end (some_unmet (judged_from false false c opening capacity b said))
+abbrev pub Goes : AnswerFormat → Option CodedData → List NodeLimits → Bool → Parts → ℕ → ℕ → List (List ℕ) → Type 0
+Goes f coded limits physical c opening capacity ls = (n : ℕ) (b end : BenchState) (unmet : Bool) (said : List (ℕ × ScriptLine)) → b.left ≤ slot_limit
+    → read_lines c coded limits n ls ≡ Ok said → in_turn c opening capacity (Ok b) said ≡ Ok end
+    → Same f coded limits physical c opening capacity ls b unmet end (some_unmet (judged_from false false c opening capacity b said))
 
-nothing-goes : (f : AnswerFormat) (coded : Option CodedData) (physical : Bool) (c : Parts) (opening capacity : ℕ) → Goes f coded physical c opening capacity []
-nothing-goes f coded physical c opening capacity n b end unmet [] le e h =
-    ap (λ o. hand_of f coded physical c opening capacity (bench_or b o) unmet) h ∙ ap (hand_of f coded physical c opening capacity end) (sym (or-none unmet))
-nothing-goes f coded physical c opening capacity n b end unmet (x ∷ xs) le e h = absurd (cc)
+nothing-goes : (f : AnswerFormat) (coded : Option CodedData) (limits : List NodeLimits) (physical : Bool) (c : Parts) (opening capacity : ℕ) → Goes f coded limits physical c opening capacity []
+nothing-goes f coded limits physical c opening capacity n b end unmet [] le e h =
+    ap (λ o. hand_of f coded limits physical c opening capacity (bench_or b o) unmet) h ∙ ap (hand_of f coded limits physical c opening capacity end) (sym (or-none unmet))
+nothing-goes f coded limits physical c opening capacity n b end unmet (x ∷ xs) le e h = absurd (cc)
 
 -- after a line that was made
-next-goes : (f : AnswerFormat) (coded : Option CodedData) (physical : Bool) (c : Parts) (opening capacity : ℕ) (b end : BenchState) (unmet : Bool) (l : ℕ × ScriptLine) (line : List ℕ) (ls : List (List ℕ)) (rest : List (ℕ × ScriptLine)) (o : Result BenchState ℕ)
-    → b.left ≤ slot_limit → Goes f coded physical c opening capacity ls → (n : ℕ) → read_lines c coded n ls ≡ Ok rest
-    → (reply (hand_of f coded physical c opening capacity b unmet) (short (strip_carriage_return line))).0
-    ≡ (after_line (hand_of f coded physical c opening capacity b unmet) (made c opening capacity (hand_of f coded physical c opening capacity b unmet).bench l.1)).0
+next-goes : (f : AnswerFormat) (coded : Option CodedData) (limits : List NodeLimits) (physical : Bool) (c : Parts) (opening capacity : ℕ) (b end : BenchState) (unmet : Bool) (l : ℕ × ScriptLine) (line : List ℕ) (ls : List (List ℕ)) (rest : List (ℕ × ScriptLine)) (o : Result BenchState ℕ)
+    → b.left ≤ slot_limit → Goes f coded limits physical c opening capacity ls → (n : ℕ) → read_lines c coded limits n ls ≡ Ok rest
+    → (reply (hand_of f coded limits physical c opening capacity b unmet) (short (strip_carriage_return line))).0
+    ≡ (after_line (hand_of f coded limits physical c opening capacity b unmet) (made c opening capacity (hand_of f coded limits physical c opening capacity b unmet).bench l.1)).0
     → next c opening capacity b l ≡ o → in_turn c opening capacity o rest ≡ Ok end
-    → Same f coded physical c opening capacity (line ∷ ls) b unmet end (some_unmet (judged_from false false c opening capacity b (l ∷ rest)))
-next-goes f coded physical c opening capacity b end unmet l line ls rest (Err k) le goes n e a is h = absurd (cc)
-next-goes f coded physical c opening capacity b end unmet l line ls rest (Ok s) le goes n e a is h =
+    → Same f coded limits physical c opening capacity (line ∷ ls) b unmet end (some_unmet (judged_from false false c opening capacity b (l ∷ rest)))
+next-goes f coded limits physical c opening capacity b end unmet l line ls rest (Err k) le goes n e a is h = absurd (cc)
+next-goes f coded limits physical c opening capacity b end unmet l line ls rest (Ok s) le goes n e a is h =
     let m = made c opening capacity b l.1 in
     let came = told-bench l.0 m.0 s m.1 is in
     let more = some_unmet (judged_from false false c opening capacity s rest) in
-    ap (λ t. state_after reply t (map strip_carriage_return ls)) (a ∙ line-same f coded physical c opening capacity b s unmet l le is)
+    ap (λ t. state_after reply t (map strip_carriage_return ls)) (a ∙ line-same f coded limits physical c opening capacity b s unmet l le is)
     ∙ goes n s end (unmet || is_unmet_verdict m.1) rest (line-less c opening capacity b s l le is) e h
-    ∙ ap (hand_of f coded physical c opening capacity end)
+    ∙ ap (hand_of f coded limits physical c opening capacity end)
     (or-assoc unmet (is_unmet_verdict m.1) more
     ∙ ap (λ x. unmet || (is_unmet_verdict m.1 || some_unmet (judged_from false false c opening capacity x rest))) (sym came)
     ∙ ap (λ t. unmet || t) (sym (unmet-more c opening capacity b l rest)))
 
 -- a line that says this, with those after it
-line-goes : (f : AnswerFormat) (coded : Option CodedData) (physical : Bool) (c : Parts) (opening capacity n : ℕ) (b end : BenchState) (unmet : Bool) (line : List ℕ) (ls : List (List ℕ)) (said : List (ℕ × ScriptLine)) (this : Result (Option ScriptLine) Reason) (more : Script)
-    → b.left ≤ slot_limit → IsPlain line → Goes f coded physical c opening capacity ls → read_worded_line c coded (strip_carriage_return line) ≡ this
-    → read_lines c coded (n + 1) ls ≡ more → with_read_line n this more ≡ Ok said → in_turn c opening capacity (Ok b) said ≡ Ok end
-    → Same f coded physical c opening capacity (line ∷ ls) b unmet end (some_unmet (judged_from false false c opening capacity b said))
-line-goes f coded physical c opening capacity n b end unmet line ls said (Err why) more le plain goes is rest e h = absurd (cc)
-line-goes f coded physical c opening capacity n b end unmet line ls said (Ok None) more le plain goes is rest e h =
-    ap (λ t. state_after reply t (map strip_carriage_return ls)) (answer-of f coded physical c opening capacity b unmet (strip_carriage_return line) (Ok None) plain is)
+line-goes : (f : AnswerFormat) (coded : Option CodedData) (limits : List NodeLimits) (physical : Bool) (c : Parts) (opening capacity n : ℕ) (b end : BenchState) (unmet : Bool) (line : List ℕ) (ls : List (List ℕ)) (said : List (ℕ × ScriptLine)) (this : Result (Option ScriptLine) Reason) (more : Script)
+    → b.left ≤ slot_limit → IsPlain line → Goes f coded limits physical c opening capacity ls → read_worded_line c coded limits (strip_carriage_return line) ≡ this
+    → read_lines c coded limits (n + 1) ls ≡ more → with_read_line n this more ≡ Ok said → in_turn c opening capacity (Ok b) said ≡ Ok end
+    → Same f coded limits physical c opening capacity (line ∷ ls) b unmet end (some_unmet (judged_from false false c opening capacity b said))
+line-goes f coded limits physical c opening capacity n b end unmet line ls said (Err why) more le plain goes is rest e h = absurd (cc)
+line-goes f coded limits physical c opening capacity n b end unmet line ls said (Ok None) more le plain goes is rest e h =
+    ap (λ t. state_after reply t (map strip_carriage_return ls)) (answer-of f coded limits physical c opening capacity b unmet (strip_carriage_return line) (Ok None) plain is)
     ∙ goes (n + 1) b end unmet said le (rest ∙ e) h
-line-goes f coded physical c opening capacity n b end unmet line ls said (Ok (Some l)) (Err bad) le plain goes is rest e h = absurd (cc)
-line-goes f coded physical c opening capacity n b end unmet line ls said (Ok (Some l)) (Ok tail) le plain goes is rest e h =
+line-goes f coded limits physical c opening capacity n b end unmet line ls said (Ok (Some l)) (Err bad) le plain goes is rest e h = absurd (cc)
+line-goes f coded limits physical c opening capacity n b end unmet line ls said (Ok (Some l)) (Ok tail) le plain goes is rest e h =
     let same : (n, l) ∷ tail ≡ said = ap lines_or e in
-    ap (λ t. t) (next-goes f coded physical c opening capacity b end unmet (n, l) line ls tail (next c opening capacity b (n, l)) le goes (n + 1) rest
-    (answer-of f coded physical c opening capacity b unmet (strip_carriage_return line) (Ok (Some l)) plain is) refl
+    ap (λ t. t) (next-goes f coded limits physical c opening capacity b end unmet (n, l) line ls tail (next c opening capacity b (n, l)) le goes (n + 1) rest
+    (answer-of f coded limits physical c opening capacity b unmet (strip_carriage_return line) (Ok (Some l)) plain is) refl
     (ap (λ ls. in_turn c opening capacity (Ok b) ls) same ∙ h))
-    ∙ ap (λ ls. hand_of f coded physical c opening capacity end (unmet || some_unmet (judged_from false false c opening capacity b ls))) same
+    ∙ ap (λ ls. hand_of f coded limits physical c opening capacity end (unmet || some_unmet (judged_from false false c opening capacity b ls))) same
 
-all-go : (f : AnswerFormat) (coded : Option CodedData) (physical : Bool) (c : Parts) (opening capacity : ℕ) (ls : List (List ℕ)) → AllByRecursion IsPlain ls → Goes f coded physical c opening capacity ls
-all-go f coded physical c opening capacity [] p = nothing-goes f coded physical c opening capacity
-all-go f coded physical c opening capacity (line ∷ ls) p = λ n b end unmet said le e h.
-    line-goes f coded physical c opening capacity n b end unmet line ls said (read_worded_line c coded (strip_carriage_return line)) (read_lines c coded (n + 1) ls) le p.0 (all-go f coded physical c opening capacity ls p.1) refl refl e h
+all-go : (f : AnswerFormat) (coded : Option CodedData) (limits : List NodeLimits) (physical : Bool) (c : Parts) (opening capacity : ℕ) (ls : List (List ℕ)) → AllByRecursion IsPlain ls → Goes f coded limits physical c opening capacity ls
+all-go f coded limits physical c opening capacity [] p = nothing-goes f coded limits physical c opening capacity
+all-go f coded limits physical c opening capacity (line ∷ ls) p = λ n b end unmet said le e h.
+    line-goes f coded limits physical c opening capacity n b end unmet line ls said (read_worded_line c coded limits (strip_carriage_return line)) (read_lines c coded limits (n + 1) ls) le p.0 (all-go f coded limits physical c opening capacity ls p.1) refl refl e h
 
 -- what the lines of a play come to
 played-bench : (js : List Judgement) (o : Result BenchState ℕ) (run : Run) → with_judgements js o ≡ Ok run → (o ≡ Ok run.bench) × (js ≡ run.judgements)
@@ -285,8 +287,8 @@ played-bench js (Err n) run h = absurd (cc)
 played-bench js (Ok b) run h = (cc, cc)
 
 pub live-is-play : LiveIsPlay
-live-is-play f coded physical c opening capacity ls said run plain e h =
+live-is-play f coded limits physical c opening capacity ls said run plain e h =
     let js = judgements false c opening capacity said in
     let is = played-bench js (come_to c opening capacity said) run h in
-    all-go f coded physical c opening capacity ls plain 1 initial_bench run.bench false said (omega arith) e is.0
-    ∙ ap (hand_of f coded physical c opening capacity run.bench) (ap some_unmet is.1)
+    all-go f coded limits physical c opening capacity ls plain 1 initial_bench run.bench false said (omega arith) e is.0
+    ∙ ap (hand_of f coded limits physical c opening capacity run.bench) (ap some_unmet is.1)

@@ -45,7 +45,7 @@ begun_of h = record h { begun = true }
 -- telling what a line says, which is this, after it was heard
 pub replies-so : (h b : HandData) (line : Option (List ℕ)) (said : Result (Option Heard) Reason)
     (t : HandData) (old new : Option (List ℕ)) (result : Result Unit Fault)
-    → b ≡ begun_of h → heard_as h.cluster h.coded (without_byte_order_mark h line) ≡ said
+    → b ≡ begun_of h → heard_as h.cluster h.coded h.limits (without_byte_order_mark h line) ≡ said
     → WritesAnswer (written b (heard_answer b said)) (2 ^ 32 - 1 < length (heard_answer b said).0.bench.past) t old new result
     → Replies reply IsFull h t old new line result
 replies-so h b line said t old new result is_b is_said k =

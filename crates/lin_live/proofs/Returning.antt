@@ -11,6 +11,7 @@ use Rattle.std.proofs.lemmas.Option.{slice_get-get_or}
 use Rattle.std.proofs.lemmas.Slice.Eq.{bytes_eq-Decides}
 use Rattle.lin_parts.specs.declared.parts.Parts.{Parts}
 use Rattle.lin_values.specs.Coded.{CodedData}
+use Rattle.lin_bench.specs.declared.rules.NodeLimits.{NodeLimits}
 use Rattle.lin_bench.specs.Fields.{line_fields}
 use Rattle.lin_bench.specs.Made.{BenchState}
 use Rattle.lin_bench.specs.Played.{initial_bench}
@@ -62,10 +63,10 @@ mark-named : (name : List ℕ) (r : Result (List ℕ) Reason) → IsNamed name (
 mark-named name (Ok other) e = other-named name other (bytes_eq other start_name) refl e
 mark-named name (Err why) e = absurd (cc)
 
-fields-named : (name : List ℕ) (c : Parts) (k : Option CodedData) (line : List ℕ) (fs : List (List ℕ)) → IsNamed name (heard_in c k line fs)
-fields-named name c k line [] = script-named name (read_worded_line c k line)
-fields-named name c k line (w ∷ fs) =
-    let own : Result (Option Heard) Reason = of_script (read_worded_line c k line) in
+fields-named : (name : List ℕ) (c : Parts) (k : Option CodedData) (limits : List NodeLimits) (line : List ℕ) (fs : List (List ℕ)) → IsNamed name (heard_in c k limits line fs)
+fields-named name c k limits line [] = script-named name (read_worded_line c k limits line)
+fields-named name c k limits line (w ∷ fs) =
+    let own : Result (Option Heard) Reason = of_script (read_worded_line c k limits line) in
     let back : Result (Option Heard) Reason = back_name fs >>= (λ other. Ok (Some (GoBack other))) in
     let mark : Result (Option Heard) Reason = mark_name fs >>= (λ other. Ok (Some (SetMark other))) in
     elim (bytes_eq w (codes "?")) as (λ t. IsNamed name (if t then question c fs >>= (λ asked. Ok (Some (Ask asked))) else (if bytes_eq w (codes "mark") then mark else (if bytes_eq w (codes "back") then back else own)))) [
@@ -76,14 +77,14 @@ fields-named name c k line (w ∷ fs) =
             | false ↦
                 elim (bytes_eq w (codes "back")) as (λ t. IsNamed name (if t then back else own)) [
                   | true ↦ back-named name (back_name fs)
-                  | false ↦ script-named name (read_worded_line c k line)
+                  | false ↦ script-named name (read_worded_line c k limits line)
                 ]
           ]
     ]
 
-line-named : (name : List ℕ) (c : Parts) (k : Option CodedData) (line : Option (List ℕ)) → IsNamed name (heard_as c k line)
-line-named name c k None e = absurd (cc)
-line-named name c k (Some line) e = fields-named name c k line (line_fields line) e
+line-named : (name : List ℕ) (c : Parts) (k : Option CodedData) (limits : List NodeLimits) (line : Option (List ℕ)) → IsNamed name (heard_as c k limits line)
+line-named name c k limits None e = absurd (cc)
+line-named name c k limits (Some line) e = fields-named name c k limits line (line_fields line) e
 
 -- ---- each mark with the name is of this bench
 abbrev IsOf : List ℕ → BenchState → Marked → Type 0
@@ -149,11 +150,12 @@ heard-begun h (Ok (Some (SetMark name))) = refl
 heard-begun h (Ok (Some (GoBack name))) = gone-begun h name (bench_at h.marks name)
 heard-begun h (Ok (Some (Make line))) = refl
 
--- a session that has begun, with this cluster and these meanings
+-- a session that has begun, with this cluster, these meanings and these limits
 record IsLike (h t : HandData) : Type 0 where
   begun : t.begun ≡ true
   cluster : t.cluster ≡ h.cluster
   coded : t.coded ≡ h.coded
+  limits : t.limits ≡ h.limits
 
 -- after something was heard
 abbrev after_heard : HandData → Result (Option Heard) Reason → HandData
@@ -165,21 +167,23 @@ like-after h t said k =
       begun = heard-begun (record t { begun = true }) said;
       cluster = kept.1 ∙ k.cluster;
       coded = kept.2 ∙ k.coded;
+      limits = kept.4 ∙ k.limits;
     }
 
 -- what a line says
-says : (h t : HandData) (line : List ℕ) → IsLike h t → (reply t (short line)).0 ≡ after_heard t (heard_as h.cluster h.coded (short line))
+says : (h t : HandData) (line : List ℕ) → IsLike h t → (reply t (short line)).0 ≡ after_heard t (heard_as h.cluster h.coded h.limits (short line))
 says h t line k =
     let heard : Option (List ℕ) = without_byte_order_mark t (short line) in
     ap (after_heard t)
-    (ap (λ (c : Parts). heard_as c t.coded heard) k.cluster ∙ ap (λ (x : Option CodedData). heard_as h.cluster x heard) k.coded
-    ∙ ap (λ (b : Bool). heard_as h.cluster h.coded (if b then short line else option_map without_mark (short line))) k.begun)
+    (ap (λ (c : Parts). heard_as c t.coded t.limits heard) k.cluster ∙ ap (λ (x : Option CodedData). heard_as h.cluster x t.limits heard) k.coded
+    ∙ ap (λ (x : List NodeLimits). heard_as h.cluster h.coded x heard) k.limits
+    ∙ ap (λ (b : Bool). heard_as h.cluster h.coded h.limits (if b then short line else option_map without_mark (short line))) k.begun)
 
 lines-marks : (name : List ℕ) (b : BenchState) (h t : HandData) (ls : List (List ℕ)) → IsLike h t → AllByRecursion (λ line. SetsMark h name line → ⊥) ls → All (IsOf name b) t.marks
     → All (IsOf name b) (state_after reply t ls).marks × IsLike h (state_after reply t ls)
 lines-marks name b h t [] k never marks = (marks, k)
 lines-marks name b h t (line ∷ ls) k (never, rest) marks =
-    let said = heard_as h.cluster h.coded (short line) in
+    let said = heard_as h.cluster h.coded h.limits (short line) in
     subst (λ (x : HandData). All (IsOf name b) (state_after reply x ls).marks × IsLike h (state_after reply x ls)) (sym (says h t line k))
     (lines-marks name b h (after_heard t said) ls (like-after h t said k) rest (heard-marks name b (record t { begun = true }) said never marks))
 
@@ -200,7 +204,7 @@ back-restores-by h t name going b unlike k goes marks there =
     ∙ back-to (record t { begun = true }) t.marks name b (mark_place t.marks name) refl there marks
 
 like-itself : (h : HandData) → h.begun ≡ true → IsLike h h
-like-itself h begun = record { begun = begun; cluster = refl; coded = refl }
+like-itself h begun = record { begun = begun; cluster = refl; coded = refl; limits = refl }
 
 pub back-restores : BackRestores
 back-restores h name marking going between begun sets goes never =
@@ -209,7 +213,7 @@ back-restores h name marking going between begun sets goes never =
     let same : (reply h (short marking)).0 ≡ set = says h h marking start ∙ ap (after_heard h) sets in
     let all = lines-marks name h.bench h set between (like-after h h (Ok (Some (SetMark name))) start) never (set-first name h.bench h.marks) in
     subst (λ (x : HandData). IsSome (mark_place (state_after reply x between).marks name) → (state_after reply (state_after reply x between) (going ∷ [])).bench ≡ h.bench) (sym same)
-    (back-restores-by h (state_after reply set between) name going h.bench (line-named name h.cluster h.coded (short marking) sets) all.1 goes all.0)
+    (back-restores-by h (state_after reply set between) name going h.bench (line-named name h.cluster h.coded h.limits (short marking) sets) all.1 goes all.0)
 
 -- ---- the marks that stay
 same-marks : (h : HandData) (said : Result (Option Heard) Reason) → ((other : List ℕ) → (said ≡ Ok (Some (SetMark other)) → ⊥) × (said ≡ Ok (Some (GoBack other)) → ⊥))
@@ -225,7 +229,7 @@ lines-same : (h t : HandData) (ls : List (List ℕ)) → IsLike h t → AllByRec
     → (state_after reply t ls).marks ≡ t.marks
 lines-same h t [] k never = refl
 lines-same h t (line ∷ ls) k (never, rest) =
-    let said = heard_as h.cluster h.coded (short line) in
+    let said = heard_as h.cluster h.coded h.limits (short line) in
     ap (λ (x : HandData). (state_after reply x ls).marks) (says h t line k) ∙ lines-same h (after_heard t said) ls (like-after h t said k) rest
     ∙ same-marks (record t { begun = true }) said never
 

@@ -8,10 +8,10 @@ use Rattle.lin_live.specs.declared.heard.Heard.TheVariants.{GoBack, SetMark}
 
 -- a line of a session sets the mark with a name, or goes back to it
 abbrev pub SetsMark : HandData → List ℕ → List ℕ → Type 0
-SetsMark h name line = heard_as h.cluster h.coded (short line) ≡ Ok (Some (SetMark name))
+SetsMark h name line = heard_as h.cluster h.coded h.limits (short line) ≡ Ok (Some (SetMark name))
 
 abbrev pub GoesBack : HandData → List ℕ → List ℕ → Type 0
-GoesBack h name line = heard_as h.cluster h.coded (short line) ≡ Ok (Some (GoBack name))
+GoesBack h name line = heard_as h.cluster h.coded h.limits (short line) ≡ Ok (Some (GoBack name))
 
 -- going back to a mark restores the bench at it: the history, the rules and the consumed events. No line
 -- between the two sets the mark again; the mark is still there

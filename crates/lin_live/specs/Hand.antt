@@ -48,7 +48,7 @@ no_cluster = record {
 }
 
 abbrev pub held_of : Option HandData → HandData
-held_of None = new_hand Log None false no_cluster 0 0
+held_of None = new_hand Log None [] false no_cluster 0 0
 held_of (Some h) = h
 
 abbrev pub mark_items : Option (Vec NamedMark) → Option (List NamedMark)

@@ -8,6 +8,7 @@ use Rattle.lin_values.specs.Coded.{CodedData}
 use Rattle.lin_bench.specs.Words.{read_worded_line}
 use Rattle.lin_bench.specs.declared.line.ScriptLine.{ScriptLine}
 use Rattle.lin_bench.specs.declared.reason.Reason.{Reason as ScriptReason}
+use Rattle.lin_bench.specs.declared.rules.NodeLimits.{NodeLimits}
 use Rattle.lin_live.specs.Asked.{◌>>=◌, IsAskable, question}
 use Rattle.lin_live.specs.Marking.{back_name, mark_name}
 use Rattle.lin_live.specs.declared.heard.Heard.{Heard}
@@ -32,18 +33,18 @@ back_heard fs = back_name fs >>= (λ name. Ok (Some (GoBack name)))
 
 -- by the first field, what is asked by those after a `?`, the mark that is set or gone back to, or what a
 -- bench script says
-abbrev pub heard_in : Parts → Option CodedData → List ℕ → List (List ℕ)
+abbrev pub heard_in : Parts → Option CodedData → List NodeLimits → List ℕ → List (List ℕ)
     → Result (Option Heard) Reason
-heard_in c k line [] = of_script (read_worded_line c k line)
-heard_in c k line (word ∷ fs) =
+heard_in c k limits line [] = of_script (read_worded_line c k limits line)
+heard_in c k limits line (word ∷ fs) =
     if bytes_eq word (codes "?") then question_heard c fs
     else if bytes_eq word (codes "mark") then mark_heard fs
     else if bytes_eq word (codes "back") then back_heard fs
-    else of_script (read_worded_line c k line)
+    else of_script (read_worded_line c k limits line)
 
 -- what a line says, nothing where it has no field or begins with `>`
-abbrev pub line_heard : Parts → Option CodedData → List ℕ → Result (Option Heard) Reason
-line_heard c k line = heard_in c k line (line_fields line)
+abbrev pub line_heard : Parts → Option CodedData → List NodeLimits → List ℕ → Result (Option Heard) Reason
+line_heard c k limits line = heard_in c k limits line (line_fields line)
 
 -- a question is for what is there
 abbrev pub IsHeard : Parts → Heard → Type 0

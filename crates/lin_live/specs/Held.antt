@@ -7,6 +7,7 @@ use Rattle.lin_core.specs.Core.{CoreData}
 use Rattle.lin_core.specs.declared.log.LogEntry.{LogEntry}
 use Rattle.lin_bench.specs.Bench.{with_all_slots, state_of}
 use Rattle.lin_bench.specs.Played.{initial_bench}
+use Rattle.lin_bench.specs.declared.rules.NodeLimits.{NodeLimits}
 use Rattle.lin_bench.specs.declared.fault.MakeFault.{MakeFault}
 use Rattle.lin_bench.specs.declared.fault.MakeFault.TheVariants as makes
 use Rattle.lin_bench.specs.declared.got.Verdict.{Verdict}
@@ -35,6 +36,7 @@ held_data a = record {
   opening = a.bench.core.opening;
   capacity = a.bench.core.capacity;
   coded = a.coded;
+  limits = a.limits;
   is_physical = a.is_physical;
   bench = state_of (with_all_slots a.bench);
   marks = [];
@@ -108,13 +110,14 @@ pub record IsFollowed (a : Inside) : Type 0 where
   pub slot : IfSome a.last_slot (IsBoxedKeptOf a.bench.core.cluster a.bench.core.log)
 
 -- a bench in hand on which no line was made
-abbrev pub new_hand : AnswerFormat → Option CodedData → Bool → Parts → ℕ → ℕ → HandData
-new_hand format coded is_physical c opening capacity = record {
+abbrev pub new_hand : AnswerFormat → Option CodedData → List NodeLimits → Bool → Parts → ℕ → ℕ → HandData
+new_hand format coded limits is_physical c opening capacity = record {
   format = format;
   cluster = c;
   opening = opening;
   capacity = capacity;
   coded = coded;
+  limits = limits;
   is_physical = is_physical;
   bench = initial_bench;
   marks = [];

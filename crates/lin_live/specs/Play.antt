@@ -10,6 +10,7 @@ use Rattle.lin_bench.specs.Scripts.{read_lines}
 use Rattle.lin_bench.specs.Played.{Run, initial_bench, play_result, some_unmet}
 use Rattle.lin_bench.specs.Slots.{slot_limit}
 use Rattle.lin_bench.specs.declared.line.ScriptLine.{ScriptLine}
+use Rattle.lin_bench.specs.declared.rules.NodeLimits.{NodeLimits}
 use Rattle.lin_live.specs.Marking.{has_first_word}
 use Rattle.lin_live.specs.Told.{HandData, reply}
 use Rattle.lin_live.specs.Transcript.{state_after, most_bytes}
@@ -28,13 +29,14 @@ IsPlain line =
     × (is_of_live (line_fields (strip_carriage_return line)) ≡ false)
 
 -- the bench in hand that a play has come to (a byte order mark would be a part of the next line)
-abbrev pub in_hand_of : AnswerFormat → Option CodedData → Bool → Parts → ℕ → ℕ → Run → HandData
-in_hand_of format k is_physical c opening capacity run = record {
+abbrev pub in_hand_of : AnswerFormat → Option CodedData → List NodeLimits → Bool → Parts → ℕ → ℕ → Run → HandData
+in_hand_of format k limits is_physical c opening capacity run = record {
   format = format;
   cluster = c;
   opening = opening;
   capacity = capacity;
   coded = k;
+  limits = limits;
   is_physical = is_physical;
   bench = record run.bench { left = slot_limit };
   marks = [];
@@ -51,10 +53,10 @@ empty_run = record { bench = initial_bench; judgements = [] }
 -- hand, to the bench that its play comes to, with the same log; an expectation isn't met in one
 -- exactly where one isn't met in the other.
 abbrev pub LiveIsPlay : Type 0
-LiveIsPlay = (format : AnswerFormat) (k : Option CodedData) (is_physical : Bool) (c : Parts)
+LiveIsPlay = (format : AnswerFormat) (k : Option CodedData) (limits : List NodeLimits) (is_physical : Bool) (c : Parts)
     (opening capacity : ℕ) (ls : List (List ℕ))
     (said : List (ℕ × ScriptLine)) (run : Run)
-    → AllByRecursion IsPlain ls → read_lines c k 1 ls ≡ Ok said
+    → AllByRecursion IsPlain ls → read_lines c k limits 1 ls ≡ Ok said
     → play_result false c opening capacity said ≡ Ok run
-    → state_after reply (in_hand_of format k is_physical c opening capacity empty_run) (map strip_carriage_return ls)
-    ≡ in_hand_of format k is_physical c opening capacity run
+    → state_after reply (in_hand_of format k limits is_physical c opening capacity empty_run) (map strip_carriage_return ls)
+    ≡ in_hand_of format k limits is_physical c opening capacity run

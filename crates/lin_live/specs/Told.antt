@@ -23,6 +23,7 @@ use Rattle.lin_bench.specs.Slots.{slot_limit}
 use Rattle.lin_bench.specs.Strict.{entries_since, first_refusal}
 use Rattle.lin_bench.specs.LineWords.{spaced_words, words_text}
 use Rattle.lin_bench.specs.Texts.{expected_text, got_text, reason_words}
+use Rattle.lin_bench.specs.declared.rules.NodeLimits.{NodeLimits}
 use Rattle.lin_bench.specs.declared.got.Verdict.{Verdict}
 use Rattle.lin_bench.specs.declared.got.Verdict.TheVariants.{Unmet, SlotLimit}
 use Rattle.lin_bench.specs.declared.line.ScriptLine.{ScriptLine}
@@ -131,15 +132,16 @@ abbrev pub last_line : AnswerFormat → Parts → Option CodedData → Ending �
 last_line Jsonl c k e = object_ending c k e
 last_line f c k e = hash_ending c k e
 
--- ---- what is kept: how entries are told, what signals mean where that is known, whether values are
--- told as that too, a bench whose next line may make 1,000,000 slots, the marks, whether there was a line,
--- whether one was bad or met that limit, and whether an expectation wasn't met
+-- ---- what is kept: how entries are told, what signals mean where that is known, the limits of transfers in
+-- the LDF, whether values are told as that too, a bench whose next line may make 1,000,000 slots, the marks,
+-- whether there was a line, whether one was bad or met that limit, and whether an expectation wasn't met
 pub record HandData : Type 0 where
   pub format : AnswerFormat
   pub cluster : Parts
   pub opening : ℕ
   pub capacity : ℕ
   pub coded : Option CodedData
+  pub limits : List NodeLimits
   pub is_physical : Bool
   pub bench : BenchState
   pub marks : List Marked
@@ -216,16 +218,16 @@ heard_answer h (Ok (Some (GoBack name))) = gone_back h name (bench_at h.marks na
 heard_answer h (Ok (Some (Make line))) = after_line h (made h.cluster h.opening h.capacity h.bench line)
 
 -- what a line says, and none that is too long
-abbrev pub heard_as : Parts → Option CodedData → Option (List ℕ) → Result (Option Heard) Reason
-heard_as c k None = Err TooLong
-heard_as c k (Some line) = line_heard c k line
+abbrev pub heard_as : Parts → Option CodedData → List NodeLimits → Option (List ℕ) → Result (Option Heard) Reason
+heard_as c k limits None = Err TooLong
+heard_as c k limits (Some line) = line_heard c k limits line
 
 -- the first line may begin with a byte order mark, which belongs to no line
 abbrev pub without_byte_order_mark : HandData → Option (List ℕ) → Option (List ℕ)
 without_byte_order_mark h line = if h.begun then line else option_map without_mark line
 
 abbrev pub line_answer : HandData → Option (List ℕ) → HandData × Answer
-line_answer h line = heard_answer (record h { begun = true }) (heard_as h.cluster h.coded (without_byte_order_mark h line))
+line_answer h line = heard_answer (record h { begun = true }) (heard_as h.cluster h.coded h.limits (without_byte_order_mark h line))
 
 -- entries as they are told, the oldest first, on those before them: as the log's own text, as the log
 -- with names, or as objects

@@ -27,12 +27,12 @@ use crate::held::HeldBench;
 use crate::marking::{START, back_name, mark_name};
 use crate::question::Question;
 use crate::reason::{LineFault, Reason};
-use lin_bench::{Mark, ScriptLine};
+use lin_bench::{Mark, NodeLimits, ScriptLine};
 use lin_core::{Core, Log};
 use lin_export::Opening;
 use lin_log::first_field;
 use lin_parts::Cluster;
-use lin_text::{Text, TextBuffer};
+use lin_text::{Many, Text, TextBuffer};
 use lin_values::Coded;
 use std::alloc::{AllocError, Global};
 use std::io::Write;
@@ -92,25 +92,26 @@ fn put_mark(marks: &mut Vec<NamedMark>, mark: NamedMark) -> Result<(), AllocErro
 
 impl Hand {
     /// Returns a session over a new core, without lines or marks, whose answers have this format. If it is given
-    /// what signals mean, lines may have physical values; with `is_physical`, answers have them, too. An error
-    /// means out of memory, and the cluster is dropped.
+    /// what signals mean, lines may have physical values, and with `is_physical` answers have them, too. `limits`
+    /// are those of transfers in the LDF. An error means out of memory, and the cluster is dropped.
     pub fn new(
         alloc: Global,
         cluster: Cluster,
         opening: Opening,
         format: AnswerFormat,
         coded: Option<Coded>,
+        limits: Many<NodeLimits>,
         is_physical: bool,
     ) -> Result<Hand, AllocError>
         requires table { opening.table < length cluster.tables }
         requires some { 1 ≤ opening.capacity }
         requires few { opening.capacity ≤ 1024 }
         ensures { IfOk result (λ hand.
-            hand ≡ new_hand format coded is_physical cluster opening.table opening.capacity) }
+            hand ≡ new_hand format coded limits is_physical cluster opening.table opening.capacity) }
     {
         let core = Core::new(alloc, cluster, opening.table, opening.capacity)?;
         Ok(Hand {
-            held: Some(HeldBench::new(alloc, core, format, coded, is_physical)),
+            held: Some(HeldBench::new(alloc, core, format, coded, limits, is_physical)),
             opening,
             marks: Some(Vec::new(alloc)),
         })
@@ -444,7 +445,8 @@ impl Hand {
         writer: &mut W,
         buffer: &mut TextBuffer,
     ) -> Result<(), Fault>
-        ensures { AnswersSaid self.old (of_script (read_worded_line self.old.cluster self.old.coded line.now))
+        ensures { AnswersSaid self.old (of_script
+            (read_worded_line self.old.cluster self.old.coded self.old.limits line.now))
             self.new (W.contents writer.old) (W.contents writer.new) result }
     {
         let Some(held) = &self.held else {
@@ -465,7 +467,7 @@ impl Hand {
         writer: &mut W,
         buffer: &mut TextBuffer,
     ) -> Result<(), Fault>
-        ensures { AnswersSaid self.old (line_heard self.old.cluster self.old.coded line.now)
+        ensures { AnswersSaid self.old (line_heard self.old.cluster self.old.coded self.old.limits line.now)
             self.new (W.contents writer.old) (W.contents writer.new) result }
     {
         let Some(held) = &self.held else {

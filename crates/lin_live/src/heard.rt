@@ -10,7 +10,7 @@ use crate::asking::question;
 use crate::marking::{back_name, mark_name};
 use crate::question::Question;
 use crate::reason::LineFault;
-use lin_bench::{ScriptLine, read_worded_line};
+use lin_bench::{NodeLimits, ScriptLine, read_worded_line};
 use lin_log::first_field;
 use lin_parts::Cluster;
 use lin_text::Text;
@@ -33,13 +33,14 @@ fn script_line(
     alloc: Global,
     cluster: &Cluster,
     coded: Option<&Coded>,
+    limits: &[NodeLimits],
     line: &[u8],
 ) -> Result<Option<Heard>, LineFault>
-    ensures heard { Gives result
-        (of_script (read_worded_line cluster.now (given_coding coded.entry) line.now)) }
+    ensures heard { Gives result (of_script
+        (read_worded_line cluster.now (given_coding coded.entry) limits.now line.now)) }
     ensures askable { IfOk result (λ said. IfSome said (IsHeard cluster.now)) }
 {
-    match read_worded_line(alloc, cluster, coded, line)? {
+    match read_worded_line(alloc, cluster, coded, limits, line)? {
         None => Ok(None),
         Some(line) => Ok(Some(Heard::Make(line))),
     }
@@ -47,7 +48,7 @@ fn script_line(
 
 /// What a line without its end says; nothing where it has no field or begins with `>`. Nodes,
 /// signals and schedule tables are those of the cluster, and those that are asked for are there;
-/// values may stand in words where what signals mean is known.
+/// values may stand in words where what signals mean is known; `limits` are those of the LDF.
 ///
 /// # Errors
 /// `Bad` with why the line is; `OutOfMemory`.
@@ -55,9 +56,11 @@ pub fn hear(
     alloc: Global,
     cluster: &Cluster,
     coded: Option<&Coded>,
+    limits: &[NodeLimits],
     line: &[u8],
 ) -> Result<Option<Heard>, LineFault>
-    ensures heard { Gives result (line_heard cluster.now (given_coding coded.entry) line.now) }
+    ensures heard { Gives result
+        (line_heard cluster.now (given_coding coded.entry) limits.now line.now) }
     ensures askable { IfOk result (λ said. IfSome said (IsHeard cluster.now)) }
 {
     match first_field(cluster, line) {
@@ -70,6 +73,6 @@ pub fn hear(
         Some((word, rest)) if word == b"back".as_slice() => {
             Ok(Some(Heard::GoBack(back_name(alloc, cluster, rest)?)))
         }
-        _ => script_line(alloc, cluster, coded, line),
+        _ => script_line(alloc, cluster, coded, limits, line),
     }
 }

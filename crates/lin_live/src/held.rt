@@ -29,11 +29,13 @@ use crate::answer_value::{AnswerValue, value_of};
 use crate::fault::Fault;
 use crate::question::Question;
 use crate::reason::Reason;
-use lin_bench::{Bench, Mark, ScriptLine, Verdict, read_worded_line, told_meaning, without_mark};
+use lin_bench::{
+    Bench, Mark, NodeLimits, ScriptLine, Verdict, read_worded_line, told_meaning, without_mark,
+};
 use lin_core::{Core, Log};
 use lin_export::{LastSlot, ObjectTrack, Opening, Track};
 use lin_parts::Cluster;
-use lin_text::TextBuffer;
+use lin_text::{Many, TextBuffer};
 use lin_values::Coded;
 use std::alloc::{AllocError, Global};
 use std::io::Write;
@@ -49,6 +51,8 @@ pub(crate) struct HeldBench {
     format: AnswerFormat,
     /// The encodings of the signals, if they are known.
     coded: Option<Coded>,
+    /// The limits of transfers in the LDF.
+    limits: Many<NodeLimits>,
     /// Whether answers also have physical values.
     is_physical: bool,
     /// The state for writing further entries with names, if it is kept; in a box, since each line moves it.
@@ -130,15 +134,17 @@ impl HeldBench {
         core: Core,
         format: AnswerFormat,
         coded: Option<Coded>,
+        limits: Many<NodeLimits>,
         is_physical: bool,
     ) -> HeldBench
         requires { core.log ≡ [] }
-        ensures { result ≡ new_hand format coded is_physical core.cluster core.opening core.capacity }
+        ensures { result ≡ new_hand format coded limits is_physical core.cluster core.opening core.capacity }
     {
         HeldBench {
             bench: Bench::new(alloc, core),
             format,
             coded,
+            limits,
             is_physical,
             track: None,
             objects: None,
@@ -206,9 +212,16 @@ impl HeldBench {
         alloc: Global,
         line: &[u8],
     ) -> Result<Option<ScriptLine>, lin_bench::LineFault>
-        ensures { ReadsLine (λ l. l) result (read_worded_line self.now.cluster self.now.coded line.now) }
+        ensures { ReadsLine (λ l. l) result (read_worded_line
+            self.now.cluster self.now.coded self.now.limits line.now) }
     {
-        read_worded_line(alloc, self.cluster(), self.coded.as_ref(), line)
+        read_worded_line(
+            alloc,
+            self.cluster(),
+            self.coded.as_ref(),
+            self.limits.as_slice(),
+            line,
+        )
     }
 
     /// Returns a mark of the bench as it is. An error means out of memory.

@@ -1,7 +1,7 @@
 //! A bench in hand, and a loop that answers each line of a reader on a writer before it reads on.
 //!
 //! ```
-//! let mut hand = Hand::new(alloc, cluster, opening, AnswerFormat::Log, None, false)?;
+//! let mut hand = Hand::new(alloc, cluster, opening, AnswerFormat::Log, None, limits, false)?;
 //! // answers each line of standard input, until it ends
 //! live(alloc, &mut hand, &mut reader, &mut writer)?;
 //! ```

@@ -17,6 +17,7 @@ pub mod Requests
 pub mod Configuring
 pub mod FrameTimes
 pub mod AttributeLints
+pub mod TransferLimits
 pub mod Unknown
 pub mod FactTexts
 pub mod Facts

@@ -28,6 +28,7 @@ mod shown_texts;
 mod skipping;
 mod statements;
 mod stops;
+mod transfer_limits;
 mod unknown;
 
 pub use attribute_blocks::{Attribute, NodeAttributes, read_attributes};
@@ -41,4 +42,5 @@ pub use diff::{
     compared_things, differences, is_any_listed, write_differences,
 };
 pub use law::{shown_is_read, silence_is_sameness, silence_keeps_bytes, silence_keeps_times};
+pub use transfer_limits::{TransferLimits, limits_named, read_transfer_limits};
 pub use unknown::unknown_words;

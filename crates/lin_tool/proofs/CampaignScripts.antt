@@ -15,6 +15,7 @@ use Rattle.lin_bench.specs.declared.faults.SlotFault.{SlotFault}
 use Rattle.lin_bench.specs.declared.got.Judgement.{Judgement}
 use Rattle.lin_bench.specs.declared.line.ScriptLine.{ScriptLine}
 use Rattle.lin_bench.specs.declared.playing.PlayedUnder.{PlayedUnder}
+use Rattle.lin_bench.specs.declared.rules.NodeLimits.{NodeLimits}
 use Rattle.lin_export.specs.WhereTold.{given_coding}
 use Rattle.lin_tool.specs.Playing.{IsUnread, ReportsJudgements, Says, play_fails, judgements_with_meanings, play_fault, unmet_with_counts}
 use Rattle.lin_tool.specs.campaign.Played.{IsMemoryFault, IsPlayOf, IsUndisturbedPlay, IsUnfinished, PlaysRow, PlaysUndisturbed}
@@ -29,16 +30,16 @@ use Rattle.lin_tool.proofs.Plays.{writes-after}
 use Rattle.lin_tool.proofs.CampaignEnds.{text-after}
 
 -- a script whose lines weren't read
-pub campaign-unread : (plan : CampaignPlan) (k : Option CodedData) (file named : Option (Bor (List ℕ))) (strict : Bool) (c : Parts) (opening capacity : ℕ) (fault : Fault)
+pub campaign-unread : (plan : CampaignPlan) (k : Option CodedData) (limits : List NodeLimits) (file named : Option (Bor (List ℕ))) (strict : Bool) (c : Parts) (opening capacity : ℕ) (fault : Fault)
     (told old silent heard : Option (List ℕ)) (bytes text : List ℕ) → text ≡ bytes → IfSome told (λ b. bytes ≡ b) → length bytes ≤ 16777216
-    → IsUnread named c k text fault silent heard → WritesCampaign plan k file named strict c opening capacity (Err fault) told old old silent heard
-campaign-unread plan k file named strict c opening capacity (BadBenchLine n outcome) told old silent heard bytes text same known short (why, is, said) =
+    → IsUnread named c k limits text fault silent heard → WritesCampaign plan k limits file named strict c opening capacity (Err fault) told old old silent heard
+campaign-unread plan k limits file named strict c opening capacity (BadBenchLine n outcome) told old silent heard bytes text same known short (why, is, said) =
     (why, record { bytes = text; known = subst (λ (t : List ℕ). IfSome told (λ b. t ≡ b)) (sym same) known; short = rw same short; all = is }, Keeps-refl old, said)
-campaign-unread plan k file named strict c opening capacity OutOfMemory told old silent heard bytes text same known short h = inl (Keeps-refl old, h)
-campaign-unread plan k file named strict c opening capacity fault told old silent heard bytes text same known short h = absurd h
+campaign-unread plan k limits file named strict c opening capacity OutOfMemory told old silent heard bytes text same known short h = inl (Keeps-refl old, h)
+campaign-unread plan k limits file named strict c opening capacity fault told old silent heard bytes text same known short h = absurd h
 
 -- a campaign of these options
-pub record IsCampaign (on : Campaign) (k : Option CodedData) (path named : Option (Bor (List ℕ))) (strict : Bool) (opening capacity : ℕ) : Type 0 where
+pub record IsCampaign (on : Campaign) (k : Option CodedData) (limits : List NodeLimits) (path named : Option (Bor (List ℕ))) (strict : Bool) (opening capacity : ℕ) : Type 0 where
   pub coded : given_coding on.coded ≡ k
   pub script : on.script.now ≡ name_or named (codes "-")
   pub file : on.file.now ≡ name_or path []
@@ -47,17 +48,17 @@ pub record IsCampaign (on : Campaign) (k : Option CodedData) (path named : Optio
   pub room : on.capacity ≡ capacity
 
 -- lines that can't be played undisturbed
-pub campaign-unplayable : (plan : CampaignPlan) (k : Option CodedData) (file named : Option (Bor (List ℕ))) (on : Campaign) (strict : Bool) (c : Parts) (opening capacity : ℕ) (fault : Fault)
-    (told old silent heard : Option (List ℕ)) (ls : List (ℕ × ScriptLine)) → IsCampaign on k file named strict opening capacity → Says c k told (Ok ls)
-    → PlaysUndisturbed on c ls (Err fault) → Keeps silent heard → WritesCampaign plan k file named strict c opening capacity (Err fault) told old old silent heard
-campaign-unplayable plan k file named on strict c opening capacity (SlotLimit n) told old silent heard ls is says h kept =
+pub campaign-unplayable : (plan : CampaignPlan) (k : Option CodedData) (limits : List NodeLimits) (file named : Option (Bor (List ℕ))) (on : Campaign) (strict : Bool) (c : Parts) (opening capacity : ℕ) (fault : Fault)
+    (told old silent heard : Option (List ℕ)) (ls : List (ℕ × ScriptLine)) → IsCampaign on k limits file named strict opening capacity → Says c k limits told (Ok ls)
+    → PlaysUndisturbed on c ls (Err fault) → Keeps silent heard → WritesCampaign plan k limits file named strict c opening capacity (Err fault) told old old silent heard
+campaign-unplayable plan k limits file named on strict c opening capacity (SlotLimit n) told old silent heard ls is says h kept =
     let came : played_under strict c opening capacity [] ls ≡ Err n =
     rw (is.strictly, is.table, is.room) at (h.comes.lines ∙ ap (run_or_limit (record { bench = h.comes.bench; judgements = h.it.judgements })) h.limit) in
     ((ls, says, came), Keeps-refl old, kept)
-campaign-unplayable plan k file named on strict c opening capacity OutOfMemory told old silent heard ls is says h kept = inl (Keeps-refl old, kept)
-campaign-unplayable plan k file named on strict c opening capacity LogFull told old silent heard ls is says h kept =
+campaign-unplayable plan k limits file named on strict c opening capacity OutOfMemory told old silent heard ls is says h kept = inl (Keeps-refl old, kept)
+campaign-unplayable plan k limits file named on strict c opening capacity LogFull told old silent heard ls is says h kept =
     let full : OverfillsUnder c opening capacity [] ls = subst (λ n. OverfillsUnder c opening n [] ls) is.room (subst (λ n. OverfillsUnder c n on.capacity [] ls) is.table h) in inl (ls, says, full, Keeps-refl old, kept)
-campaign-unplayable plan k file named on strict c opening capacity fault told old silent heard ls is says h kept = absurd h
+campaign-unplayable plan k limits file named on strict c opening capacity fault told old silent heard ls is says h kept = absurd h
 
 -- a play with a judgement that isn't met fails, whatever its faults changed
 fails-unmet : (faults missed : ℕ) (js : List Judgement) → some_unmet js ≡ true → play_fails faults missed js ≡ true
@@ -68,14 +69,14 @@ never-both true h k = absurd (cc)
 never-both false h k = absurd (cc)
 
 -- the undisturbed play has a judgement that isn't met
-pub campaign-unmet : (plan : CampaignPlan) (k : Option CodedData) (file named : Option (Bor (List ℕ))) (on : Campaign) (strict : Bool) (c : Parts) (opening capacity : ℕ) (calm : Play)
-    (result : Result Unit Fault) (told old silent mid heard : Option (List ℕ)) (ls : List (ℕ × ScriptLine)) → IsCampaign on k file named strict opening capacity → Says c k told (Ok ls)
+pub campaign-unmet : (plan : CampaignPlan) (k : Option CodedData) (limits : List NodeLimits) (file named : Option (Bor (List ℕ))) (on : Campaign) (strict : Bool) (c : Parts) (opening capacity : ℕ) (calm : Play)
+    (result : Result Unit Fault) (told old silent mid heard : Option (List ℕ)) (ls : List (ℕ × ScriptLine)) → IsCampaign on k limits file named strict opening capacity → Says c k limits told (Ok ls)
     → IsUndisturbedPlay on c ls calm → Keeps silent mid → some_unmet calm.judgements ≡ true
     → ReportsJudgements result (play_fails 0 0 calm.judgements) (unmet_with_counts named strict 0 0 calm.core.cluster calm.core.log calm.judgements) mid heard
-    → WritesCampaign plan k file named strict c opening capacity result told old old silent heard
-campaign-unmet plan k file named on strict c opening capacity calm (Ok done) told old silent mid heard ls is says h kept unmet (met, text) =
+    → WritesCampaign plan k limits file named strict c opening capacity result told old old silent heard
+campaign-unmet plan k limits file named on strict c opening capacity calm (Ok done) told old silent mid heard ls is says h kept unmet (met, text) =
     never-both (play_fails 0 0 calm.judgements) (fails-unmet 0 0 calm.judgements unmet) met
-campaign-unmet plan k file named on strict c opening capacity calm (Err (Unmet outcome)) told old silent mid heard ls is says h kept unmet (missed, text) =
+campaign-unmet plan k limits file named on strict c opening capacity calm (Err (Unmet outcome)) told old silent mid heard ls is says h kept unmet (missed, text) =
     let run : Run = record { bench = h.comes.bench; judgements = h.it.judgements } in
     let came : played_under strict c opening capacity [] ls ≡ Ok run = rw (is.strictly, is.table, is.room) at (h.comes.lines ∙ ap (run_or_limit run) h.limit) in
     let judged : calm.judgements ≡ judgements_with_meanings k run.judgements = h.is.judgements ∙ ap (λ x. judgements_with_meanings x run.judgements) is.coded in
@@ -89,7 +90,7 @@ campaign-unmet plan k file named on strict c opening capacity calm (Err (Unmet o
       Keeps-refl old,
       writes-after kept (subst (λ t. WritesText mid heard outcome t) same text),
     )
-campaign-unmet plan k file named on strict c opening capacity calm (Err fault) told old silent mid heard ls is says h kept unmet text = absurd text
+campaign-unmet plan k limits file named on strict c opening capacity calm (Err fault) told old silent mid heard ls is says h kept unmet text = absurd text
 
 -- the undisturbed play is row 0
 pub same-cluster : (on : Campaign) (c : Parts) (ls : List (ℕ × ScriptLine)) (calm : Play) → IsUndisturbedPlay on c ls calm → calm.core.cluster ≡ c
@@ -126,11 +127,11 @@ ends-after watched denied (Err LogFull) text told old new silent mid heard kept 
 ends-after watched denied (Err fault) text told old new silent mid heard kept h = absurd h
 
 -- rows of the lines of a script
-rows-of-script : (plan : CampaignPlan) (k : Option CodedData) (file named : Option (Bor (List ℕ))) (on : Campaign) (strict : Bool) (c : Parts) (opening capacity : ℕ) (result : Result Unit Fault)
-    (told old new silent mid heard : Option (List ℕ)) (ls : List (ℕ × ScriptLine)) (it : Says c k told (Ok ls)) (calm : Parts) → calm ≡ c → IsCampaign on k file named strict opening capacity
+rows-of-script : (plan : CampaignPlan) (k : Option CodedData) (limits : List NodeLimits) (file named : Option (Bor (List ℕ))) (on : Campaign) (strict : Bool) (c : Parts) (opening capacity : ℕ) (result : Result Unit Fault)
+    (told old new silent mid heard : Option (List ℕ)) (ls : List (ℕ × ScriptLine)) (it : Says c k limits told (Ok ls)) (calm : Parts) → calm ≡ c → IsCampaign on k limits file named strict opening capacity
     → on.bytes.now ≡ it.bytes → Keeps silent mid → WritesPlays (stage_of on calm ls) plan plan.is_watched on.script.now on.file.now on.bytes.now result old new mid heard
-    → WritesPlaysOfScript plan k file named strict c opening capacity result told old new silent heard
-rows-of-script plan k file named on strict c opening capacity result told old new silent mid heard ls it calm same is bytes kept h =
+    → WritesPlaysOfScript plan k limits file named strict c opening capacity result told old new silent heard
+rows-of-script plan k limits file named on strict c opening capacity result told old new silent mid heard ls it calm same is bytes kept h =
     let h1 =
     subst (λ x. WritesPlays (record { strict = on.is_strict; cluster = x; coded = given_coding on.coded; opening = on.table; capacity = on.capacity; lines = ls }) plan plan.is_watched on.script.now on.file.now on.bytes.now result old new mid heard)
     same h in
@@ -157,23 +158,23 @@ rows-of-script plan k file named on strict c opening capacity result told old ne
     bytes h7 in
     (ls, it, (there.0, there.1, ends-after plan.is_watched (denies there.0) result (campaign_output (name_or named (codes "-")) (name_or file []) it.bytes there.0) (counts (name_or named (codes "-")) there.0) old new silent mid heard kept there.2))
 
-written-by : (plan : CampaignPlan) (k : Option CodedData) (file named : Option (Bor (List ℕ))) (strict : Bool) (c : Parts) (opening capacity : ℕ) (result : Result Unit Fault)
-    (told old new silent heard : Option (List ℕ)) → WritesPlaysOfScript plan k file named strict c opening capacity result told old new silent heard
-    → WritesCampaign plan k file named strict c opening capacity result told old new silent heard
-written-by plan k file named strict c opening capacity (Ok done) told old new silent heard h = h
-written-by plan k file named strict c opening capacity (Err Denied) told old new silent heard h = h
-written-by plan k file named strict c opening capacity (Err WriteFailed) told old new silent heard h = h
-written-by plan k file named strict c opening capacity (Err OutOfMemory) told old new silent heard h = inr h
-written-by plan k file named strict c opening capacity (Err LogFull) told old new silent heard h = inr h
-written-by plan k file named strict c opening capacity (Err fault) told old new silent heard (ls, it, (plays, full, ends)) = absurd ends
+written-by : (plan : CampaignPlan) (k : Option CodedData) (limits : List NodeLimits) (file named : Option (Bor (List ℕ))) (strict : Bool) (c : Parts) (opening capacity : ℕ) (result : Result Unit Fault)
+    (told old new silent heard : Option (List ℕ)) → WritesPlaysOfScript plan k limits file named strict c opening capacity result told old new silent heard
+    → WritesCampaign plan k limits file named strict c opening capacity result told old new silent heard
+written-by plan k limits file named strict c opening capacity (Ok done) told old new silent heard h = h
+written-by plan k limits file named strict c opening capacity (Err Denied) told old new silent heard h = h
+written-by plan k limits file named strict c opening capacity (Err WriteFailed) told old new silent heard h = h
+written-by plan k limits file named strict c opening capacity (Err OutOfMemory) told old new silent heard h = inr h
+written-by plan k limits file named strict c opening capacity (Err LogFull) told old new silent heard h = inr h
+written-by plan k limits file named strict c opening capacity (Err fault) told old new silent heard (ls, it, (plays, full, ends)) = absurd ends
 
-pub campaign-written : (plan : CampaignPlan) (k : Option CodedData) (file named : Option (Bor (List ℕ))) (on : Campaign) (strict : Bool) (c : Parts) (opening capacity : ℕ) (result : Result Unit Fault)
-    (told old new silent mid heard : Option (List ℕ)) (ls : List (ℕ × ScriptLine)) (it : Says c k told (Ok ls)) (calm : Parts) → calm ≡ c → IsCampaign on k file named strict opening capacity
+pub campaign-written : (plan : CampaignPlan) (k : Option CodedData) (limits : List NodeLimits) (file named : Option (Bor (List ℕ))) (on : Campaign) (strict : Bool) (c : Parts) (opening capacity : ℕ) (result : Result Unit Fault)
+    (told old new silent mid heard : Option (List ℕ)) (ls : List (ℕ × ScriptLine)) (it : Says c k limits told (Ok ls)) (calm : Parts) → calm ≡ c → IsCampaign on k limits file named strict opening capacity
     → on.bytes.now ≡ it.bytes → Keeps silent mid → WritesPlays (stage_of on calm ls) plan plan.is_watched on.script.now on.file.now on.bytes.now result old new mid heard
-    → WritesCampaign plan k file named strict c opening capacity result told old new silent heard
-campaign-written plan k file named on strict c opening capacity result told old new silent mid heard ls it calm same is bytes kept h =
-    written-by plan k file named strict c opening capacity result told old new silent heard
-    (rows-of-script plan k file named on strict c opening capacity result told old new silent mid heard ls it calm same is bytes kept h)
+    → WritesCampaign plan k limits file named strict c opening capacity result told old new silent heard
+campaign-written plan k limits file named on strict c opening capacity result told old new silent mid heard ls it calm same is bytes kept h =
+    written-by plan k limits file named strict c opening capacity result told old new silent heard
+    (rows-of-script plan k limits file named on strict c opening capacity result told old new silent mid heard ls it calm same is bytes kept h)
 
 -- lines that can't be played under faults
 pub unplayed-fault : (on : Campaign) (c : Parts) (fs : List SlotFault) (ls : List (ℕ × ScriptLine)) (fault : PlayFault) → PlaysUnder on.is_strict c on.table on.capacity fs ls (Err fault)

@@ -37,6 +37,7 @@ use Rattle.lin_sections.specs.Statements.{statements}
 use Rattle.lin_tool.specs.Coding.{coded_read, configured_read, configuring_told, with_lints, sections_read, AreWarnings}
 use Rattle.lin_tool.specs.Field.{AnswersChecked, AnswersField, AnswersNormalized, CheckFaults, FieldSays, IsChecked, IsReadOver, IsNormalized, IsWrittenPlain, ReadFaults, WritesPlain}
 use Rattle.lin_tool.specs.Reading.{AnswersReading}
+use Rattle.lin_tool.specs.Limits.{node_limits}
 use Rattle.lin_tool.specs.declared.coding.Described.{Described}
 use Rattle.lin_tool.specs.declared.coding.Extras.{Extras}
 use Rattle.lin_tool.specs.declared.coding.ExtraSections.{ExtraSections}
@@ -74,8 +75,8 @@ pub described_answer : (x : Extras) (s : Normalized) (checked : Checked) (k : Ex
     → IsPermutation (with_lints s.description s.placed_elsewhere k.configurables k.codings words) odd
     → c ≡ configured_read x.is_configured checked.cluster ts → IsPermutation (odd ++ map (remark true) (configuring_told x.is_configured checked.cluster ts)) rs
     → IfOk r (λ d. d.cluster ≡ c) → IfOk r (λ d. d.coded ≡ coded_read x.encodings d.cluster k.codings)
-    → IfOk r (λ d. AreWarnings x.encodings d.cluster k.codings rs warned) → IfErr r (λ fault. fault ≡ OutOfMemory) → AnswersChecked x s k ts r warned
-described_answer x s checked k ts c words odd rs (Ok d) warned is joined are sends told cluster coded warnings memory =
+    → IfOk r (λ d. d.limits ≡ node_limits d.cluster k.limits) → IfOk r (λ d. AreWarnings x.encodings d.cluster k.codings rs warned) → IfErr r (λ fault. fault ≡ OutOfMemory) → AnswersChecked x s k ts r warned
+described_answer x s checked k ts c words odd rs (Ok d) warned is joined are sends told cluster coded limits warnings memory =
     let found : List Remark = with_lints s.description s.placed_elsewhere k.configurables k.codings (remarks s ++ map (remark true) k.found) in
     let commands : List Remark = map (remark true) (configuring_told x.is_configured (parts_of s.description) ts) in
     let behind : IsPermutation (odd ++ commands) rs =
@@ -86,9 +87,10 @@ described_answer x s checked k ts c words odd rs (Ok d) warned is joined are sen
       free = is.free;
       sends = cluster ∙ sends ∙ ap (λ p. configured_read x.is_configured p ts) is.said;
       coded = coded;
+      limits = limits;
       warnings = reordered x.encodings d.cluster k.codings (found ++ commands) rs warned all warnings;
     }
-described_answer x s checked k ts c words odd rs (Err fault) warned is joined are sends told cluster coded warnings memory = subst (λ f. CheckFaults f s) (sym memory) tt
+described_answer x s checked k ts c words odd rs (Err fault) warned is joined are sends told cluster coded limits warnings memory = subst (λ f. CheckFaults f s) (sym memory) tt
 
 pub not_both : {X : Type 0} (b : Bool) → not b ≡ true → b ≡ true → X
 not_both true off on = absurd (cc)
@@ -109,6 +111,7 @@ resent x s k ts us (Ok d) warned same h = record {
   free = h.free;
   sends = h.sends ∙ same_sent x.is_configured (parts_of s.description) ts us same;
   coded = h.coded;
+  limits = h.limits;
   warnings = subst (λ fs. AreWarnings x.encodings d.cluster k.codings
       (with_lints s.description s.placed_elsewhere k.configurables k.codings (remarks s ++ map (remark true) k.found) ++ map (remark true) fs) warned)
       (same_told x.is_configured (parts_of s.description) ts us same) h.warnings;

@@ -12,6 +12,7 @@ use Rattle.lin_bench.specs.declared.fault.PlayFault.{PlayFault}
 use Rattle.lin_bench.specs.declared.fault.PlayFault.TheVariants as play
 use Rattle.lin_parts.specs.declared.parts.Parts.{Parts}
 use Rattle.lin_bench.specs.declared.line.ScriptLine.{ScriptLine}
+use Rattle.lin_bench.specs.declared.rules.NodeLimits.{NodeLimits}
 use Rattle.lin_values.specs.Coded.{CodedData}
 use Rattle.lin_tool.specs.Playing.{IsUnread, PlaysScriptUnder, Says, WritesPlayed, judgements_with_meanings, missed_in, play_fault, run_as, unmet_with_counts}
 use Rattle.lin_tool.specs.Playing.{play_fails as is_failed}
@@ -19,9 +20,9 @@ use Rattle.lin_tool.specs.declared.fault.Fault.{Fault}
 use Rattle.lin_tool.specs.declared.fault.Fault.TheVariants.{BadBenchLine, OutOfMemory, SlotLimit, Unmet, WriteFailed}
 use Rattle.lin_tool.specs.declared.formats.Format.{Format}
 
-pub says : (c : Parts) (k : Option CodedData) (told : Option (List ℕ)) (bytes : List ℕ) (said : Script) → IfSome told (λ b. bytes ≡ b) → length bytes ≤ 16777216 → read c k bytes ≡ said
-    → Says c k told said
-says c k told bytes said known short all = record { bytes = bytes; known = known; short = short; all = all }
+pub says : (c : Parts) (k : Option CodedData) (limits : List NodeLimits) (told : Option (List ℕ)) (bytes : List ℕ) (said : Script) → IfSome told (λ b. bytes ≡ b) → length bytes ≤ 16777216 → read c k limits bytes ≡ said
+    → Says c k limits told said
+says c k limits told bytes said known short all = record { bytes = bytes; known = known; short = short; all = all }
 
 -- what was kept at first
 keeps-more : (a b c : Option (List ℕ)) → Keeps a b → Keeps b c → Keeps a c
@@ -50,54 +51,54 @@ keeps-same None = tt
 keeps-same (Some x) = refl
 
 -- a script whose lines weren't read
-fails : (fs : List SlotFault) (format : Format) (k : Option CodedData) (shows : Bool) (named : Option (Bor (List ℕ))) (strict : Bool) (c : Parts) (opening capacity : ℕ) (fault : Fault)
+fails : (fs : List SlotFault) (format : Format) (k : Option CodedData) (limits : List NodeLimits) (shows : Bool) (named : Option (Bor (List ℕ))) (strict : Bool) (c : Parts) (opening capacity : ℕ) (fault : Fault)
     (told old silent heard : Option (List ℕ)) (bytes : List ℕ) → IfSome told (λ b. bytes ≡ b) → length bytes ≤ 16777216
-    → IsUnread named c k bytes fault silent heard → PlaysScriptUnder fs format k shows named strict c opening capacity (Err fault) told old old silent heard
-fails fs format k shows named strict c opening capacity (BadBenchLine n outcome) told old silent heard bytes known short (why, is, text) =
+    → IsUnread named c k limits bytes fault silent heard → PlaysScriptUnder fs format k limits shows named strict c opening capacity (Err fault) told old old silent heard
+fails fs format k limits shows named strict c opening capacity (BadBenchLine n outcome) told old silent heard bytes known short (why, is, text) =
     (why, record { bytes = bytes; known = known; short = short; all = is }, keeps-same old, text)
-fails fs format k shows named strict c opening capacity OutOfMemory told old silent heard bytes known short h = inl (keeps-same old, h)
-fails fs format k shows named strict c opening capacity fault told old silent heard bytes known short h = absurd h
+fails fs format k limits shows named strict c opening capacity OutOfMemory told old silent heard bytes known short h = inl (keeps-same old, h)
+fails fs format k limits shows named strict c opening capacity fault told old silent heard bytes known short h = absurd h
 
-pub unread : (fs : List SlotFault) (format : Format) (k : Option CodedData) (shows : Bool) (named : Option (Bor (List ℕ))) (strict : Bool) (c : Parts) (opening capacity : ℕ) (fault : Fault)
+pub unread : (fs : List SlotFault) (format : Format) (k : Option CodedData) (limits : List NodeLimits) (shows : Bool) (named : Option (Bor (List ℕ))) (strict : Bool) (c : Parts) (opening capacity : ℕ) (fault : Fault)
     (told old silent heard : Option (List ℕ)) (bytes text : List ℕ) → text ≡ bytes → IfSome told (λ b. bytes ≡ b) → length bytes ≤ 16777216
-    → IsUnread named c k text fault silent heard → PlaysScriptUnder fs format k shows named strict c opening capacity (Err fault) told old old silent heard
-unread fs format k shows named strict c opening capacity fault told old silent heard bytes text same known short h =
-    fails fs format k shows named strict c opening capacity fault told old silent heard text (subst (λ (t : List ℕ). IfSome told (λ b. t ≡ b)) (sym same) known) (rw same short) h
+    → IsUnread named c k limits text fault silent heard → PlaysScriptUnder fs format k limits shows named strict c opening capacity (Err fault) told old old silent heard
+unread fs format k limits shows named strict c opening capacity fault told old silent heard bytes text same known short h =
+    fails fs format k limits shows named strict c opening capacity fault told old silent heard text (subst (λ (t : List ℕ). IfSome told (λ b. t ≡ b)) (sym same) known) (rw same short) h
 
 -- lines that can't be played
-pub unplayed : (fs : List SlotFault) (format : Format) (k : Option CodedData) (shows : Bool) (named : Option (Bor (List ℕ))) (strict : Bool) (c : Parts) (opening capacity : ℕ) (fault : PlayFault)
-    (told old silent heard : Option (List ℕ)) (ls : List (ℕ × ScriptLine)) → Says c k told (Ok ls) → PlaysUnder strict c opening capacity fs ls (Err fault)
+pub unplayed : (fs : List SlotFault) (format : Format) (k : Option CodedData) (limits : List NodeLimits) (shows : Bool) (named : Option (Bor (List ℕ))) (strict : Bool) (c : Parts) (opening capacity : ℕ) (fault : PlayFault)
+    (told old silent heard : Option (List ℕ)) (ls : List (ℕ × ScriptLine)) → Says c k limits told (Ok ls) → PlaysUnder strict c opening capacity fs ls (Err fault)
     → (EndsWithFullLog {X = PlayedUnder} (Err fault) → has_rule ls ≡ true) → Keeps silent heard
-    → PlaysScriptUnder fs format k shows named strict c opening capacity (Err (play_fault fault)) told old old silent heard
-unplayed fs format k shows named strict c opening capacity (play.SlotLimit n) told old silent heard ls says fails few kept = absurd fails
-unplayed fs format k shows named strict c opening capacity play.LogFull told old silent heard ls says fails few kept = (ls, says, fails, few tt, keeps-same old, kept)
-unplayed fs format k shows named strict c opening capacity play.OutOfMemory told old silent heard ls says fails few kept = inl (keeps-same old, kept)
+    → PlaysScriptUnder fs format k limits shows named strict c opening capacity (Err (play_fault fault)) told old old silent heard
+unplayed fs format k limits shows named strict c opening capacity (play.SlotLimit n) told old silent heard ls says fails few kept = absurd fails
+unplayed fs format k limits shows named strict c opening capacity play.LogFull told old silent heard ls says fails few kept = (ls, says, fails, few tt, keeps-same old, kept)
+unplayed fs format k limits shows named strict c opening capacity play.OutOfMemory told old silent heard ls says fails few kept = inl (keeps-same old, kept)
 
 -- lines that reach the slot limit
-pub limited : (fs : List SlotFault) (format : Format) (k : Option CodedData) (shows : Bool) (named : Option (Bor (List ℕ))) (strict : Bool) (c : Parts) (opening capacity n : ℕ)
-    (told old silent heard : Option (List ℕ)) (ls : List (ℕ × ScriptLine)) → Says c k told (Ok ls) → played_under strict c opening capacity fs ls ≡ Err n → Keeps silent heard
-    → PlaysScriptUnder fs format k shows named strict c opening capacity (Err (SlotLimit n)) told old old silent heard
-limited fs format k shows named strict c opening capacity n told old silent heard ls says comes kept = ((ls, says, comes), keeps-same old, kept)
+pub limited : (fs : List SlotFault) (format : Format) (k : Option CodedData) (limits : List NodeLimits) (shows : Bool) (named : Option (Bor (List ℕ))) (strict : Bool) (c : Parts) (opening capacity n : ℕ)
+    (told old silent heard : Option (List ℕ)) (ls : List (ℕ × ScriptLine)) → Says c k limits told (Ok ls) → played_under strict c opening capacity fs ls ≡ Err n → Keeps silent heard
+    → PlaysScriptUnder fs format k limits shows named strict c opening capacity (Err (SlotLimit n)) told old old silent heard
+limited fs format k limits shows named strict c opening capacity n told old silent heard ls says comes kept = ((ls, says, comes), keeps-same old, kept)
 
 -- memory that runs out before anything is written
-pub unwritten : (fs : List SlotFault) (format : Format) (k : Option CodedData) (shows : Bool) (named : Option (Bor (List ℕ))) (strict : Bool) (c : Parts) (opening capacity : ℕ)
+pub unwritten : (fs : List SlotFault) (format : Format) (k : Option CodedData) (limits : List NodeLimits) (shows : Bool) (named : Option (Bor (List ℕ))) (strict : Bool) (c : Parts) (opening capacity : ℕ)
     (told old silent heard : Option (List ℕ)) → Keeps silent heard
-    → PlaysScriptUnder fs format k shows named strict c opening capacity (Err OutOfMemory) told old old silent heard
-unwritten fs format k shows named strict c opening capacity told old silent heard kept = inl (keeps-same old, kept)
+    → PlaysScriptUnder fs format k limits shows named strict c opening capacity (Err OutOfMemory) told old old silent heard
+unwritten fs format k limits shows named strict c opening capacity told old silent heard kept = inl (keeps-same old, kept)
 
 -- a run of these lines was written, where nothing was told before
-pub plays : (fs : List SlotFault) (format : Format) (k : Option CodedData) (shows : Bool) (named : Option (Bor (List ℕ))) (strict : Bool) (c : Parts) (opening capacity : ℕ) (result : Result Unit Fault)
-    (told old new silent mid heard : Option (List ℕ)) (ls : List (ℕ × ScriptLine)) (run : Run) → Says c k told (Ok ls) → played_under strict c opening capacity fs ls ≡ Ok run
+pub plays : (fs : List SlotFault) (format : Format) (k : Option CodedData) (limits : List NodeLimits) (shows : Bool) (named : Option (Bor (List ℕ))) (strict : Bool) (c : Parts) (opening capacity : ℕ) (result : Result Unit Fault)
+    (told old new silent mid heard : Option (List ℕ)) (ls : List (ℕ × ScriptLine)) (run : Run) → Says c k limits told (Ok ls) → played_under strict c opening capacity fs ls ≡ Ok run
     → Keeps silent mid
     → WritesPlayed format (run_as format k shows named c opening capacity run) (is_failed (length fs) (missed_in run) (judgements_with_meanings k run.judgements))
     (unmet_with_counts named strict (length fs) (missed_in run) c (reverse run.bench.past) (judgements_with_meanings k run.judgements)) result old new mid heard
-    → PlaysScriptUnder fs format k shows named strict c opening capacity result told old new silent heard
-plays fs format k shows named strict c opening capacity (Ok done) told old new silent mid heard ls run says comes kept (shown, met, (outcome, said)) =
+    → PlaysScriptUnder fs format k limits shows named strict c opening capacity result told old new silent heard
+plays fs format k limits shows named strict c opening capacity (Ok done) told old new silent mid heard ls run says comes kept (shown, met, (outcome, said)) =
     (run, (ls, says, comes), (shown, met, (outcome, writes-after kept said)))
-plays fs format k shows named strict c opening capacity (Err (Unmet outcome)) told old new silent mid heard ls run says comes kept (shown, missed, said) =
+plays fs format k limits shows named strict c opening capacity (Err (Unmet outcome)) told old new silent mid heard ls run says comes kept (shown, missed, said) =
     (run, (ls, says, comes), (shown, missed, writes-after kept said))
-plays fs format k shows named strict c opening capacity (Err WriteFailed) told old new silent mid heard ls run says comes kept (begun, quiet) =
+plays fs format k limits shows named strict c opening capacity (Err WriteFailed) told old new silent mid heard ls run says comes kept (begun, quiet) =
     (run, (ls, says, comes), (begun, keeps-more silent mid heard kept quiet))
-plays fs format k shows named strict c opening capacity (Err OutOfMemory) told old new silent mid heard ls run says comes kept (other, begun, quiet) =
+plays fs format k limits shows named strict c opening capacity (Err OutOfMemory) told old new silent mid heard ls run says comes kept (other, begun, quiet) =
     inr (run, (ls, says, comes), (other, begun, keeps-more silent mid heard kept quiet))
-plays fs format k shows named strict c opening capacity (Err _) told old new silent mid heard ls run says comes kept h = absurd h
+plays fs format k limits shows named strict c opening capacity (Err _) told old new silent mid heard ls run says comes kept h = absurd h

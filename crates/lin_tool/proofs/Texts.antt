@@ -16,6 +16,7 @@ use Rattle.lin_field.specs.declared.field_check.Remark.{Remark}
 use Rattle.lin_tool.specs.Clusters.{IsSaidBy, IsParseFault, TextFaults}
 use Rattle.lin_tool.specs.Coding.{coded_read, configured_read, configuring_told, with_lints, AnswersCoded, AreWarnings, SaysSections}
 use Rattle.lin_tool.specs.Field.{ReadFaults}
+use Rattle.lin_tool.specs.Limits.{node_limits}
 use Rattle.lin_tool.specs.Reading.{AnswersLdf}
 use Rattle.lin_tool.specs.declared.coding.Described.{Described}
 use Rattle.lin_tool.specs.declared.coding.Extras.{Extras}
@@ -58,8 +59,8 @@ pub coded_answer : (x : Extras) (r : Result Described Fault) (text given : List 
     → c ≡ configured_read x.is_configured checked (symbols_in given (start_of given).tokens)
     → IsPermutation (odd ++ map (remark true) (configuring_told x.is_configured checked (symbols_in given (start_of given).tokens))) rs
     → IfOk r (λ a. a.cluster ≡ c) → IfOk r (λ a. a.coded ≡ coded_read x.encodings a.cluster s.codings)
-    → IfOk r (λ a. AreWarnings x.encodings a.cluster s.codings rs warned) → IfErr r (λ fault. fault ≡ OutOfMemory) → AnswersCoded x r warned text
-coded_answer x (Ok a) text given d checked c s none odd rs warned same described of (ts, are, is) kept joined sends told cluster coded warnings memory =
+    → IfOk r (λ a. a.limits ≡ node_limits a.cluster s.limits) → IfOk r (λ a. AreWarnings x.encodings a.cluster s.codings rs warned) → IfErr r (λ fault. fault ≡ OutOfMemory) → AnswersCoded x r warned text
+coded_answer x (Ok a) text given d checked c s none odd rs warned same described of (ts, are, is) kept joined sends told cluster coded limits warnings memory =
     let found : List Remark = with_lints d [] s.configurables s.codings (map (remark true) s.found) in
     let commands : List Remark = map (remark true) (configuring_told x.is_configured checked (symbols_in text ts)) in
     let behind : IsPermutation (odd ++ commands) rs =
@@ -75,9 +76,10 @@ coded_answer x (Ok a) text given d checked c s none odd rs warned same described
       sections = s;
       says = (ts, are, is);
       coded = coded;
+      limits = limits;
       warnings = reordered x.encodings a.cluster s.codings (found ++ commands) rs warned all warnings;
     }
-coded_answer x (Err fault) text given d checked c s none odd rs warned same described of says kept joined sends told cluster coded warnings memory =
+coded_answer x (Err fault) text given d checked c s none odd rs warned same described of says kept joined sends told cluster coded limits warnings memory =
     subst (λ f. TextFaults f text) (sym memory) tt
 
 pub answers_read : (x : Extras) (r : Result Described Fault) (warned : List Remark) (told : Option (List ℕ)) (text : List ℕ)

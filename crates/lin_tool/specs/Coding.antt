@@ -18,6 +18,7 @@ use Rattle.lin_field.specs.Checks.{remark, remark_cmp}
 use Rattle.lin_field.specs.declared.field_check.Checked.{Checked}
 use Rattle.lin_field.specs.declared.field_check.Remark.{Remark}
 use Rattle.lin_tool.specs.Clusters.{IsClusterOf, TextFaults}
+use Rattle.lin_tool.specs.Limits.{node_limits}
 use Rattle.lin_tool.specs.declared.coding.Described.{Described}
 use Rattle.lin_tool.specs.declared.coding.Encodings.{Encodings}
 use Rattle.lin_tool.specs.declared.coding.Encodings.TheVariants.{Unread, Read, Told}
@@ -31,6 +32,8 @@ use Rattle.lin_values.specs.Coded.{coded_signals, CodedData}
 use Rattle.lin_sections.specs.Configured.{configurables}
 use Rattle.lin_sections.specs.Configuring.{configured_by, warnings_by}
 use Rattle.lin_sections.specs.Reading.{codings, field_codings}
+use Rattle.lin_sections.specs.TransferLimits.{transfer_limits}
+use Rattle.lin_sections.specs.declared.transfer_limits.TransferLimits.{TransferLimits}
 use Rattle.lin_sections.specs.Unknown.{unknown_words}
 use Rattle.lin_values.specs.Unused.{unused_encodings}
 use Rattle.lin_values.specs.Warnings.{encoding_warnings}
@@ -68,6 +71,12 @@ attributes_read is_linted d ts =
 abbrev pub found_read : Bool → Bool → Description → List Symbol → List Finding
 found_read is_reported is_linted d ts = unknown_read is_reported ts ++ attributes_read is_linted d ts
 
+-- the limits of transfers, if the sections are read for more than a lint
+abbrev pub limits_read : Encodings → List Symbol → List TransferLimits
+limits_read Unread ts = []
+limits_read Read ts = transfer_limits ts
+limits_read Told ts = transfer_limits ts
+
 -- what the extras want of all that; with --field the unknown words in any case
 abbrev pub sections_read : Option (List Name) → Extras → Description → List Symbol → ExtraSections
 sections_read wide x d ts =
@@ -75,6 +84,7 @@ sections_read wide x d ts =
       codings = codings_read wide (are_read x.encodings x.is_linted) ts;
       configurables = configurables_read x.is_linted ts;
       found = found_read (is_some wide || x.is_linted) x.is_linted d ts;
+      limits = limits_read x.encodings ts;
     }
 
 -- the same, where the names of the wide signals are lent
@@ -169,6 +179,7 @@ pub record IsCodedCluster (x : Extras) (text : List ℕ) (d : Described) (warned
   pub sections : ExtraSections
   pub says : SaysSections x text cluster.description sections
   pub coded : d.coded ≡ coded_read x.encodings d.cluster sections.codings
+  pub limits : d.limits ≡ node_limits d.cluster sections.limits
   pub warnings
       : AreWarnings x.encodings d.cluster sections.codings
       (with_lints cluster.description [] sections.configurables sections.codings

@@ -21,6 +21,7 @@ use Rattle.lin_field.specs.declared.field_text.FieldText.{FieldText}
 use Rattle.lin_field.specs.declared.normalizing.Normalized.{Normalized}
 use Rattle.lin_text.specs.Written.{WritesText}
 use Rattle.lin_tool.specs.Coding.{coded_read, configured_read, configuring_told}
+use Rattle.lin_tool.specs.Limits.{node_limits}
 use Rattle.lin_tool.specs.Coding.{with_lints, sections_read, AreWarnings}
 use Rattle.lin_tool.specs.declared.coding.Described.{Described}
 use Rattle.lin_tool.specs.declared.coding.Extras.{Extras}
@@ -82,6 +83,7 @@ pub record IsFieldCluster (x : Extras) (s : Normalized) (k : ExtraSections) (ts 
   pub free : IsFieldFree s
   pub sends : d.cluster ≡ configured_read x.is_configured (parts_of s.description) ts
   pub coded : d.coded ≡ coded_read x.encodings d.cluster k.codings
+  pub limits : d.limits ≡ node_limits d.cluster k.limits
   pub warnings
       : AreWarnings x.encodings d.cluster k.codings
       (with_lints s.description s.placed_elsewhere k.configurables k.codings

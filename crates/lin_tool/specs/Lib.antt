@@ -7,6 +7,7 @@ pub mod Formats
 pub mod Junit
 pub mod Objects
 pub mod Levels
+pub mod Limits
 pub mod Listing
 pub mod Living
 pub mod Opening

@@ -5,6 +5,7 @@ use Rattle.lin_parts.specs.declared.parts.Parts.{Parts}
 use Rattle.lin_values.specs.Coded.{CodedData}
 use Rattle.lin_bench.specs.Rules.{no_rules}
 use Rattle.lin_bench.specs.Slots.{slot_limit}
+use Rattle.lin_bench.specs.declared.rules.NodeLimits.{NodeLimits}
 use Rattle.lin_export.specs.Jsonl.{run_line}
 use Rattle.lin_live.specs.Serving.{IsLive}
 use Rattle.lin_live.specs.Told.{HandData, IsFull, reply}
@@ -27,13 +28,14 @@ live_fault live.OutOfMemory = OutOfMemory
 live_fault live.LogFull = LogFull
 
 -- a bench in hand over a cluster, on which no line was made
-abbrev pub hand_of_cluster : AnswerFormat → Option CodedData → Bool → Parts → ℕ → ℕ → HandData
-hand_of_cluster format k is_physical c opening capacity = record {
+abbrev pub hand_of_cluster : AnswerFormat → Option CodedData → List NodeLimits → Bool → Parts → ℕ → ℕ → HandData
+hand_of_cluster format k limits is_physical c opening capacity = record {
   format = format;
   cluster = c;
   opening = opening;
   capacity = capacity;
   coded = k;
+  limits = limits;
   is_physical = is_physical;
   bench = record { past = []; rules = no_rules; taken = []; left = slot_limit };
   marks = [];
@@ -45,7 +47,7 @@ hand_of_cluster format k is_physical c opening capacity = record {
 -- the same over what was opened
 abbrev pub hand_of_opened : AnswerFormat → Opened → HandData
 hand_of_opened format o =
-    hand_of_cluster format o.coded o.settings.is_physical o.cluster o.table (room_for o.settings.capacity)
+    hand_of_cluster format o.coded o.limits o.settings.is_physical o.cluster o.table (room_for o.settings.capacity)
 
 -- what answers begin with: as objects, what the run is of
 abbrev pub BeginsAnswers : AnswerFormat → List ℕ → Result Unit Fault → Option (List ℕ)

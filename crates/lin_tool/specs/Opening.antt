@@ -58,6 +58,6 @@ pub record IsOpened (s : Settings) (has_words : Bool) (it : Opened) (warned : Li
   where
     pub file
         : AnswersFile s.file s.reading (extras_of s.is_physical has_words s.is_configured)
-        (Ok (record { cluster = it.cluster; coded = it.coded })) warned
+        (Ok (record { cluster = it.cluster; coded = it.coded; limits = it.limits })) warned
     pub table : opening_of it.cluster s.table ≡ Some it.table
     pub settings : it.settings ≡ s

@@ -15,6 +15,7 @@ use Rattle.lin_bench.specs.Played.{is_unmet}
 use Rattle.lin_bench.specs.Texts.{bad_line_text, judged_text, reason_text, unmet_text}
 use Rattle.lin_bench.specs.declared.got.Judgement.{Judgement}
 use Rattle.lin_bench.specs.declared.reason.Reason.{Reason}
+use Rattle.lin_bench.specs.declared.rules.NodeLimits.{NodeLimits}
 use Rattle.lin_tool.specs.declared.placing.Moment.{Moment}
 
 -- a line's number after the file's name
@@ -58,10 +59,10 @@ missed_line (Some file) c log j = placed_missed file.now c log j
 
 -- what is said of a script's bad lines: all of them after the file's name, or without a name the
 -- first one
-abbrev pub bad_text : Option (Bor (List ℕ)) → Parts → Option CodedData → List ℕ → ℕ → Reason
+abbrev pub bad_text : Option (Bor (List ℕ)) → Parts → Option CodedData → List NodeLimits → List ℕ → ℕ → Reason
     → List ℕ
-bad_text None c k text n why = bad_line_text n why
-bad_text (Some file) c k text n why = flat_map (placed_bad file.now) (bad_lines c k text)
+bad_text None c k limits text n why = bad_line_text n why
+bad_text (Some file) c k limits text n why = flat_map (placed_bad file.now) (bad_lines c k limits text)
 
 -- what is said of the judgements of a play that aren't met
 abbrev pub missed_text : Option (Bor (List ℕ)) → Parts → List LogEntry → List Judgement → List ℕ

@@ -17,6 +17,7 @@ use Rattle.lin_bench.specs.declared.fault.PlayFault.TheVariants as play
 use Rattle.lin_bench.specs.declared.got.Judgement.{Judgement}
 use Rattle.lin_bench.specs.declared.line.ScriptLine.{ScriptLine}
 use Rattle.lin_bench.specs.declared.reason.Reason.{Reason}
+use Rattle.lin_bench.specs.declared.rules.NodeLimits.{NodeLimits}
 use Rattle.lin_tool.specs.FaultText.{fault_line, given_faults}
 use Rattle.lin_tool.specs.Formats.{Begins, log_in_format, shown_log}
 use Rattle.lin_tool.specs.Opening.{room_for}
@@ -44,18 +45,18 @@ play_fault play.LogFull = LogFull
 play_fault play.OutOfMemory = OutOfMemory
 
 -- A bench script of some bytes says this; where the reader tells bytes, they are those.
-pub record Says (c : Parts) (k : Option CodedData) (told : Option (List ℕ)) (said : Script)
+pub record Says (c : Parts) (k : Option CodedData) (limits : List NodeLimits) (told : Option (List ℕ)) (said : Script)
     : Type 0 where
   pub bytes : List ℕ
   pub known : IfSome told (λ b. bytes ≡ b)
   pub short : length bytes ≤ 16777216
-  pub all : read c k bytes ≡ said
+  pub all : read c k limits bytes ≡ said
 
 -- the lines of a bench script, played under faults, strictly or not, come to this
-abbrev pub ComesTo : List SlotFault → Bool → Option CodedData → Parts → ℕ → ℕ → Option (List ℕ)
+abbrev pub ComesTo : List SlotFault → Bool → Option CodedData → List NodeLimits → Parts → ℕ → ℕ → Option (List ℕ)
     → Result Run ℕ → Type 0
-ComesTo fs strict k c opening capacity told end =
-    (ls : List (ℕ × ScriptLine)) × Says c k told (Ok ls)
+ComesTo fs strict k limits c opening capacity told end =
+    (ls : List (ℕ × ScriptLine)) × Says c k limits told (Ok ls)
     × (played_under strict c opening capacity fs ls ≡ end)
 
 -- judgements; where what values mean is known, with that
@@ -130,11 +131,11 @@ WritesShown s core script result old new silent heard =
     (script_verdict script core s.judgements.now) result old new silent heard
 
 -- the lines of a bench script came to a run, and this was written of it
-abbrev pub WritesRunOf : List SlotFault → Format → Option CodedData → Bool → Option (Bor (List ℕ)) → Bool → Parts
+abbrev pub WritesRunOf : List SlotFault → Format → Option CodedData → List NodeLimits → Bool → Option (Bor (List ℕ)) → Bool → Parts
     → ℕ → ℕ → Result Unit Fault → Option (List ℕ) → Option (List ℕ) → Option (List ℕ)
     → Option (List ℕ) → Option (List ℕ) → Type 0
-WritesRunOf fs format k shows named strict c opening capacity result told old new silent heard =
-    (run : Run) × ComesTo fs strict k c opening capacity told (Ok run)
+WritesRunOf fs format k limits shows named strict c opening capacity result told old new silent heard =
+    (run : Run) × ComesTo fs strict k limits c opening capacity told (Ok run)
     × WritesPlayed format (run_as format k shows named c opening capacity run)
     (play_fails (length fs) (missed_in run) (judgements_with_meanings k run.judgements))
     (unmet_with_counts named strict (length fs) (missed_in run) c (reverse run.bench.past)
@@ -143,47 +144,47 @@ WritesRunOf fs format k shows named strict c opening capacity result told old ne
 -- What a play under faults answers in this format, what the writer took (from old to new), and what the writer
 -- of errors took (from silent to heard). Of a log that was written, the play didn't fail exactly where the
 -- answer is Ok.
-abbrev pub PlaysScriptUnder : List SlotFault → Format → Option CodedData → Bool → Option (Bor (List ℕ)) → Bool → Parts
+abbrev pub PlaysScriptUnder : List SlotFault → Format → Option CodedData → List NodeLimits → Bool → Option (Bor (List ℕ)) → Bool → Parts
     → ℕ → ℕ → Result Unit Fault → Option (List ℕ) → Option (List ℕ) → Option (List ℕ)
     → Option (List ℕ) → Option (List ℕ) → Type 0
-PlaysScriptUnder fs format k shows named strict c opening capacity (Ok done) told old new silent heard =
-    WritesRunOf fs format k shows named strict c opening capacity (Ok done) told old new silent heard
-PlaysScriptUnder fs format k shows named strict c opening capacity
+PlaysScriptUnder fs format k limits shows named strict c opening capacity (Ok done) told old new silent heard =
+    WritesRunOf fs format k limits shows named strict c opening capacity (Ok done) told old new silent heard
+PlaysScriptUnder fs format k limits shows named strict c opening capacity
     (Err (Unmet outcome)) told old new silent heard =
-    WritesRunOf fs format k shows named strict c opening capacity (Err (Unmet outcome))
+    WritesRunOf fs format k limits shows named strict c opening capacity (Err (Unmet outcome))
     told old new silent heard
-PlaysScriptUnder fs format k shows named strict c opening capacity
+PlaysScriptUnder fs format k limits shows named strict c opening capacity
     (Err (BadBenchLine n outcome)) told old new silent heard =
-    (why : Reason) × (it : Says c k told (Err (n, why))) × Keeps old new
-    × WritesText silent heard outcome (bad_text named c k it.bytes n why)
-PlaysScriptUnder fs format k shows named strict c opening capacity
+    (why : Reason) × (it : Says c k limits told (Err (n, why))) × Keeps old new
+    × WritesText silent heard outcome (bad_text named c k limits it.bytes n why)
+PlaysScriptUnder fs format k limits shows named strict c opening capacity
     (Err (SlotLimit n)) told old new silent heard =
-    ComesTo fs strict k c opening capacity told (Err n) × Keeps old new × Keeps silent heard
-PlaysScriptUnder fs format k shows named strict c opening capacity (Err LogFull) told old new silent heard =
-    (ls : List (ℕ × ScriptLine)) × Says c k told (Ok ls) × OverfillsUnder c opening capacity fs ls
+    ComesTo fs strict k limits c opening capacity told (Err n) × Keeps old new × Keeps silent heard
+PlaysScriptUnder fs format k limits shows named strict c opening capacity (Err LogFull) told old new silent heard =
+    (ls : List (ℕ × ScriptLine)) × Says c k limits told (Ok ls) × OverfillsUnder c opening capacity fs ls
     × (has_rule ls ≡ true) × Keeps old new × Keeps silent heard
-PlaysScriptUnder fs format k shows named strict c opening capacity
+PlaysScriptUnder fs format k limits shows named strict c opening capacity
     (Err ScriptTooLong) told old new silent heard =
     RefusesScript script.TooLong told old new × Keeps silent heard
-PlaysScriptUnder fs format k shows named strict c opening capacity
+PlaysScriptUnder fs format k limits shows named strict c opening capacity
     (Err ReadFailed) told old new silent heard =
     Keeps old new × Keeps silent heard
-PlaysScriptUnder fs format k shows named strict c opening capacity
+PlaysScriptUnder fs format k limits shows named strict c opening capacity
     (Err OutOfMemory) told old new silent heard =
     (Keeps old new × Keeps silent heard)
-    ⊎ WritesRunOf fs format k shows named strict c opening capacity (Err OutOfMemory)
+    ⊎ WritesRunOf fs format k limits shows named strict c opening capacity (Err OutOfMemory)
     told old new silent heard
-PlaysScriptUnder fs format k shows named strict c opening capacity
+PlaysScriptUnder fs format k limits shows named strict c opening capacity
     (Err WriteFailed) told old new silent heard =
-    WritesRunOf fs format k shows named strict c opening capacity (Err WriteFailed)
+    WritesRunOf fs format k limits shows named strict c opening capacity (Err WriteFailed)
     told old new silent heard
-PlaysScriptUnder fs format k shows named strict c opening capacity (Err _) told old new silent heard = ⊥
+PlaysScriptUnder fs format k limits shows named strict c opening capacity (Err _) told old new silent heard = ⊥
 
 -- the same with what was opened
 abbrev pub PlaysOpenedUnder : List SlotFault → Opened → Option (Bor (List ℕ)) → Result Unit Fault → Option (List ℕ)
     → Option (List ℕ) → Option (List ℕ) → Option (List ℕ) → Option (List ℕ) → Type 0
 PlaysOpenedUnder fs o named result told old new silent heard =
-    PlaysScriptUnder fs o.settings.format o.coded o.settings.is_physical named o.settings.is_strict o.cluster o.table
+    PlaysScriptUnder fs o.settings.format o.coded o.limits o.settings.is_physical named o.settings.is_strict o.cluster o.table
     (room_for o.settings.capacity) result told old new silent heard
 
 -- and without faults
@@ -193,7 +194,7 @@ PlaysOpened o named result told old new silent heard = PlaysOpenedUnder [] o nam
 
 -- what is reported of the bad lines of a script, of which this is the first
 abbrev pub script_errors : PlayedScript → Opened → ℕ × Reason → List ℕ
-script_errors script o first = bad_text script.name o.cluster o.coded script.bytes.now first.0 first.1
+script_errors script o first = bad_text script.name o.cluster o.coded o.limits script.bytes.now first.0 first.1
 
 -- what reading the faults of an option answers; of one that isn't valid it is told why
 abbrev pub TakesFaults : {X : Type 0} → (X → List SlotFault) → Parts → Option (Bor (List ℕ))
@@ -212,26 +213,26 @@ TellsBad (Ok outcome) text silent heard = WritesText silent heard outcome text
 TellsBad (Err fault) text silent heard = Keeps silent heard
 
 -- what the writer of errors took where the lines of a bench script aren't read
-abbrev pub IsUnread : Option (Bor (List ℕ)) → Parts → Option CodedData → List ℕ → Fault
+abbrev pub IsUnread : Option (Bor (List ℕ)) → Parts → Option CodedData → List NodeLimits → List ℕ → Fault
     → Option (List ℕ) → Option (List ℕ) → Type 0
-IsUnread named c k text (BadBenchLine n outcome) silent heard =
-    (why : Reason) × (read c k text ≡ Err (n, why))
-    × WritesText silent heard outcome (bad_text named c k text n why)
-IsUnread named c k text OutOfMemory silent heard = Keeps silent heard
-IsUnread named c k text _ silent heard = ⊥
+IsUnread named c k limits text (BadBenchLine n outcome) silent heard =
+    (why : Reason) × (read c k limits text ≡ Err (n, why))
+    × WritesText silent heard outcome (bad_text named c k limits text n why)
+IsUnread named c k limits text OutOfMemory silent heard = Keeps silent heard
+IsUnread named c k limits text _ silent heard = ⊥
 
 -- what reading the lines of a bench script answers, and what the writer of errors took
-abbrev pub ReadsLines : {X : Type 0} → Option (Bor (List ℕ)) → Parts → Option CodedData
+abbrev pub ReadsLines : {X : Type 0} → Option (Bor (List ℕ)) → Parts → Option CodedData → List NodeLimits
     → List ℕ → (X → List (ℕ × ScriptLine)) → Result X Fault → Option (List ℕ) → Option (List ℕ) → Type 0
-ReadsLines named c k text view (Ok x) silent heard =
-    (read c k text ≡ Ok (view x)) × Keeps silent heard
-ReadsLines named c k text view (Err fault) silent heard = IsUnread named c k text fault silent heard
+ReadsLines named c k limits text view (Ok x) silent heard =
+    (read c k limits text ≡ Ok (view x)) × Keeps silent heard
+ReadsLines named c k limits text view (Err fault) silent heard = IsUnread named c k limits text fault silent heard
 
 -- the same of a script
 abbrev pub ReadsScriptLines : {X : Type 0} → PlayedScript → Opened → (X → List (ℕ × ScriptLine)) → Result X Fault
     → Option (List ℕ) → Option (List ℕ) → Type 0
 ReadsScriptLines script o view result silent heard =
-    ReadsLines script.name o.cluster o.coded script.bytes.now view result silent heard
+    ReadsLines script.name o.cluster o.coded o.limits script.bytes.now view result silent heard
 
 -- what judging a play answers that failed or didn't, of which this is told
 abbrev pub ReportsJudgements : Result Unit Fault → Bool → List ℕ

@@ -40,7 +40,7 @@ use crate::fault::Fault;
 use crate::notes::Notes;
 use crate::opening::{Opened, Settings, begin, within_limits};
 use crate::play_command::{Script, bench_lines, judge};
-use lin_bench::{Judgement, SlotFault, some_unmet};
+use lin_bench::{Judgement, NodeLimits, SlotFault, some_unmet};
 use lin_core::Core;
 use lin_export::ExportFault;
 use lin_log::read_bytes;
@@ -64,6 +64,8 @@ pub(crate) struct Campaign<'a, 'c> {
     /// The name of the LDF file.
     pub file: &'a str,
     pub coded: Option<&'c Coded>,
+    /// The limits of transfers in the LDF.
+    pub limits: &'c [NodeLimits],
     pub table: u16,
     pub capacity: usize,
     pub is_strict: bool,
@@ -376,6 +378,7 @@ pub fn campaign_script<R: Read, W: Write, E: Write>(
         cluster,
         table,
         coded,
+        limits,
         settings,
     } = opened;
     let given = coded.as_ref();
@@ -385,6 +388,7 @@ pub fn campaign_script<R: Read, W: Write, E: Write>(
         script: name,
         file,
         coded: given,
+        limits: limits.as_slice(),
         table,
         capacity: within_limits(settings.capacity),
         is_strict: settings.is_strict,

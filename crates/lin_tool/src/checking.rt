@@ -25,7 +25,11 @@ pub fn check<R: AllocGlobal + Files + Input + Print>(
     lists: Lists,
     notes: &mut Notes<'_>,
 ) -> Result<(), Fault> {
-    let Described { cluster, coded } = cluster_at(rt, path, reading, extras, notes)?;
+    let Described {
+        cluster,
+        coded,
+        limits: _limits,
+    } = cluster_at(rt, path, reading, extras, notes)?;
     let mut writer = io::writer(rt);
     write_lists(&cluster, coded.as_ref(), lists, &mut writer)?;
     if let Some(bytes) = lists.timing {

@@ -9,18 +9,21 @@ ghost use Rattle.lin_ldf.specs.Tokens.{AreTokens};
 ghost use Rattle.lin_ldf.specs.declared.token.Token.{Token};
 ghost use Rattle.lin_field.specs.Checks.{remark, remark_cmp};
 ghost use Rattle.lin_tool.specs.Coding.{AddsCommands, AddsLints, are_read, coded_read, codings_in, codings_kept, codings_with};
-ghost use Rattle.lin_tool.specs.Coding.{attributes_read, configurables_read, configured_read, found_read, sections_in, reported_findings, unknown_read, unused_told, AreWarnings};
+ghost use Rattle.lin_tool.specs.Coding.{attributes_read, configurables_read, configured_read, found_read, limits_read, sections_in, reported_findings, unknown_read, unused_told, AreWarnings};
+ghost use Rattle.lin_tool.specs.Limits.{node_limits};
 ghost use Rattle.lin_tool.specs.declared.fault.Fault.TheVariants.{OutOfMemory};
 
 use crate::fault::Fault;
+use crate::limits::node_limits;
 use crate::notes::Notes;
+use lin_bench::NodeLimits;
 use lin_cluster::{Configurable, Finding, lint};
 use lin_field::{Checked, Remark};
 use lin_parts::Cluster;
 use lin_parts::description::{Description, Name};
 use lin_sections::{
-    configure, header_version, lint_attributes, read_attributes, read_codings, read_configurables,
-    read_field_codings, unknown_words,
+    TransferLimits, configure, header_version, lint_attributes, read_attributes, read_codings,
+    read_configurables, read_field_codings, read_transfer_limits, unknown_words,
 };
 use lin_text::Many;
 use lin_values::{Coded, Codings, coded_by, unused_encodings};
@@ -56,6 +59,8 @@ pub(crate) struct ExtraSections {
     pub codings: Option<Codings>,
     pub configurables: Option<Many<Configurable>>,
     pub found: Many<Finding>,
+    /// The limits of transfers, if lines may name them.
+    pub limits: Many<TransferLimits>,
 }
 
 /// The cluster of an LDF text, and what the values of its signals mean, where that is read.
@@ -63,6 +68,8 @@ pub(crate) struct ExtraSections {
 pub struct Described {
     pub cluster: Cluster,
     pub coded: Option<Coded>,
+    /// The limits of the transfers of its nodes, if they are read.
+    pub limits: Many<NodeLimits>,
 }
 
 /// Whether the sections of encodings are read.
@@ -200,6 +207,25 @@ fn found_of(
     Ok(found)
 }
 
+/// The limits of transfers of an LDF text, if its sections are read for more than a lint.
+///
+/// An error means out of memory.
+fn limits_read(
+    alloc: Global,
+    text: &[u8],
+    encodings: Encodings,
+) -> Result<Many<TransferLimits>, AllocError>
+    ensures read { IfOk result
+        (λ l. l ≡ limits_read encodings (symbols_in text.now (start_of text.now).tokens)) }
+    ensures tokens { (ts : List Token) → AreTokens text.now ts
+        → IfOk result (λ l. l ≡ limits_read encodings (symbols_in text.now ts)) }
+{
+    match encodings {
+        Encodings::Unread => Ok(Many::new(Vec::new(alloc))),
+        Encodings::Read | Encodings::Told => read_transfer_limits(alloc, text),
+    }
+}
+
 /// Whether words that LIN doesn't have are reported: with `--field`, where there are names of wide signals, and
 /// in a text that is linted.
 fn reports_unknown(wide: Option<&[Name]>, is_linted: bool) -> bool
@@ -234,10 +260,12 @@ pub(crate) fn sections_of(
     let configurables = configurables_of(alloc, text, extras.is_linted)?;
     let is_reported = reports_unknown(wide, extras.is_linted);
     let found = found_of(alloc, text, description, is_reported, extras.is_linted)?;
+    let limits = limits_read(alloc, text, extras.encodings)?;
     Ok(ExtraSections {
         codings,
         configurables,
         found: Many::new(found),
+        limits,
     })
 }
 
@@ -401,6 +429,7 @@ pub(crate) fn coded_noted(
     alloc: Global,
     checked: Checked,
     codings: Option<Codings>,
+    limits: Many<TransferLimits>,
     encodings: Encodings,
     text: &[u8],
     notes: &mut Notes<'_>,
@@ -408,6 +437,7 @@ pub(crate) fn coded_noted(
     requires { IsSorted remark_cmp checked.warnings }
     ensures cluster { IfOk result (λ d. d.cluster ≡ checked.cluster) }
     ensures coded { IfOk result (λ d. d.coded ≡ coded_read encodings d.cluster codings) }
+    ensures limits { IfOk result (λ d. d.limits ≡ node_limits d.cluster limits) }
     ensures warnings { IfOk result
         (λ d. AreWarnings encodings d.cluster codings checked.warnings notes.new.warnings) }
     ensures memory { IfErr result (λ fault. fault ≡ OutOfMemory) }
@@ -416,5 +446,10 @@ pub(crate) fn coded_noted(
     let (coded, warnings) = coded_with(alloc, &cluster, codings, encodings, warnings)?;
     notes.add_remarks(alloc, text, warnings.as_slice())?;
     notes.keep_warnings(warnings);
-    Ok(Described { cluster, coded })
+    let limits = node_limits(alloc, &cluster, limits.as_slice())?;
+    Ok(Described {
+        cluster,
+        coded,
+        limits,
+    })
 }

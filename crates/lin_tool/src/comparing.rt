@@ -89,6 +89,7 @@ pub fn compare<R: AllocGlobal + Files + Input>(
         cluster,
         table,
         coded: _coded,
+        limits: _limits,
         settings: _settings,
     } = begin(rt, settings, false, notes)?;
     let answer = compare_script(

@@ -159,6 +159,7 @@ fn check_parsed(
         codings,
         configurables,
         found,
+        limits,
     } = sections;
     let none = Many::new(Vec::new(alloc));
     let words = with_findings(none, found.as_slice())?;
@@ -172,7 +173,15 @@ fn check_parsed(
     )?;
     let cluster = said_by(alloc, description)?;
     let checked = configured(alloc, Checked { cluster, warnings }, extras, text)?;
-    coded_noted(alloc, checked, codings, extras.encodings, text, notes)
+    coded_noted(
+        alloc,
+        checked,
+        codings,
+        limits,
+        extras.encodings,
+        text,
+        notes,
+    )
 }
 
 /// Whether the version in the header of a text begins with `1.`, as in LIN 1.2 and 1.3. A version that

@@ -132,6 +132,7 @@ fn cluster_noted(
         codings,
         configurables,
         found,
+        limits,
     } = sections;
     match check_settled(alloc, settled) {
         Ok(Checked { cluster, warnings }) => {
@@ -145,7 +146,15 @@ fn cluster_noted(
                 codings.as_ref(),
             )?;
             let checked = configured(alloc, Checked { cluster, warnings }, extras, mended)?;
-            coded_noted(alloc, checked, codings, extras.encodings, text, notes)
+            coded_noted(
+                alloc,
+                checked,
+                codings,
+                limits,
+                extras.encodings,
+                text,
+                notes,
+            )
         }
         Err(fault) => {
             if let Fault::Remarks(remarks) = &fault {
@@ -205,6 +214,7 @@ pub(crate) fn write_field<W: Write>(
         codings: None,
         configurables: None,
         found: Many::new(unknown_words(alloc, bytes.as_slice())?),
+        limits: Many::new(Vec::new(alloc)),
     };
     let extras = Extras {
         encodings: Encodings::Unread,

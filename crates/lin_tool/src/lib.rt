@@ -5,7 +5,7 @@
 //! let mut notes = Notes::new(alloc, wanted);
 //! let cluster = cluster_of_text(alloc, text)?;
 //! let table = opening_table(&cluster, Some("diag"))?;
-//! let opened = Opened { cluster, table, coded: None, settings };
+//! let opened = Opened { cluster, table, coded: None, limits, settings };
 //! replay_script(alloc, opened, &mut reader, &mut writer, &mut notes)?;
 //! ```
 #![tactic(auto)]
@@ -30,6 +30,7 @@ mod junit;
 mod kinds;
 mod law;
 mod levels;
+mod limits;
 mod living;
 mod locating;
 mod meanings;

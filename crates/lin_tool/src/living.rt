@@ -46,13 +46,15 @@ pub fn bench_in_hand(alloc: Global, opened: Opened<'_>, format: AnswerFormat) ->
         cluster,
         table,
         coded,
+        limits,
         settings,
     } = opened;
     let opening = Opening {
         table,
         capacity: within_limits(settings.capacity),
     };
-    match Hand::new(alloc, cluster, opening, format, coded, settings.is_physical) {
+    let is_physical = settings.is_physical;
+    match Hand::new(alloc, cluster, opening, format, coded, limits, is_physical) {
         Ok(hand) => Ok(hand),
         Err(_) => Err(Fault::OutOfMemory),
     }

@@ -13,7 +13,7 @@ use strsim::generic_damerau_levenshtein;
 const COMPARED: usize = 64;
 
 /// The words that a line begins with.
-static WORDS: [&str; 23] = [
+static WORDS: [&str; 25] = [
     "send",
     "write",
     "open",
@@ -32,6 +32,8 @@ static WORDS: [&str; 23] = [
     "forget",
     "when",
     "state",
+    "node",
+    "on",
     "timeouts",
     "every",
     "response_errors",
@@ -54,6 +56,12 @@ const HOLDING: &str =
     "signal NODE SIGNAL VALUE (LOW..HIGH, = TEXT), waiting NODE K, messages FROM TO K (LOW..HIGH), seen silent \
                        (none, good, damaged, collided), frame NAME (PATTERN), slot TABLE ENTRY, table TABLE, cycle FRAME T (+- D) ms, asleep, awake, not signal .. (waiting, \
                        messages, seen, frame, slot)";
+
+/// What `on` takes.
+const CALLING: &str =
+    "signal NODE SIGNAL VALUE (LOW..HIGH, = TEXT), changed NODE SIGNAL, seen silent \
+                       (none, good, damaged, collided), frame NAME (PATTERN), slot TABLE ENTRY, \
+                       not signal .. (seen, frame, slot)";
 
 /// The forms of faults.
 const FAULTS: &str =
@@ -230,6 +238,7 @@ pub(crate) fn put_bad_bench_line(
                 "  while takes {HOLDING}, changed NODE SIGNAL, not changed NODE SIGNAL, no message FROM TO, no lost (NODE)"
             )
         }
+        Reason::OnForm | Reason::UnknownOn(_) => { writeln!(out, "  on takes {CALLING}") }
         _ => Ok(()),
     }
 }

@@ -9,7 +9,9 @@ use crate::describing::{Reading, cluster_of_file};
 use crate::fault::Fault;
 use crate::formats::Format;
 use crate::notes::Notes;
+use lin_bench::NodeLimits;
 use lin_parts::Cluster;
+use lin_text::Many;
 use lin_values::Coded;
 use std::fs::Files;
 
@@ -58,6 +60,8 @@ pub struct Opened<'a> {
     pub table: u16,
     /// What the values of its signals mean, where that is read.
     pub coded: Option<Coded>,
+    /// The limits of the transfers of its nodes in the LDF, if they are read.
+    pub limits: Many<NodeLimits>,
     pub settings: Settings<'a>,
 }
 
@@ -97,12 +101,17 @@ pub(crate) fn begin<'a, R: AllocGlobal + Files>(
         is_linted: false,
         is_configured: settings.is_configured,
     };
-    let Described { cluster, coded } = cluster_of_file(rt, file, reading, extras, notes)?;
+    let Described {
+        cluster,
+        coded,
+        limits,
+    } = cluster_of_file(rt, file, reading, extras, notes)?;
     match opening_table(&cluster, settings.table) {
         Ok(table) => Ok(Opened {
             cluster,
             table,
             coded,
+            limits,
             settings: *settings,
         }),
         Err(fault) => {

@@ -72,7 +72,13 @@ fn tell_bad<E: Write>(
             Ok(told)
         }
         Some(file) => {
-            let bad = bad_lines(alloc, cluster, opened.coded.as_ref(), bytes)?;
+            let bad = bad_lines(
+                alloc,
+                cluster,
+                opened.coded.as_ref(),
+                opened.limits.as_slice(),
+                bytes,
+            )?;
             let told = write_bad_lines(file, bad.as_slice(), errors);
             notes.add_bench_lines(alloc, bytes, cluster, bad.as_slice());
             Ok(told)
@@ -97,7 +103,8 @@ pub(crate) fn bench_lines<E: Write>(
         (E.contents errors.old) (E.contents errors.new) }
     ensures few { IfOk result (λ v. length v.items ≤ 16777217) }
 {
-    match read(alloc, &opened.cluster, opened.coded.as_ref(), script.bytes) {
+    let (cluster, limits) = (&opened.cluster, opened.limits.as_slice());
+    match read(alloc, cluster, opened.coded.as_ref(), limits, script.bytes) {
         Ok(lines) => Ok(lines),
         Err(ReadFault::BadLine { line, reason }) => {
             let first = (line, reason);
@@ -319,6 +326,7 @@ pub fn play_under_faults<R: Read, W: Write, E: Write>(
         cluster,
         table,
         coded,
+        limits: _limits,
         settings,
     } = opened;
     let capacity = within_limits(settings.capacity);

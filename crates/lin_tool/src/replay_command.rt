@@ -63,6 +63,7 @@ pub fn replay_script<R: Read, W: Write>(
         cluster,
         table,
         coded,
+        limits: _limits,
         settings,
     } = opened;
     let capacity = within_limits(settings.capacity);

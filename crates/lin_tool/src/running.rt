@@ -173,6 +173,7 @@ fn run_over<R: AllocGlobal + Input + Print + Eprint + Threads + Wait + Copy + Se
         cluster,
         table,
         coded,
+        limits: _limits,
         settings,
     } = opened;
     let mut reader = rt.reader();

@@ -4,6 +4,7 @@ ghost use Rattle.lin_tool.specs.campaign.Rows.{IsPart};
 
 use crate::clusters::{cluster_of, expect_bytes};
 use crate::samples::BUILT_IN;
+use lin_text::Many;
 use lin_tool::{
     CampaignPart, CampaignPlan, Fault, Format, Kinds, Notes, Opened, PlannedCampaign, Reading,
     RowFormat, Settings, Wanted, campaign_script,
@@ -36,6 +37,7 @@ fn campaign(
         cluster,
         table: 0,
         coded: None,
+        limits: Many::new(Vec::new(alloc)),
         settings: Settings {
             file: None,
             reading: Reading::Plain,

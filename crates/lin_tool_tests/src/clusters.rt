@@ -36,7 +36,7 @@ pub fn read_text(
     if text.len() > 16_777_216 {
         return Err(Fail::from("too long"));
     }
-    Ok(read(alloc, cluster, None, text))
+    Ok(read(alloc, cluster, None, &[], text))
 }
 
 /// The lines of a text.

@@ -4,6 +4,7 @@ use crate::clusters::{cluster_of, expect_bytes};
 use crate::fakes::{Narrow, Piecewise};
 use crate::samples::{BUILT_IN, LIGHTS};
 use lin_log::run_script;
+use lin_text::Many;
 use lin_tool::{
     Described, Encodings, Extras, Fault, Format, Lists, Notes, Opened, Reading, Settings, Shown,
     Wanted, cluster_of_reader, cluster_of_text, field_of_reader, opening_table, play_script,
@@ -46,6 +47,7 @@ fn cluster_text(alloc: Global, mut rest: &[u8]) -> Result<Vec<u8>, Fault> {
     let Described {
         cluster,
         coded: _coded,
+        limits: _limits,
     } = cluster_of_reader(alloc, &mut rest, NO_EXTRAS, &mut notes)?;
     let mut text = Vec::new(alloc);
     write_list(&cluster, &mut text)?;
@@ -73,6 +75,7 @@ fn field_text(alloc: Global, mut rest: &[u8]) -> Result<(Vec<u8>, usize), Fault>
     let Described {
         cluster,
         coded: _coded,
+        limits: _limits,
     } = field_of_reader(alloc, &mut rest, NO_EXTRAS, &mut notes)?;
     let mut text = Vec::new(alloc);
     write_list(&cluster, &mut text)?;
@@ -113,7 +116,11 @@ fn listed(
     described: Result<Described, Fault>,
     notes: &Notes<'_>,
 ) -> Result<(Vec<u8>, Vec<u8>), Fault> {
-    let Described { cluster, coded } = described?;
+    let Described {
+        cluster,
+        coded,
+        limits: _limits,
+    } = described?;
     let mut lists = Vec::new(alloc);
     write_lists(&cluster, coded.as_ref(), SIGNALS, &mut lists)?;
     let mut told = Vec::new(alloc);
@@ -255,12 +262,14 @@ fn replayed(alloc: Global, script: &[u8]) -> Result<Vec<u8>, Fault> {
     let Described {
         cluster,
         coded: _coded,
+        limits: _limits,
     } = cluster_of_reader(alloc, &mut rest, NO_EXTRAS, &mut notes)?;
     let table = opening_table(&cluster, None)?;
     let opened = Opened {
         cluster,
         table,
         coded: None,
+        limits: Many::new(Vec::new(alloc)),
         settings: SETTINGS,
     };
     replay_script(alloc, opened, &mut reader, &mut text, &mut notes)?;
@@ -296,7 +305,11 @@ fn told_of_play(
         is_linted: false,
         is_configured: false,
     };
-    let Described { cluster, coded } = cluster_of_reader(alloc, &mut rest, extras, &mut notes)?;
+    let Described {
+        cluster,
+        coded,
+        limits,
+    } = cluster_of_reader(alloc, &mut rest, extras, &mut notes)?;
     let table = opening_table(&cluster, None)?;
     let mut reader = script;
     let mut log = Vec::new(alloc);
@@ -305,6 +318,7 @@ fn told_of_play(
         cluster,
         table,
         coded,
+        limits,
         settings: Settings {
             format: Format::Named,
             is_physical: encodings == Encodings::Told,
@@ -368,7 +382,11 @@ fn lists_end_where_a_write_fails(rt: HostRuntime) -> Result<(), Fail> {
     let mut notes = Notes::new(alloc, Wanted::default());
     let mut rest = CODED;
     let described = cluster_of_reader(alloc, &mut rest, CODINGS, &mut notes)?;
-    let Described { cluster, coded } = described;
+    let Described {
+        cluster,
+        coded,
+        limits: _limits,
+    } = described;
     let all = Lists {
         frames: true,
         maps: true,

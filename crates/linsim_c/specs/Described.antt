@@ -1,7 +1,10 @@
 -- The cluster of an LDF with what the values of its signals mean, or why there is none.
-use Rattle.std.specs.Prelude.{◌≡◌, ◌≢◌, ◌<◌, ◌≤◌, ℕ, List, length, not, option_map, Some, Bool, true, false}
+use Rattle.std.specs.Prelude.{◌≡◌, ◌≢◌, ◌<◌, ◌≤◌, ℕ, List, [], ◌∷◌, flat_map, length, not, option_map, Some, Bool, true, false}
 use Rattle.std.specs.Prelude.{Result, Ok, Err, if◌then◌else◌}
 use Rattle.std.specs.List.{find}
+use Rattle.std.specs.Option.{option_map_or}
+use Rattle.std.specs.Str.{bytes_eq}
+use Rattle.lin_frame.specs.Words.{numbers}
 use Rattle.lin_ldf.specs.Stream.{start_of}
 use Rattle.lin_ldf.specs.Symbols.{symbols_in}
 use Rattle.lin_ldf.specs.Tokens.{IsLexFault}
@@ -10,7 +13,9 @@ use Rattle.lin_ldf.specs.declared.fault.LdfFault.TheVariants as ldf
 use Rattle.lin_cluster.specs.Described.{parts_of}
 use Rattle.lin_cluster.specs.declared.finding.Finding.{Finding}
 use Rattle.lin_parts.specs.declared.description.Name.{Name}
+use Rattle.lin_parts.specs.Cluster.{node_of, nodes}
 use Rattle.lin_parts.specs.declared.parts.Parts.{Parts}
+use Rattle.lin_bench.specs.declared.rules.NodeLimits.{NodeLimits}
 use Rattle.lin_field.specs.Bytes.{field_bytes}
 use Rattle.lin_field.specs.Checks.{IsFieldFree, IsRefusalOf}
 use Rattle.lin_field.specs.Describes.{ReadsFieldText}
@@ -25,11 +30,25 @@ use Rattle.lin_field.specs.declared.normalizing.Normalized.{Normalized}
 use Rattle.lin_values.specs.Coded.{CodedData, coded_signals}
 use Rattle.lin_sections.specs.Configuring.{configured_by}
 use Rattle.lin_sections.specs.Reading.{codings, field_codings}
+use Rattle.lin_sections.specs.TransferLimits.{transfer_limits}
+use Rattle.lin_sections.specs.declared.transfer_limits.TransferLimits.{TransferLimits}
 use Rattle.linsim_c.specs.Setups.{IsClusterOf, TextFaults, most_ldf_bytes}
 use Rattle.linsim_c.specs.declared.ldf_cluster.Described.{Described}
 use Rattle.linsim_c.specs.declared.fault.Fault.{Fault}
 use Rattle.linsim_c.specs.declared.fault.Fault.TheVariants.{Ldf, LdfTooLong, OutOfMemory}
 use Rattle.linsim_c.specs.declared.fault.Fault.TheVariants as fault
+
+-- the limits of transfers in an LDF, by the nodes of its cluster (LIN 2.2A, section 9.2.2.2)
+abbrev pub limits_at : Parts → List TransferLimits → ℕ → List NodeLimits
+limits_at c named n =
+    option_map_or (λ l. record { node = n; down_us = l.down_us; up_us = l.up_us } ∷ [])
+    (find (λ l. bytes_eq l.node.text (node_of c n).name) named) []
+
+abbrev pub node_limits : Parts → List TransferLimits → List NodeLimits
+node_limits c named = flat_map (limits_at c named) (numbers (nodes c))
+
+abbrev pub limits_in : List ℕ → Parts → List NodeLimits
+limits_in text c = node_limits c (transfer_limits (symbols_in text (start_of text).tokens))
 
 -- what the sections of encodings of a text say of the signals of a cluster
 abbrev pub coded_in : List ℕ → Parts → CodedData
@@ -49,6 +68,7 @@ abbrev pub IsStandard : Bool → List ℕ → Described → Type 0
 IsStandard is_configured text d =
     (c : Parts) × IsClusterOf text c × (d.cluster ≡ configured_in is_configured text c)
     × (d.coded ≡ coded_in text d.cluster)
+    × (d.limits ≡ limits_in text d.cluster)
 
 abbrev pub AnswersStandard : Bool → Result Described Fault → List ℕ → Type 0
 AnswersStandard is_configured (Ok d) text = IsStandard is_configured text d
@@ -104,6 +124,7 @@ abbrev pub AnswersChecked : Bool → Result Described Fault → Normalized → L
 AnswersChecked is_configured (Ok d) s left =
     (c : Parts) × ChecksField (Ok c) s × (d.cluster ≡ configured_in is_configured left c)
     × (d.coded ≡ field_coded_in s.wide left d.cluster)
+    × (d.limits ≡ limits_in left d.cluster)
 AnswersChecked is_configured (Err why) s left = ChecksField (Err why) s
 
 -- the cluster of what the text is settled to, in which nothing is wrong
@@ -114,6 +135,7 @@ pub record IsField (is_configured : Bool) (text : List ℕ) (d : Described) : Ty
   pub free : IsFieldFree s
   pub said : d.cluster ≡ configured_in is_configured (blanked_text text read) (parts_of s.description)
   pub coded : d.coded ≡ field_coded_in s.wide (blanked_text text read) d.cluster
+  pub limits : d.limits ≡ limits_in (blanked_text text read) d.cluster
 
 abbrev pub FieldFaults : Fault → List ℕ → Type 0
 FieldFaults (Ldf f) text = IsFieldFault text f

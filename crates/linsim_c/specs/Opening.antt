@@ -54,6 +54,7 @@ hand_of_settings s d = record {
   opening = s.table;
   capacity = s.capacity;
   coded = Some d.coded;
+  limits = d.limits;
   is_physical = s.is_physical;
   bench = record { past = []; rules = no_rules; taken = []; left = slot_limit };
   marks = [];

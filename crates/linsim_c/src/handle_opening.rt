@@ -53,12 +53,24 @@ fn new_hand(alloc: Global, ldf: &[u8], settings: &[u8]) -> Result<Hand, Fault>
         format,
         table,
     } = read_settings(settings)?;
-    let Described { cluster, coded } = describe(alloc, ldf, is_field, is_configured)?;
+    let Described {
+        cluster,
+        coded,
+        limits,
+    } = describe(alloc, ldf, is_field, is_configured)?;
     if usize::from(table) >= cluster.tables() {
         return Err(Fault::NoSuchTable);
     }
     let opening = Opening { table, capacity };
-    match Hand::new(alloc, cluster, opening, format, Some(coded), is_physical) {
+    match Hand::new(
+        alloc,
+        cluster,
+        opening,
+        format,
+        Some(coded),
+        limits,
+        is_physical,
+    ) {
         Ok(hand) => Ok(hand),
         Err(_) => Err(Fault::OutOfMemory),
     }

@@ -25,8 +25,9 @@ use Rattle.lin_values.specs.Coded.{CodedData}
 use Rattle.lin_bench.specs.Lines.{line_form, line_of_fields, read_line}
 use Rattle.lin_bench.specs.Plain.{HasNoMarks, SaysSteps}
 use Rattle.lin_bench.specs.Scripts.{Script, read, read_lines, with_read_line, without_mark}
-use Rattle.lin_bench.specs.Words.{read_worded_line, worded}
+use Rattle.lin_bench.specs.Words.{limited_line, line_in_words, read_worded_line, worded, worded_on}
 use Rattle.lin_bench.specs.Made.{BenchState}
+use Rattle.lin_bench.specs.declared.rules.NodeLimits.{NodeLimits}
 use Rattle.lin_bench.specs.declared.line.ScriptLine.{ScriptLine}
 use Rattle.lin_bench.specs.declared.reason.Reason.{Reason as ScriptReason}
 use Rattle.lin_live.proofs.Cuts.{pieces-some}
@@ -70,7 +71,7 @@ after-history : (h : HandData) (ls : List (List ℕ)) → AllByRecursion KeepsLo
 after-history h [] on k = k
 after-history h (line ∷ more) (on, rest-on) k =
     after-history (reply h (short line)).0 more rest-on
-    (told-history (record h { begun = true }) (heard_as h.cluster h.coded (without_byte_order_mark h (short line))) (line-forward h line on) k)
+    (told-history (record h { begun = true }) (heard_as h.cluster h.coded h.limits (without_byte_order_mark h (short line))) (line-forward h line on) k)
 
 -- what stays of a bench in hand
 abbrev Stays : HandData → HandData → Type 0
@@ -91,7 +92,7 @@ told-stays h (Ok (Some (Make line))) = (refl, refl, refl)
 after-stays : (h : HandData) (ls : List (List ℕ)) → Stays h (state_after reply h ls)
 after-stays h [] = (refl, refl, refl)
 after-stays h (line ∷ more) =
-    let one = told-stays (record h { begun = true }) (heard_as h.cluster h.coded (without_byte_order_mark h (short line))) in
+    let one = told-stays (record h { begun = true }) (heard_as h.cluster h.coded h.limits (without_byte_order_mark h (short line))) in
     let rest = after-stays (reply h (short line)).0 more in
     (rest.0 ∙ one.0, rest.1 ∙ one.1, rest.2 ∙ one.2)
 
@@ -148,9 +149,15 @@ line-by : (c : Parts) (line : List ℕ) (said : Option ScriptLine) (t : Bool) �
 line-by c line said true h e = reply-asks line h
 line-by c line said false h e = fields-ask c (line_fields line) said e
 
-line-asks : (c : Parts) (line : List ℕ) (said : Option ScriptLine) → read_worded_line c None line ≡ Ok said → is_of_live (line_fields line) ≡ false
-unfolding read_worded_line read_line
-line-asks c line said e = line-by c line said (slice_index line 0 == 62) refl e
+unlimited : (limits : List NodeLimits) (r : Result (Option ScriptLine) ScriptReason) (said : Option ScriptLine) → limited_line limits r ≡ Ok said
+    → (o : Option ScriptLine) × (r ≡ Ok o)
+unlimited limits (Ok o) said e = (o, refl)
+unlimited limits (Err why) said e = absurd (cc)
+
+line-asks : (c : Parts) (limits : List NodeLimits) (line : List ℕ) (said : Option ScriptLine) → read_worded_line c None limits line ≡ Ok said → is_of_live (line_fields line) ≡ false
+unfolding read_worded_line line_in_words read_line
+line-asks c limits line said e =
+    let u = unlimited limits (read_line c line) said e in line-by c line u.0 (slice_index line 0 == 62) refl u.1
 
 reading-goes : (n : ℕ) (r : Result (Option ScriptLine) ScriptReason) (more : Script) (said : List (ℕ × ScriptLine)) → with_read_line n r more ≡ Ok said
     → ((o : Option ScriptLine) × (r ≡ Ok o)) × ((rest : List (ℕ × ScriptLine)) × (more ≡ Ok rest))
@@ -162,11 +169,11 @@ reading-goes n (Ok (Some l)) (Err bad) said e = absurd (cc)
 abbrev IsShort : List ℕ → Type 0
 IsShort p = length (strip_carriage_return p) ≤ most_bytes
 
-all-plain : (c : Parts) (n : ℕ) (ps : List (List ℕ)) (said : List (ℕ × ScriptLine)) → AllByRecursion IsShort ps → read_lines c None n ps ≡ Ok said → AllByRecursion IsPlain ps
-all-plain c n [] said k e = tt
-all-plain c n (p ∷ ps) said k e =
-    let r = reading-goes n (read_worded_line c None (strip_carriage_return p)) (read_lines c None (n + 1) ps) said e in
-    ((k.0, line-asks c (strip_carriage_return p) r.0.0 r.0.1), all-plain c (n + 1) ps r.1.0 k.1 r.1.1)
+all-plain : (c : Parts) (limits : List NodeLimits) (n : ℕ) (ps : List (List ℕ)) (said : List (ℕ × ScriptLine)) → AllByRecursion IsShort ps → read_lines c None limits n ps ≡ Ok said → AllByRecursion IsPlain ps
+all-plain c limits n [] said k e = tt
+all-plain c limits n (p ∷ ps) said k e =
+    let r = reading-goes n (read_worded_line c None limits (strip_carriage_return p)) (read_lines c None limits (n + 1) ps) said e in
+    ((k.0, line-asks c limits (strip_carriage_return p) r.0.0 r.0.1), all-plain c limits (n + 1) ps r.1.0 k.1 r.1.1)
 
 -- ---- how a transcript begins: with no mark
 abbrev IsFirst : ℕ → Type 0
@@ -197,7 +204,7 @@ last-begins Jsonl c k e rest text = absurd (cc)
 transcript-begins : (h : HandData) (line : List ℕ) (more : List (List ℕ)) → is_text h.format ≡ true → Begins (transcript reply h (line ∷ more))
 transcript-begins h line more text =
     let begun = record h { begun = true } in
-    let said = heard_as h.cluster h.coded (without_byte_order_mark h (short line)) in
+    let said = heard_as h.cluster h.coded h.limits (without_byte_order_mark h (short line)) in
     let rest = transcript reply (reply h (short line)).0 more in
     let k = shown_coding h in
     let ending = (heard_answer begun said).1.ending in
@@ -224,13 +231,13 @@ told-begun h (Ok (Some (SetMark name))) b = b
 told-begun h (Ok (Some (GoBack name))) b = back-begun h name (bench_at h.marks name) b
 told-begun h (Ok (Some (Make line))) b = b
 
-nothing-read : (c : Parts) (k : Option CodedData) → read_worded_line c k [] ≡ Ok None
-unfolding read_worded_line read_line worded
-nothing-read c None = refl
-nothing-read c (Some k) = refl
+nothing-read : (c : Parts) (k : Option CodedData) (limits : List NodeLimits) → read_worded_line c k limits [] ≡ Ok None
+unfolding read_worded_line line_in_words read_line worded worded_on
+nothing-read c None limits = refl
+nothing-read c (Some k) limits = refl
 
 nothing-said : (h : HandData) → h.begun ≡ true → (reply h (short [])).0 ≡ h
-nothing-said h b = rw (b, nothing-read h.cluster h.coded) refl
+nothing-said h b = rw (b, nothing-read h.cluster h.coded h.limits) refl
 
 not-empty : (x : ℕ) (xs : List ℕ) → (length (x ∷ xs) == 0) ≡ false
 not-empty x xs = grind (arith, common_steps)
@@ -247,7 +254,7 @@ lines-same : (h : HandData) → h.begun ≡ true → (p : List ℕ) (ps : List (
 lines-same h b p [] = last-same h b p
 lines-same h b p (q ∷ qs) =
     let line = short (strip_carriage_return p) in
-    lines-same (reply h line).0 (told-begun (record h { begun = true }) (heard_as h.cluster h.coded (without_byte_order_mark h line)) refl) q qs
+    lines-same (reply h line).0 (told-begun (record h { begun = true }) (heard_as h.cluster h.coded h.limits (without_byte_order_mark h line)) refl) q qs
 
 pieces-same : (h : HandData) → h.begun ≡ true → (t : List ℕ) (ps : List (List ℕ)) (p : List ℕ) (qs : List (List ℕ)) → ps ≡ p ∷ qs → ps ≡ pieces_at_lf t
     → state_after reply h (lines t) ≡ state_after reply h (map strip_carriage_return (pieces_at_lf t))
@@ -275,21 +282,21 @@ marked-by true line h = ap Some h
 marked-by false line h = refl
 
 begun-same : (h : HandData) (ls : List (List ℕ)) (x : ℕ) → (x == 239) ≡ false → HasFirst x ls
-    → state_after reply (anew h) ls ≡ state_after reply (in_hand_of h.format h.coded h.is_physical h.cluster h.opening h.capacity empty_run) ls
+    → state_after reply (anew h) ls ≡ state_after reply (in_hand_of h.format h.coded h.limits h.is_physical h.cluster h.opening h.capacity empty_run) ls
 begun-same h ls x k b =
-    let k1 : HandData = in_hand_of h.format h.coded h.is_physical h.cluster h.opening h.capacity empty_run in
+    let k1 : HandData = in_hand_of h.format h.coded h.limits h.is_physical h.cluster h.opening h.capacity empty_run in
     let line = b.0 in
     let unmarked-line : option_map without_mark (short line) ≡ short line =
     marked-by (nat_le (length line) most_bytes) line (no-mark line (ap (λ (n : ℕ). n == 239) b.3 ∙ k)) in
     ap (state_after reply (anew h)) b.2
-    ∙ ap (λ o. state_after reply (heard_answer k1 (heard_as h.cluster h.coded o)).0 b.1) unmarked-line
+    ∙ ap (λ o. state_after reply (heard_answer k1 (heard_as h.cluster h.coded h.limits o)).0 b.1) unmarked-line
     ∙ ap (state_after reply k1) (sym b.2)
 
 -- ---- a transcript
-reads-coded : (c : Parts) (opening capacity : ℕ) (t : List ℕ) (steps : List (PortId × Step)) (k : Option CodedData) → IfSome k (λ k. HasNoMarks c)
-    → (says : SaysSteps c opening capacity t steps) → read c k t ≡ Ok says.lines
-reads-coded c opening capacity t steps None none says = says.reading
-reads-coded c opening capacity t steps (Some k) none says = says.coded none k
+reads-coded : (c : Parts) (opening capacity : ℕ) (t : List ℕ) (steps : List (PortId × Step)) (k : Option CodedData) (limits : List NodeLimits) → IfSome k (λ k. HasNoMarks c)
+    → (says : SaysSteps c opening capacity t steps) → read c k limits t ≡ Ok says.lines
+reads-coded c opening capacity t steps None limits none says = says.reading limits
+reads-coded c opening capacity t steps (Some k) limits none says = says.coded none k limits
 
 abbrev Again : HandData → List (List ℕ) → HandData → Type 0
 Again h ls k = (reverse k.bench.past ≡ log_after h ls) × (k.was_bad ≡ false)
@@ -300,16 +307,16 @@ again-by : (h : HandData) (ls : List (List ℕ)) → IsTranscript h ls → HasNa
 unfolding read
 again-by h ls t a none fits shorts b =
     let text = transcript reply h ls in
-    let k1 : HandData = in_hand_of h.format h.coded h.is_physical h.cluster h.opening h.capacity empty_run in
+    let k1 : HandData = in_hand_of h.format h.coded h.limits h.is_physical h.cluster h.opening h.capacity empty_run in
     let says = transcripts-are-bench-scripts h ls h.opening h.capacity t a fits in
-    let plain : read_lines h.cluster None 1 (pieces_at_lf text) ≡ Ok says.lines =
-    ap (λ (u : List ℕ). read_lines h.cluster None 1 (pieces_at_lf u)) (sym (begins-unmarked text b)) ∙ says.reading in
-    let reading : read_lines h.cluster h.coded 1 (pieces_at_lf text) ≡ Ok says.lines =
-    ap (λ (u : List ℕ). read_lines h.cluster h.coded 1 (pieces_at_lf u)) (sym (begins-unmarked text b))
-    ∙ reads-coded h.cluster h.opening h.capacity text (steps_of (log_after h ls)) h.coded none says in
+    let plain : read_lines h.cluster None h.limits 1 (pieces_at_lf text) ≡ Ok says.lines =
+    ap (λ (u : List ℕ). read_lines h.cluster None h.limits 1 (pieces_at_lf u)) (sym (begins-unmarked text b)) ∙ says.reading h.limits in
+    let reading : read_lines h.cluster h.coded h.limits 1 (pieces_at_lf text) ≡ Ok says.lines =
+    ap (λ (u : List ℕ). read_lines h.cluster h.coded h.limits 1 (pieces_at_lf u)) (sym (begins-unmarked text b))
+    ∙ reads-coded h.cluster h.opening h.capacity text (steps_of (log_after h ls)) h.coded h.limits none says in
     let some = pieces-some text in
-    let played = live-is-play h.format h.coded h.is_physical h.cluster h.opening h.capacity (pieces_at_lf text) says.lines _
-    (all-plain h.cluster 1 (pieces_at_lf text) says.lines shorts plain) reading says.steps_alone in
+    let played = live-is-play h.format h.coded h.limits h.is_physical h.cluster h.opening h.capacity (pieces_at_lf text) says.lines _
+    (all-plain h.cluster h.limits 1 (pieces_at_lf text) says.lines shorts plain) reading says.steps_alone in
     let first-line : HasFirst b.0 (lines text) = subst (λ (u : List ℕ). HasFirst b.0 (lines u)) (sym b.2) (lines-first b.0 b.1 b.3) in
     let same = begun-same h (lines text) b.0 b.3.0 first-line ∙ pieces-same k1 refl text (pieces_at_lf text) some.0 some.1 some.2 refl ∙ played in (
       ap (λ (k : HandData). reverse k.bench.past) same ∙ ap reverse (log-again h ls t),

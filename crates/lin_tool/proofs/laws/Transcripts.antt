@@ -33,7 +33,7 @@ all-remarks : (h : HandData) (f : AnswerFormat) (physical : Bool) (c : Parts) (k
 all-remarks h f physical c k form phys is so text [] = tt
 all-remarks h f physical c k form phys is so text (line ∷ more) =
     let begun = record h { begun = true } in
-    let said = heard_as h.cluster h.coded (without_byte_order_mark h (short line)) in
+    let said = heard_as h.cluster h.coded h.limits (without_byte_order_mark h (short line)) in
     let kept = told-kept begun said in (
       rw (sym is, sym so, sym phys)
           (text-line f h.cluster (shown_coding h) _ text (ending-remark h.cluster (shown_coding h) (heard_answer begun said).1.ending)),

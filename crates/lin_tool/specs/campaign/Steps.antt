@@ -46,7 +46,7 @@ IsCampaignReady on c =
 
 -- the script of a campaign says these lines
 abbrev pub SaysLines : Campaign → Parts → List (ℕ × ScriptLine) → Type 0
-SaysLines on c ls = read c (given_coding on.coded) on.bytes.now ≡ Ok ls
+SaysLines on c ls = read c (given_coding on.coded) on.limits.now on.bytes.now ≡ Ok ls
 
 -- what the plays of these lines have in common
 abbrev pub stage_of : Campaign → Parts → List (ℕ × ScriptLine) → PlaySetup

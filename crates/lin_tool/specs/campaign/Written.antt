@@ -13,6 +13,7 @@ use Rattle.lin_bench.specs.Plays.{ComesUnder, OverfillsUnder}
 use Rattle.lin_bench.specs.declared.line.ScriptLine.{ScriptLine}
 use Rattle.lin_bench.specs.declared.playing.PlayedUnder.{PlayedUnder}
 use Rattle.lin_bench.specs.declared.reason.Reason.{Reason}
+use Rattle.lin_bench.specs.declared.rules.NodeLimits.{NodeLimits}
 use Rattle.lin_tool.specs.Formats.{Begins}
 use Rattle.lin_tool.specs.Opening.{room_for}
 use Rattle.lin_tool.specs.Placing.{bad_text}
@@ -202,11 +203,11 @@ name_or None other = other
 name_or (Some name) other = name.now
 
 -- a script was read, and this is written of its plays
-abbrev pub WritesPlaysOfScript : CampaignPlan → Option CodedData → Option (Bor (List ℕ))
+abbrev pub WritesPlaysOfScript : CampaignPlan → Option CodedData → List NodeLimits → Option (Bor (List ℕ))
     → Option (Bor (List ℕ)) → Bool → Parts → ℕ → ℕ → Result Unit Fault → Option (List ℕ)
     → Option (List ℕ) → Option (List ℕ) → Option (List ℕ) → Option (List ℕ) → Type 0
-WritesPlaysOfScript plan k file named strict c opening capacity result told old new silent heard =
-    (ls : List (ℕ × ScriptLine)) × (it : Says c k told (Ok ls))
+WritesPlaysOfScript plan k limits file named strict c opening capacity result told old new silent heard =
+    (ls : List (ℕ × ScriptLine)) × (it : Says c k limits told (Ok ls))
     × WritesPlays (record {
       strict = strict;
       cluster = c;
@@ -220,56 +221,56 @@ WritesPlaysOfScript plan k file named strict c opening capacity result told old 
 -- What a campaign answers, what the writer took (from old to new), and what the writer of errors took
 -- (from silent to heard). If the undisturbed play has a judgement that isn't met, or the script can't be
 -- played, the writer gets nothing.
-abbrev pub WritesCampaign : CampaignPlan → Option CodedData → Option (Bor (List ℕ))
+abbrev pub WritesCampaign : CampaignPlan → Option CodedData → List NodeLimits → Option (Bor (List ℕ))
     → Option (Bor (List ℕ)) → Bool → Parts → ℕ → ℕ → Result Unit Fault → Option (List ℕ)
     → Option (List ℕ) → Option (List ℕ) → Option (List ℕ) → Option (List ℕ) → Type 0
-WritesCampaign plan k file named strict c opening capacity
+WritesCampaign plan k limits file named strict c opening capacity
     (Err (BadBenchLine n outcome)) told old new silent heard =
-    (why : Reason) × (it : Says c k told (Err (n, why))) × Keeps old new
-    × WritesText silent heard outcome (bad_text named c k it.bytes n why)
-WritesCampaign plan k file named strict c opening capacity
+    (why : Reason) × (it : Says c k limits told (Err (n, why))) × Keeps old new
+    × WritesText silent heard outcome (bad_text named c k limits it.bytes n why)
+WritesCampaign plan k limits file named strict c opening capacity
     (Err (SlotLimit n)) told old new silent heard =
-    ComesTo [] strict k c opening capacity told (Err n) × Keeps old new × Keeps silent heard
-WritesCampaign plan k file named strict c opening capacity
+    ComesTo [] strict k limits c opening capacity told (Err n) × Keeps old new × Keeps silent heard
+WritesCampaign plan k limits file named strict c opening capacity
     (Err (Unmet outcome)) told old new silent heard =
-    (run : Run) × ComesTo [] strict k c opening capacity told (Ok run)
+    (run : Run) × ComesTo [] strict k limits c opening capacity told (Ok run)
     × (some_unmet (judgements_with_meanings k run.judgements) ≡ true) × Keeps old new
     × WritesText silent heard outcome
     (unmet_with_counts named strict 0 0 c (reverse run.bench.past) (judgements_with_meanings k run.judgements))
-WritesCampaign plan k file named strict c opening capacity
+WritesCampaign plan k limits file named strict c opening capacity
     (Err ScriptTooLong) told old new silent heard =
     RefusesScript script.TooLong told old new × Keeps silent heard
-WritesCampaign plan k file named strict c opening capacity
+WritesCampaign plan k limits file named strict c opening capacity
     (Err ReadFailed) told old new silent heard =
     Keeps old new × Keeps silent heard
-WritesCampaign plan k file named strict c opening capacity
+WritesCampaign plan k limits file named strict c opening capacity
     (Err OutOfMemory) told old new silent heard =
     (Keeps old new × Keeps silent heard)
-    ⊎ WritesPlaysOfScript plan k file named strict c opening capacity (Err OutOfMemory)
+    ⊎ WritesPlaysOfScript plan k limits file named strict c opening capacity (Err OutOfMemory)
     told old new silent heard
-WritesCampaign plan k file named strict c opening capacity
+WritesCampaign plan k limits file named strict c opening capacity
     (Err LogFull) told old new silent heard =
-    ((ls : List (ℕ × ScriptLine)) × Says c k told (Ok ls) × OverfillsUnder c opening capacity [] ls
+    ((ls : List (ℕ × ScriptLine)) × Says c k limits told (Ok ls) × OverfillsUnder c opening capacity [] ls
     × Keeps old new × Keeps silent heard)
-    ⊎ WritesPlaysOfScript plan k file named strict c opening capacity (Err LogFull)
+    ⊎ WritesPlaysOfScript plan k limits file named strict c opening capacity (Err LogFull)
     told old new silent heard
-WritesCampaign plan k file named strict c opening capacity
+WritesCampaign plan k limits file named strict c opening capacity
     (Err WriteFailed) told old new silent heard =
-    WritesPlaysOfScript plan k file named strict c opening capacity (Err WriteFailed)
+    WritesPlaysOfScript plan k limits file named strict c opening capacity (Err WriteFailed)
     told old new silent heard
-WritesCampaign plan k file named strict c opening capacity
+WritesCampaign plan k limits file named strict c opening capacity
     (Err Denied) told old new silent heard =
-    WritesPlaysOfScript plan k file named strict c opening capacity (Err Denied)
+    WritesPlaysOfScript plan k limits file named strict c opening capacity (Err Denied)
     told old new silent heard
-WritesCampaign plan k file named strict c opening capacity
+WritesCampaign plan k limits file named strict c opening capacity
     (Ok done) told old new silent heard =
-    WritesPlaysOfScript plan k file named strict c opening capacity (Ok done)
+    WritesPlaysOfScript plan k limits file named strict c opening capacity (Ok done)
     told old new silent heard
-WritesCampaign plan k file named strict c opening capacity (Err _) told old new silent heard = ⊥
+WritesCampaign plan k limits file named strict c opening capacity (Err _) told old new silent heard = ⊥
 
 -- the same with what was opened
 abbrev pub WritesOpened : CampaignPlan → Opened → Option (Bor (List ℕ)) → Result Unit Fault → Option (List ℕ)
     → Option (List ℕ) → Option (List ℕ) → Option (List ℕ) → Option (List ℕ) → Type 0
 WritesOpened plan o named result told old new silent heard =
-    WritesCampaign plan o.coded o.settings.file named o.settings.is_strict o.cluster o.table
+    WritesCampaign plan o.coded o.limits o.settings.file named o.settings.is_strict o.cluster o.table
     (room_for o.settings.capacity) result told old new silent heard

@@ -61,7 +61,7 @@ TranscriptsAreBenchScripts = (h : HandData) (ls : List (List ℕ)) (opening capa
 -- a bench in hand that begins, with the same cluster, meanings and settings and without rules
 abbrev pub anew : HandData → HandData
 anew h =
-    record (in_hand_of h.format h.coded h.is_physical h.cluster h.opening h.capacity empty_run) {
+    record (in_hand_of h.format h.coded h.limits h.is_physical h.cluster h.opening h.capacity empty_run) {
       begun = false;
     }
 

@@ -26,7 +26,7 @@ impl Campaign<'_, '_> {
             → PlaysRow self.now cluster faults.now ls result }
         ensures same { IfOk result (λ play. play.core.cluster ≡ cluster) }
     {
-        let lines = match read(self.alloc, &cluster, self.coded, self.bytes) {
+        let lines = match read(self.alloc, &cluster, self.coded, self.limits, self.bytes) {
             Ok(lines) => lines,
             Err(ReadFault::BadLine { line, .. }) => {
                 return Err(Fault::BadBenchLine { line, told: Ok(()) });

@@ -28,7 +28,7 @@ fn only_line(alloc: Global, ldf: &[u8], text: &[u8]) -> Result<ScriptLine, Fail>
 fn window(rt: HostRuntime) -> Result<(), Fail> {
     let alloc = rt.alloc();
     let cluster = cluster_of(alloc, DOOR_ZONE)?;
-    let Ok(lines) = read(alloc, &cluster, None, WINDOW) else {
+    let Ok(lines) = read(alloc, &cluster, None, &[], WINDOW) else {
         return Err(Fail::from("not read"));
     };
     assert!(rt; lines.len() == 29);

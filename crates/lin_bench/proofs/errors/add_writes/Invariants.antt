@@ -7,4 +7,4 @@ abbrev pub invariant-loop-signal : goal.invariant-loop-signal
 invariant-loop-signal l =
     l.steps.items
     ≡ l.fn.steps.items
-    ++ filter_map (error_told l.core.cluster (past_of l.core) l.ended) (take l.signal-index l.core.cluster.errors)
+    ++ filter_map (error_told l.core.cluster (past_of l.core) l.ended l.offs) (take l.signal-index l.core.cluster.errors)

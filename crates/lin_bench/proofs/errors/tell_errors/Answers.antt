@@ -9,6 +9,6 @@ pub returns-in-Some : goal.returns-in-Some
 returns-in-Some c =
     let core = c.args.core.now in
     where-ok c.add_writes.result
-    (λ (added : c.add_writes.new.steps.items ≡ c.args.steps.now.items ++ filter_map (error_told core.cluster (past_of core) c.in-Some.ended) core.cluster.errors) by past s fin.
-    writes-told core by past s c.in-Some.ended c.args.steps.now.items c.add_writes.new.steps.items fin (sym c.in-Some.is ∙ c.in_ok-ended.ensures by past s fin) added)
+    (λ (added : c.add_writes.new.steps.items ≡ c.args.steps.now.items ++ filter_map (error_told core.cluster (past_of core) c.in-Some.ended c.args.offs.now) core.cluster.errors) by past s fin.
+    writes-told core by past s c.in-Some.ended c.args.offs.now c.args.steps.now.items c.add_writes.new.steps.items fin (sym c.in-Some.is ∙ c.in_ok-ended.ensures by past s fin) added)
     c.add_writes.ensures

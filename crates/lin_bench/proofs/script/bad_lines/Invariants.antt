@@ -5,7 +5,7 @@ use Rattle.lin_bench.proofs.script.bad_lines.Given as goal
 
 abbrev pub invariant-loop-left : goal.invariant-loop-left
 invariant-loop-left l = record {
-  same : l.bad.items ++ bad_from l.cluster (option_map (λ k. k.now) l.coded) l.number (lines_left l.left) ≡ bad_lines l.cluster (option_map (λ k. k.now) l.coded) l.text;
+  same : l.bad.items ++ bad_from l.cluster (option_map (λ k. k.now) l.coded) l.limits l.number (lines_left l.left) ≡ bad_lines l.cluster (option_map (λ k. k.now) l.coded) l.limits l.text;
   few : l.number + left_length l.left ≤ 16777218;
 }
 

@@ -1,6 +1,7 @@
 use Rattle.std.proofs.Common.{◌∙◌, Ok, ap, ap₂, refl, rules, subst, sym}
 use Rattle.lin_bench.specs.Played.{some_unmet}
 use Rattle.lin_bench.specs.Scripts.{read}
+use Rattle.lin_export.specs.WhereTold.{given_coding}
 use Rattle.lin_tool.specs.Opening.{room_for}
 use Rattle.lin_tool.specs.Playing.{ReportsJudgements, Says, play_fails, unmet_with_counts}
 use Rattle.lin_tool.specs.declared.campaign.Campaign.{Campaign}
@@ -12,7 +13,7 @@ pub returns-in_err-lines : goal.returns-in_err-lines
 returns-in_err-lines g c =
     let opened = c.args.planned.opened in
     let how = opened.settings in
-    let fails = campaign-unread c.args.planned.plan.now opened.coded how.file c.args.notes.now.wanted.script how.is_strict opened.cluster opened.table (room_for how.capacity)
+    let fails = campaign-unread c.args.planned.plan.now opened.coded opened.limits how.file c.args.notes.now.wanted.script how.is_strict opened.cluster opened.table (room_for how.capacity)
     c.in_err-lines.field-0.0 _ (g.W.Write.contents c.args.writer.now) _ _ _ _ c.as_slice.ensures.value
     c.in_ok-bytes.ensures.0 c.in_ok-bytes.ensures.1 c.in_err-lines.ensures.lines in
     search rules
@@ -24,19 +25,20 @@ returns-in_err-calm g c =
     let named = c.args.notes.now.wanted.script in
     let old = g.W.Write.contents c.args.writer.now in
     let there = rw c.as_slice.ensures.value at c.in_ok-lines.ensures.lines.0 in
-    let said = says _ _ _ _ _ c.in_ok-bytes.ensures.0 c.in_ok-bytes.ensures.1 there in
+    let said = says _ _ _ _ _ _ c.in_ok-bytes.ensures.0 c.in_ok-bytes.ensures.1 there in
     let on : Campaign = record {
       alloc = c.args.alloc;
       bytes = c.as_slice-2.result;
       script = c.name_or-name.result;
       file = c.name_or-file.result;
       coded = c.as_ref-given.result;
+      limits = c.as_slice-3.result;
       table = opened.table;
       capacity = c.within_limits.result;
       is_strict = how.is_strict;
       format = c.args.planned.plan.now.format;
     } in
-    let is : IsCampaign on opened.coded how.file named how.is_strict opened.table (room_for how.capacity) = record {
+    let is : IsCampaign on opened.coded opened.limits how.file named how.is_strict opened.table (room_for how.capacity) = record {
       coded = c.as_ref-given.ensures.value;
       script = c.name_or-name.ensures;
       file = c.name_or-file.ensures;
@@ -45,7 +47,7 @@ returns-in_err-calm g c =
       room = c.within_limits.ensures.value;
     } in
     let fails =
-    campaign-unplayable c.args.planned.plan.now opened.coded how.file named on how.is_strict opened.cluster opened.table (room_for how.capacity) c.in_err-calm.field-0.0
+    campaign-unplayable c.args.planned.plan.now opened.coded opened.limits how.file named on how.is_strict opened.cluster opened.table (room_for how.capacity) c.in_err-calm.field-0.0
     _ old _ _ c.in_ok-lines.lines.items is said c.in_err-calm.ensures c.in_ok-lines.ensures.lines.1 in
     search rules
 
@@ -56,19 +58,20 @@ returns-then-some_unmet g c =
     let named = c.args.notes.now.wanted.script in
     let old = g.W.Write.contents c.args.writer.now in
     let there = rw c.as_slice.ensures.value at c.in_ok-lines.ensures.lines.0 in
-    let said = says _ _ _ _ _ c.in_ok-bytes.ensures.0 c.in_ok-bytes.ensures.1 there in
+    let said = says _ _ _ _ _ _ c.in_ok-bytes.ensures.0 c.in_ok-bytes.ensures.1 there in
     let on : Campaign = record {
       alloc = c.args.alloc;
       bytes = c.as_slice-2.result;
       script = c.name_or-name.result;
       file = c.name_or-file.result;
       coded = c.as_ref-given.result;
+      limits = c.as_slice-3.result;
       table = opened.table;
       capacity = c.within_limits.result;
       is_strict = how.is_strict;
       format = c.args.planned.plan.now.format;
     } in
-    let is : IsCampaign on opened.coded how.file named how.is_strict opened.table (room_for how.capacity) = record {
+    let is : IsCampaign on opened.coded opened.limits how.file named how.is_strict opened.table (room_for how.capacity) = record {
       coded = c.as_ref-given.ensures.value;
       script = c.name_or-name.ensures;
       file = c.name_or-file.ensures;
@@ -79,8 +82,8 @@ returns-then-some_unmet g c =
     let calm = c.in_ok-calm.calm in
     let mid = g.E.Write.contents c.bench_lines.new.errors in
     let heard = g.E.Write.contents c.judge.new.errors in
-    let unmet = ap some_unmet (sym c.as_slice-3.ensures) ∙ sym c.some_unmet.ensures ∙ c.if-some_unmet.true in
-    campaign-unmet c.args.planned.plan.now opened.coded how.file named on how.is_strict opened.cluster opened.table (room_for how.capacity) calm c.judge.result _ old _ mid heard
+    let unmet = ap some_unmet (sym c.as_slice-4.ensures) ∙ sym c.some_unmet.ensures ∙ c.if-some_unmet.true in
+    campaign-unmet c.args.planned.plan.now opened.coded opened.limits how.file named on how.is_strict opened.cluster opened.table (room_for how.capacity) calm c.judge.result _ old _ mid heard
     c.in_ok-lines.lines.items is said c.in_ok-calm.ensures c.in_ok-lines.ensures.lines.1 unmet
     (subst (λ js. ReportsJudgements c.judge.result (play_fails 0 0 js) (unmet_with_counts named how.is_strict 0 0 calm.core.cluster calm.core.log js) mid heard) c.as_slice-then-some_unmet.ensures c.judge.ensures)
 
@@ -91,7 +94,7 @@ returns g c =
     let named = c.args.notes.now.wanted.script in
     let old = g.W.Write.contents c.args.writer.now in
     let there = rw c.as_slice.ensures.value at c.in_ok-lines.ensures.lines.0 in
-    let said : Says opened.cluster opened.coded (g.R.Read.remaining c.args.reader.now) (Ok c.in_ok-lines.lines.items) = record {
+    let said : Says opened.cluster opened.coded opened.limits (g.R.Read.remaining c.args.reader.now) (Ok c.in_ok-lines.lines.items) = record {
       bytes = c.in_ok-bytes.bytes.items;
       known = c.in_ok-bytes.ensures.0;
       short = c.in_ok-bytes.ensures.1;
@@ -103,12 +106,13 @@ returns g c =
       script = c.name_or-name.result;
       file = c.name_or-file.result;
       coded = c.as_ref-given.result;
+      limits = c.as_slice-3.result;
       table = opened.table;
       capacity = c.within_limits.result;
       is_strict = how.is_strict;
       format = c.args.planned.plan.now.format;
     } in
-    let is : IsCampaign on opened.coded how.file named how.is_strict opened.table (room_for how.capacity) = record {
+    let is : IsCampaign on opened.coded opened.limits how.file named how.is_strict opened.table (room_for how.capacity) = record {
       coded = c.as_ref-given.ensures.value;
       script = c.name_or-name.ensures;
       file = c.name_or-file.ensures;
@@ -119,9 +123,10 @@ returns g c =
     let calm = c.in_ok-calm.calm in
     let ls = c.in_ok-lines.lines.items in
     let all =
-    ap₂ (λ k b. read opened.cluster k b) c.as_ref-given.ensures.value (c.as_slice-2.ensures.value ∙ sym c.as_slice.ensures.value) ∙ c.in_ok-lines.ensures.lines.0 in
-    let met = ap some_unmet (sym c.as_slice-3.ensures) ∙ sym c.some_unmet.ensures ∙ c.if-some_unmet.false in
-    campaign-written c.args.planned.plan.now opened.coded how.file named on how.is_strict opened.cluster opened.table (room_for how.capacity) c.write_campaign.result _ old
+    ap (λ l. read opened.cluster (given_coding c.as_ref-given.result) l c.as_slice-2.result.now) c.as_slice-3.ensures
+    ∙ ap₂ (λ k b. read opened.cluster k opened.limits b) c.as_ref-given.ensures.value (c.as_slice-2.ensures.value ∙ sym c.as_slice.ensures.value) ∙ c.in_ok-lines.ensures.lines.0 in
+    let met = ap some_unmet (sym c.as_slice-4.ensures) ∙ sym c.some_unmet.ensures ∙ c.if-some_unmet.false in
+    campaign-written c.args.planned.plan.now opened.coded opened.limits how.file named on how.is_strict opened.cluster opened.table (room_for how.capacity) c.write_campaign.result _ old
     (g.W.Write.contents c.write_campaign.new.writer) _ _ (g.E.Write.contents c.write_campaign.new.errors) ls said calm.core.cluster (same-cluster on opened.cluster ls calm c.in_ok-calm.ensures) is
     c.as_slice-2.ensures.value c.in_ok-lines.ensures.lines.1
     (c.write_campaign.ensures ls (begun on c.args.planned.plan.now opened.cluster ls calm refl all met c.in_ok-calm.ensures))

@@ -17,4 +17,4 @@ returns c = λ source same h.
     coded_answer c.args.extras c.coded_noted.result source c.args.text.now c.in_ok-description.description c.in_ok-cluster.cluster c.in_ok-checked.checked.cluster
     c.in_ok-description.sections c.in_ok-words.words c.in_ok-warnings.warnings c.in_ok-checked.checked.warnings c.coded_noted.new.notes.warnings same described
     c.in_ok-cluster.ensures.said says words odd c.in_ok-checked.ensures.cluster c.in_ok-checked.ensures.warnings
-    c.coded_noted.ensures.cluster c.coded_noted.ensures.coded c.coded_noted.ensures.warnings c.coded_noted.ensures.memory
+    c.coded_noted.ensures.cluster c.coded_noted.ensures.coded c.coded_noted.ensures.limits c.coded_noted.ensures.warnings c.coded_noted.ensures.memory

@@ -21,4 +21,4 @@ returns-in_ok-checked-in-Ok c =
     described_answer c.args.extras c.args.settled.now c.in-Ok.field-0 c.args.sections (symbols_in c.args.texts.mended.now (start_of c.args.texts.mended.now).tokens)
     c.in_ok-checked-in-Ok.checked.cluster c.in_ok-words-in-Ok.words c.in_ok-warnings-in-Ok.warnings c.in_ok-checked-in-Ok.checked.warnings
     c.coded_noted.result c.coded_noted.new.notes.warnings c.in-Ok.ensures words odd c.in_ok-checked-in-Ok.ensures.cluster c.in_ok-checked-in-Ok.ensures.warnings
-    c.coded_noted.ensures.cluster c.coded_noted.ensures.coded c.coded_noted.ensures.warnings c.coded_noted.ensures.memory
+    c.coded_noted.ensures.cluster c.coded_noted.ensures.coded c.coded_noted.ensures.limits c.coded_noted.ensures.warnings c.coded_noted.ensures.memory

@@ -9,6 +9,6 @@ pub returns : goal.returns
 returns c =
     let left = c.args.left.now in
     let codings = c.in_ok-codings.ensures.read ∙ ap (λ wide. field_codings wide (symbols_in left (start_of left).tokens)) c.as_slice.ensures in
-    checked_answer c.args.is_configured left c.args.settled.now c.in_ok-codings.codings c.in_ok-cluster.cluster c.in_ok-cluster-2.cluster
-    c.with_codings.result c.in_ok-cluster.ensures c.in_ok-cluster-2.ensures.cluster codings c.with_codings.ensures.cluster
-    c.with_codings.ensures.coded c.with_codings.ensures.memory
+    checked_answer c.args.is_configured left c.args.settled.now c.in_ok-codings.codings c.in_ok-limits.limits c.in_ok-cluster.cluster c.in_ok-cluster-2.cluster
+    c.with_codings.result c.in_ok-cluster.ensures c.in_ok-cluster-2.ensures.cluster codings c.in_ok-limits.ensures.read
+    c.with_codings.ensures.cluster c.with_codings.ensures.coded c.with_codings.ensures.limits c.with_codings.ensures.memory

@@ -1,18 +1,14 @@
-use Rattle.std.proofs.Common.{ap}
-use Rattle.lin_bench.proofs.RuledFinish.{rules-add}
+use Rattle.std.proofs.lemmas.Result.{err_from_is_err_and}
+use Rattle.lin_bench.specs.Adding.{finish_of}
+use Rattle.lin_bench.proofs.AddedSteps.{called-after, first-fails}
 use Rattle.lin_bench.proofs.ruled.RuledCore.add.Goals as goal
+
+pub returns-in_err-add_first : goal.returns-in_err-add_first
+returns-in_err-add_first c by past s fin began =
+    let p = err_from_is_err_and c.from_residual.result c.from_residual.ensures.1 in
+    let e = c.in_err-add_first.ensures by past s fin began in
+    rw (p.1, p.2) (first-fails _ c.args.self.now (finish_of c.args.self.now.core past by) past e.0, e.1)
 
 pub returns : goal.returns
 returns c by past s fin began =
-    let core = ap (λ a. a.core) c.self.view_is in
-    let rules = ap (λ a. a.rules) c.self.view_is in
-    rules-add c.args.self.now c.react.new.self c.make_all.new.self by past s c.args.began c.time-time.result c.new-steps.result.items c.give_up.new.steps.items
-    c.tell_errors.new.steps.items c.take_noted.new.steps.items c.repeat.new.steps.items c.take_noted.new.noted c.make_all.result fin
-    (record {
-      core = c.in_ok-react.ensures.core;
-      rules = c.in_ok-react.ensures.rules by past s fin;
-      began_is = began;
-      now_is = rw core at c.time-time.ensures;
-    })
-    c.new-steps.ensures.items c.in_ok-give_up.ensures (c.in_ok-tell_errors.ensures by past s) (rw rules at c.in_ok-take_noted.ensures.steps) (rw rules at c.in_ok-take_noted.ensures.noted) (rw rules at c.in_ok-repeat.ensures)
-    (rw core at c.make_all.ensures.added) (rw rules at c.make_all.ensures.rules)
+    called-after c.args.self.now c.add_first.new.self c.look.new.self (finish_of c.args.self.now.core past by) past c.look.result (c.in_ok-add_first.ensures by past s fin began) c.look.ensures

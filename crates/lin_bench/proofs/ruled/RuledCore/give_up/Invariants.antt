@@ -3,7 +3,7 @@ use Rattle.std.specs.Prelude.{filter}
 use Rattle.lin_frame.specs.Words.{numbers}
 use Rattle.lin_parts.specs.Cluster.{nad}
 use Rattle.lin_core.specs.Core.{past_of}
-use Rattle.lin_bench.specs.Added.{is_given_up, links_at, timeout_step}
+use Rattle.lin_bench.specs.Added.{is_late, links_at, timeout_step}
 use Rattle.lin_bench.proofs.ruled.RuledCore.give_up.Given as goal
 
 abbrev pub invariant-loop-node : goal.invariant-loop-node
@@ -11,5 +11,5 @@ invariant-loop-node l =
     l.steps.items
     ≡ l.fn.steps.items
     ++ map timeout_step
-    (filter (is_given_up l.self.core.cluster (past_of l.self.core) l.ms)
+    (filter (is_late l.self.core.cluster (past_of l.self.core) l.self.rules)
     (flat_map links_at (filter (λ n. is_some (nad l.self.core.cluster n)) (numbers l.node))))

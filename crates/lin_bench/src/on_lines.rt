@@ -1,0 +1,213 @@
+//! The forms of lines of steps that signals and frames call for.
+
+ghost use Rattle.std.specs.Prelude.{◌≡◌, ◌≤◌, ◌&&◌, ◌||◌, ◌∷◌, IfOk, IfSome, length, option_map};
+ghost use Rattle.lin_bench.specs.Fields.{field_texts, line_fields};
+ghost use Rattle.lin_bench.specs.OnLines.{after_do, called_step, ended_form, form_fields, form_of, is_called, may_call};
+ghost use Rattle.lin_bench.specs.OnLines.{off_at, on_do, on_end, on_form, on_step, step_after};
+ghost use Rattle.lin_bench.specs.Read.{Gives};
+ghost use Rattle.lin_bench.specs.declared.fault.LineFault.{LineFault};
+ghost use Rattle.lin_bench.specs.declared.reason.Reason.{Reason};
+
+use crate::expectations::condition;
+use crate::fault::LineFault;
+use crate::fields::{copied_fields, fields};
+use crate::reason::Reason;
+use crate::rule_lines::word_at;
+use crate::rules::{Form, On, Rule, RuleEnd, Watched};
+use lin_core::{PortId, Step};
+use lin_log::{first_field, is_port, port_step, step};
+use lin_parts::Cluster;
+use std::alloc::{AllocError, Global};
+
+/// There is no form of these fields after `on`.
+fn no_form(alloc: Global, all: &[&[u8]]) -> Result<LineFault, AllocError>
+    ensures { IfOk result (λ fault. fault ≡ LineFault.Bad (Reason.UnknownOn (field_texts all.now))) }
+{
+    Ok(LineFault::Bad(Reason::UnknownOn(copied_fields(alloc, all)?)))
+}
+
+/// Whether a word names a condition that a step may wait for: that it holds, or that it doesn't.
+fn may_call(word: &[u8], wanted: bool) -> bool
+    ensures { result ≡ may_call wanted word.now }
+{
+    word == b"signal".as_slice()
+        || word == b"seen".as_slice()
+        || word == b"frame".as_slice()
+        || word == b"slot".as_slice()
+        || wanted && word == b"changed".as_slice()
+}
+
+/// The form of a condition that is to hold, or isn't, by its word and the fields after it; `all` are the
+/// fields of the form, and `line` those of the line.
+fn form_of(
+    alloc: Global,
+    cluster: &Cluster,
+    line: &[u8],
+    all: &[&[u8]],
+    wanted: bool,
+    word: &[u8],
+    parts: &[&[u8]],
+) -> Result<Form, LineFault>
+    ensures { Gives (λ f. f) result
+        (form_of cluster.now (line_fields line.now) (field_texts all.now) wanted word.now
+        (field_texts parts.now)) }
+{
+    if !may_call(word, wanted) {
+        return Err(no_form(alloc, all)?);
+    }
+    match condition(alloc, cluster, line, word, parts) {
+        Ok(Some(what)) => Ok(Form { wanted, what }),
+        Ok(None) => Err(no_form(alloc, all)?),
+        Err(LineFault::Bad(why)) => Err(LineFault::Bad(why.of_on(alloc, all)?)),
+        Err(fault) => Err(fault),
+    }
+}
+
+/// The form that a step waits for, by its fields.
+fn form_fields(
+    alloc: Global,
+    cluster: &Cluster,
+    line: &[u8],
+    all: &[&[u8]],
+) -> Result<Form, LineFault>
+    ensures { Gives (λ f. f) result
+        (form_fields cluster.now (line_fields line.now) (field_texts all.now)) }
+{
+    match all {
+        [] => Err(LineFault::Bad(Reason::OnForm)),
+        [first, word, parts @ ..] if *first == b"not".as_slice() => {
+            form_of(alloc, cluster, line, all, false, *word, parts)
+        }
+        [word, parts @ ..] => form_of(alloc, cluster, line, all, true, *word, parts),
+    }
+}
+
+/// A step that a form may call for.
+fn called_step(by: PortId, step: Step) -> Result<(PortId, Step), LineFault>
+    ensures { Gives (λ s. s) result (called_step (by, step)) }
+{
+    match step {
+        Step::Send { .. } | Step::Write { .. } | Step::Switch { .. } | Step::AskSleep => {
+            Ok((by, step))
+        }
+        _ => Err(LineFault::Bad(Reason::OnStep)),
+    }
+}
+
+/// Whether a word names a step that a form may call for.
+fn is_called(word: &[u8]) -> bool
+    ensures { result ≡ is_called word.now }
+{
+    word == b"send".as_slice()
+        || word == b"write".as_slice()
+        || word == b"switch".as_slice()
+        || word == b"sleep".as_slice()
+}
+
+/// A step that a form calls for, which the bus gives where no port stands before it.
+fn on_step(
+    alloc: Global,
+    cluster: &Cluster,
+    word: &[u8],
+    rest: &[u8],
+) -> Result<(PortId, Step), LineFault>
+    ensures { Gives (λ s. s) result (on_step cluster.now word.now (line_fields rest.now)) }
+{
+    if is_port(word) {
+        let (by, step) = port_step(alloc, cluster, word, rest)?;
+        return called_step(by, step);
+    }
+    if is_called(word) {
+        return Ok((PortId::Bus, step(alloc, cluster, word, rest)?));
+    }
+    Err(LineFault::Bad(Reason::OnStep))
+}
+
+/// The line after its first field `do`; none if there is no such field.
+fn after_do<'a>(cluster: &Cluster, line: &'a [u8]) -> Option<&'a [u8]>
+    ensures { option_map (λ l. line_fields l.now) result ≡ after_do (line_fields line.now) }
+{
+    let mut left = line;
+    while let Some((word, rest)) = first_field(cluster, left) {
+        if word == b"do".as_slice() {
+            return Some(rest);
+        }
+        left = rest;
+    }
+    None
+}
+
+/// The first field after `do`, and the line after it.
+fn step_after<'a>(cluster: &Cluster, line: &'a [u8]) -> Option<(&'a [u8], &'a [u8])>
+    ensures { option_map (λ s. s.0.now ∷ line_fields s.1.now) result ≡ step_after (line_fields line.now) }
+{
+    first_field(cluster, after_do(cluster, line)?)
+}
+
+/// A step that these fields of a form call for; `line` is the line after `on`.
+fn on_do(alloc: Global, cluster: &Cluster, line: &[u8], form: &[&[u8]]) -> Result<Rule, LineFault>
+    ensures { Gives (λ r. r) result (on_do cluster.now (field_texts form.now) (line_fields line.now)) }
+{
+    let Some((word, rest)) = step_after(cluster, line) else {
+        return Err(LineFault::Bad(Reason::OnForm));
+    };
+    let form = form_fields(alloc, cluster, line, form)?;
+    let (by, step) = on_step(alloc, cluster, word, rest)?;
+    Ok(Rule::On(Watched {
+        on: On { form, by, step },
+        held: false,
+    }))
+}
+
+/// The place of `off` at the end.
+pub(crate) fn off_at(all: &[&[u8]]) -> Option<usize>
+    ensures end { result ≡ off_at (field_texts all.now) }
+    ensures within { IfSome result (λ i. i ≤ length all.now) }
+{
+    let [before @ .., last] = all else {
+        return None;
+    };
+    if *last == b"off".as_slice() {
+        Some(before.len())
+    } else {
+        None
+    }
+}
+
+/// The end of the steps that a form with these fields calls for.
+fn ended_form(
+    alloc: Global,
+    cluster: &Cluster,
+    line: &[u8],
+    form: &[&[u8]],
+) -> Result<Rule, LineFault>
+    ensures { Gives (λ r. r) result
+        (ended_form cluster.now (line_fields line.now) (field_texts form.now)) }
+{
+    let form = form_fields(alloc, cluster, line, form)?;
+    Ok(Rule::End(RuleEnd::On(form)))
+}
+
+/// The end of the steps that a form calls for, by its fields and `off`.
+fn on_end(alloc: Global, cluster: &Cluster, line: &[u8], all: &[&[u8]]) -> Result<Rule, LineFault>
+    ensures { Gives (λ r. r) result (on_end cluster.now (line_fields line.now) (field_texts all.now)) }
+{
+    match off_at(all) {
+        None => Err(LineFault::Bad(Reason::OnForm)),
+        Some(0) => Ok(Rule::OnOff),
+        Some(end) => ended_form(alloc, cluster, line, &all[..end]),
+    }
+}
+
+/// What a signal or a frame calls for, by the fields after `on`.
+#[tactic(auto, unfolding(crate::specs::OnLines::on_form))]
+pub(crate) fn on(alloc: Global, cluster: &Cluster, line: &[u8]) -> Result<Rule, LineFault>
+    ensures { Gives (λ r. r) result (on_form cluster.now (line_fields line.now)) }
+{
+    let all = fields(alloc, cluster, line)?;
+    let all = all.as_slice();
+    match word_at(all, b"do".as_slice()) {
+        Some(end) => on_do(alloc, cluster, line, &all[..end]),
+        None => on_end(alloc, cluster, line, all),
+    }
+}
