@@ -27,14 +27,13 @@ use Rattle.lin_bench.specs.declared.reason.Reason.{Reason as ScriptReason}
 use Rattle.lin_values.specs.Coded.{CodedData}
 use Rattle.lin_live.specs.Answers.{AnswersAreTheLog, AnswersAreWritten, KeepsLog, answers, answers_text}
 use Rattle.lin_live.specs.Asked.{◌>>=◌, question}
-use Rattle.lin_live.specs.Heard.{heard_in, of_script}
+use Rattle.lin_live.specs.Heard.{Heard, heard_in, of_script}
 use Rattle.lin_live.specs.Marking.{Marked, back_name, has_first_word, bench_at, mark_name}
 use Rattle.lin_live.specs.declared.question.Question.{Question}
 use Rattle.lin_live.specs.Told.{HandData, answer_text, gone_back, line_answer, heard_as, shown_coding, heard_answer, without_byte_order_mark}
 use Rattle.lin_bench.specs.Strict.{entries_since}
 use Rattle.lin_live.specs.Transcript.{most_bytes, short}
-use Rattle.lin_live.specs.declared.heard.Heard.{Heard}
-use Rattle.lin_live.specs.declared.heard.Heard.TheVariants.{Ask, GoBack, Make, SetMark}
+use Rattle.lin_live.specs.Heard.Heard.{Ask, GoBack, Make, SetMark}
 use Rattle.lin_live.specs.declared.reason.Reason.{Reason}
 
 -- a history that others lead to

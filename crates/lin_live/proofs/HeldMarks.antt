@@ -33,7 +33,7 @@ use Rattle.lin_live.specs.declared.answer_format.AnswerFormat.{AnswerFormat}
 use Rattle.lin_live.specs.declared.fault.Fault.{Fault}
 use Rattle.lin_live.specs.declared.fault.Fault.TheVariants.{LogFull, OutOfMemory, ReadFailed, WriteFailed}
 use Rattle.lin_live.specs.declared.hand.NamedMark.{NamedMark}
-use Rattle.lin_live.specs.declared.heard.Heard.TheVariants.{GoBack, Make, SetMark}
+use Rattle.lin_live.specs.Heard.Heard.{GoBack, Make, SetMark}
 use Rattle.lin_live.specs.declared.question.Question.{Question}
 use Rattle.lin_live.specs.declared.reason.Reason.{Reason}
 use Rattle.lin_live.specs.declared.reason.Reason.TheVariants.{NoMark}

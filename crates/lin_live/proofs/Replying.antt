@@ -11,8 +11,8 @@ use Rattle.lin_live.specs.declared.answer_format.AnswerFormat.{AnswerFormat}
 use Rattle.lin_live.specs.declared.answer_format.AnswerFormat.TheVariants.{Log, Named, Jsonl}
 use Rattle.lin_live.specs.declared.fault.Fault.{Fault}
 use Rattle.lin_live.specs.declared.fault.Fault.TheVariants.{LogFull, OutOfMemory, ReadFailed, WriteFailed}
-use Rattle.lin_live.specs.declared.heard.Heard.{Heard}
-use Rattle.lin_live.specs.declared.heard.Heard.TheVariants.{Ask}
+use Rattle.lin_live.specs.Heard.{Heard}
+use Rattle.lin_live.specs.Heard.Heard.{Ask}
 use Rattle.lin_live.specs.declared.question.Question.{Question}
 use Rattle.lin_live.specs.declared.reason.LineFault.{LineFault}
 use Rattle.lin_live.specs.declared.reason.LineFault.TheVariants.{Bad as BadLine, OutOfMemory as NoMemory}

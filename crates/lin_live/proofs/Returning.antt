@@ -21,12 +21,11 @@ use Rattle.lin_bench.specs.declared.line.ScriptLine.{ScriptLine}
 use Rattle.lin_bench.specs.declared.reason.Reason.{Reason as ScriptReason}
 use Rattle.lin_live.specs.Asked.{◌>>=◌, question}
 use Rattle.lin_live.specs.GoingBack.{BackRestores, GoesBack, MarksStay, SetsMark}
-use Rattle.lin_live.specs.Heard.{heard_in, of_script}
+use Rattle.lin_live.specs.Heard.{Heard, heard_in, of_script}
 use Rattle.lin_live.specs.Marking.{Marked, back_name, bench_at, bench_at_place, is_other, lone_name, mark_name, mark_place, start_name, unless_start, with_mark}
 use Rattle.lin_live.specs.Told.{HandData, gone_back, heard_answer, heard_as, reply, without_byte_order_mark}
 use Rattle.lin_live.specs.Transcript.{short, state_after}
-use Rattle.lin_live.specs.declared.heard.Heard.{Heard}
-use Rattle.lin_live.specs.declared.heard.Heard.TheVariants.{Ask, GoBack, Make, SetMark}
+use Rattle.lin_live.specs.Heard.Heard.{Ask, GoBack, Make, SetMark}
 use Rattle.lin_live.specs.declared.question.Question.{Question}
 use Rattle.lin_live.specs.declared.reason.Reason.{Reason}
 use Rattle.lin_live.specs.declared.reason.Reason.TheVariants.{MarkForm, StartMark}

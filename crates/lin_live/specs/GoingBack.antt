@@ -4,7 +4,7 @@ use Rattle.std.specs.List.{AllByRecursion}
 use Rattle.lin_live.specs.Marking.{mark_place}
 use Rattle.lin_live.specs.Told.{HandData, heard_as, reply}
 use Rattle.lin_live.specs.Transcript.{short, state_after}
-use Rattle.lin_live.specs.declared.heard.Heard.TheVariants.{GoBack, SetMark}
+use Rattle.lin_live.specs.Heard.Heard.{GoBack, SetMark}
 
 -- a line of a session sets the mark with a name, or goes back to it
 abbrev pub SetsMark : HandData → List ℕ → List ℕ → Type 0

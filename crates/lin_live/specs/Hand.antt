@@ -13,7 +13,7 @@ use Rattle.lin_live.specs.Serving.{WritesAnswer}
 use Rattle.lin_live.specs.Told.{HandData, gone_back, heard_answer, written}
 use Rattle.lin_live.specs.declared.answer_format.AnswerFormat.TheVariants.{Log}
 use Rattle.lin_live.specs.declared.fault.Fault.{Fault}
-use Rattle.lin_live.specs.declared.heard.Heard.{Heard}
+use Rattle.lin_live.specs.Heard.{Heard}
 use Rattle.lin_live.specs.declared.reason.Reason.{Reason}
 use Rattle.lin_live.specs.declared.hand.NamedMark.{NamedMark}
 use Rattle.lin_live.specs.declared.hand.Hand.TheInside.{Inside}

@@ -1,4 +1,4 @@
--- What a line says to a bench in hand: a question, or what a line of a bench script does.
+-- What a line says to an interactive session: a question, a mark, or what a line of a bench script does.
 use Rattle.std.specs.Prelude.{ℕ, if◌then◌else◌, List, [], ◌∷◌, Option, Some, None, Result, Ok, Err}
 use Rattle.std.specs.Prelude.{codes}
 use Rattle.std.specs.Str.{bytes_eq}
@@ -9,12 +9,18 @@ use Rattle.lin_bench.specs.Words.{read_worded_line}
 use Rattle.lin_bench.specs.declared.line.ScriptLine.{ScriptLine}
 use Rattle.lin_bench.specs.declared.reason.Reason.{Reason as ScriptReason}
 use Rattle.lin_bench.specs.declared.rules.NodeLimits.{NodeLimits}
-use Rattle.lin_live.specs.Asked.{◌>>=◌, IsAskable, question}
+use Rattle.lin_live.specs.Asked.{◌>>=◌, question}
 use Rattle.lin_live.specs.Marking.{back_name, mark_name}
-use Rattle.lin_live.specs.declared.heard.Heard.{Heard}
-use Rattle.lin_live.specs.declared.heard.Heard.TheVariants.{Ask, GoBack, Make, SetMark}
+use Rattle.lin_live.specs.declared.question.Question.{Question}
 use Rattle.lin_live.specs.declared.reason.Reason.{Reason}
 use Rattle.lin_live.specs.declared.reason.Reason.TheVariants.{Script}
+
+-- a question, a mark that is set or gone back to, by its name, or a line of a bench script
+pub data Heard : Type 0 where
+  Ask : (asked : Question) → Heard
+  SetMark : (name : List ℕ) → Heard
+  GoBack : (name : List ℕ) → Heard
+  Make : (line : ScriptLine) → Heard
 
 abbrev pub of_script : Result (Option ScriptLine) ScriptReason → Result (Option Heard) Reason
 of_script (Ok None) = Ok None
@@ -45,8 +51,3 @@ heard_in c k limits line (word ∷ fs) =
 -- what a line says, nothing where it has no field or begins with `>`
 abbrev pub line_heard : Parts → Option CodedData → List NodeLimits → List ℕ → Result (Option Heard) Reason
 line_heard c k limits line = heard_in c k limits line (line_fields line)
-
--- a question is for what is there
-abbrev pub IsHeard : Parts → Heard → Type 0
-IsHeard c (Ask asked) = IsAskable c asked
-IsHeard c line = Unit {0}

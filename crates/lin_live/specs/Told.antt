@@ -27,13 +27,12 @@ use Rattle.lin_bench.specs.declared.rules.NodeLimits.{NodeLimits}
 use Rattle.lin_bench.specs.declared.got.Verdict.{Verdict}
 use Rattle.lin_bench.specs.declared.got.Verdict.TheVariants.{Unmet, SlotLimit}
 use Rattle.lin_bench.specs.declared.line.ScriptLine.{ScriptLine}
-use Rattle.lin_live.specs.Heard.{line_heard}
+use Rattle.lin_live.specs.Heard.{Heard, line_heard}
 use Rattle.lin_live.specs.Marking.{Marked, bench_at, with_mark}
 use Rattle.lin_live.specs.Values.{SaidValue, value_said, said_members, said_words}
 use Rattle.lin_live.specs.declared.answer_format.AnswerFormat.{AnswerFormat}
 use Rattle.lin_live.specs.declared.answer_format.AnswerFormat.TheVariants.{Log, Named, Jsonl}
-use Rattle.lin_live.specs.declared.heard.Heard.{Heard}
-use Rattle.lin_live.specs.declared.heard.Heard.TheVariants.{Ask, GoBack, Make, SetMark}
+use Rattle.lin_live.specs.Heard.Heard.{Ask, GoBack, Make, SetMark}
 use Rattle.lin_live.specs.declared.question.Question.{Question}
 use Rattle.lin_live.specs.declared.reason.Reason.{Reason}
 use Rattle.lin_live.specs.declared.reason.Reason.TheVariants.{Script, AskForm, UnknownQuestion}

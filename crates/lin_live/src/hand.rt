@@ -8,14 +8,13 @@ ghost use Rattle.lin_bench.specs.Fields.{line_fields};
 ghost use Rattle.lin_bench.specs.Words.{read_worded_line};
 ghost use Rattle.lin_live.specs.Asked.{Fails, IsAskable};
 ghost use Rattle.lin_live.specs.Hand.{AnswersSaid, gone_to, other_marks, with_named};
-ghost use Rattle.lin_live.specs.Heard.{back_heard, line_heard, mark_heard, of_script, question_heard};
+ghost use Rattle.lin_live.specs.Heard.{Heard, back_heard, line_heard, mark_heard, of_script, question_heard};
 ghost use Rattle.lin_live.specs.Held.{new_hand};
 ghost use Rattle.lin_live.specs.Marking.{mark_place, with_mark};
 ghost use Rattle.lin_live.specs.Serving.{WritesAnswer};
 ghost use Rattle.lin_live.specs.Told.{Fine, HandData, Is, IsFull, IsFullFor, asked_value, bad_reply, ending_text};
 ghost use Rattle.lin_live.specs.Told.{heard_reply, reply, without_byte_order_mark};
-ghost use Rattle.lin_live.specs.declared.heard.Heard.{Heard};
-ghost use Rattle.lin_live.specs.declared.heard.Heard.TheVariants.{GoBack, Make, SetMark};
+ghost use Rattle.lin_live.specs.Heard.Heard.{GoBack, Make, SetMark};
 ghost use Rattle.lin_live.specs.declared.reason.Reason.{Reason};
 ghost use Rattle.lin_live.specs.declared.reason.Reason.TheVariants.{TooLong};
 

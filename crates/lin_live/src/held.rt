@@ -15,7 +15,7 @@ ghost use Rattle.lin_live.specs.Told.{heard_reply, is_limit, is_unmet_verdict};
 ghost use Rattle.lin_live.specs.Told.{verdict_with_meaning, without_byte_order_mark};
 ghost use Rattle.lin_live.specs.Values.{IsBoxedKeptOf, KeepsLastSlot, as_said};
 ghost use Rattle.lin_live.specs.declared.answer_format.AnswerFormat.TheVariants.{Jsonl, Named};
-ghost use Rattle.lin_live.specs.declared.heard.Heard.TheVariants.{Make};
+ghost use Rattle.lin_live.specs.Heard.Heard.{Make};
 
 use crate::answer_format::AnswerFormat;
 use crate::answer_objects::{
@@ -215,13 +215,8 @@ impl HeldBench {
         ensures { ReadsLine (λ l. l) result (read_worded_line
             self.now.cluster self.now.coded self.now.limits line.now) }
     {
-        read_worded_line(
-            alloc,
-            self.cluster(),
-            self.coded.as_ref(),
-            self.limits.as_slice(),
-            line,
-        )
+        let coded = self.coded.as_ref();
+        read_worded_line(alloc, self.cluster(), coded, self.limits.as_slice(), line)
     }
 
     /// Returns a mark of the bench as it is. An error means out of memory.

@@ -17,7 +17,6 @@ mod begun;
 mod check_texts;
 mod fault;
 mod hand;
-mod heard;
 mod held;
 mod law;
 mod marking;
@@ -31,7 +30,6 @@ pub use answering::Answering;
 pub use check_texts::{found_text, what_text, without_space};
 pub use fault::Fault;
 pub use hand::Hand;
-pub use heard::{Heard, hear};
 pub use law::{
     answers_tell_the_log, back_restores, live_is_play, pieces_come_back, transcripts_split,
 };

@@ -39,8 +39,8 @@ use Rattle.lin_live.specs.Told.{Ending, HandData, entries_text, gone_back, heard
 use Rattle.lin_live.specs.Transcript.{state_after, most_bytes, short, transcript}
 use Rattle.lin_live.specs.declared.answer_format.AnswerFormat.{AnswerFormat}
 use Rattle.lin_live.specs.declared.answer_format.AnswerFormat.TheVariants.{Log, Named, Jsonl}
-use Rattle.lin_live.specs.declared.heard.Heard.{Heard}
-use Rattle.lin_live.specs.declared.heard.Heard.TheVariants.{Ask, GoBack, Make, SetMark}
+use Rattle.lin_live.specs.Heard.{Heard}
+use Rattle.lin_live.specs.Heard.Heard.{Ask, GoBack, Make, SetMark}
 use Rattle.lin_live.specs.Answers.{KeepsLog}
 use Rattle.lin_live.specs.Marking.{Marked, bench_at}
 use Rattle.lin_live.specs.declared.reason.Reason.{Reason}

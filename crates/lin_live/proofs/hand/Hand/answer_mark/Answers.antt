@@ -2,7 +2,7 @@ use Rattle.std.proofs.Common.{Ok, Some}
 use Rattle.lin_bench.specs.Fields.{line_fields}
 use Rattle.lin_live.specs.Heard.{mark_heard}
 use Rattle.lin_live.specs.Marking.{mark_name}
-use Rattle.lin_live.specs.declared.heard.Heard.TheVariants.{SetMark}
+use Rattle.lin_live.specs.Heard.Heard.{SetMark}
 use Rattle.lin_live.proofs.Replying.{fails-more}
 use Rattle.lin_live.proofs.hand.Hand.answer_mark.Goals as goal
 

@@ -2,7 +2,7 @@ use Rattle.std.proofs.Common.{◌≡◌, ◌∙◌, Ok, Some, ap, subst}
 use Rattle.lin_bench.specs.Fields.{line_fields}
 use Rattle.lin_live.specs.Asked.{◌>>=◌, IsAskable, question}
 use Rattle.lin_live.specs.Heard.{question_heard}
-use Rattle.lin_live.specs.declared.heard.Heard.TheVariants.{Ask}
+use Rattle.lin_live.specs.Heard.Heard.{Ask}
 use Rattle.lin_text.proofs.Adding.{appends-nothing}
 use Rattle.lin_live.proofs.HeldMarks.{held-cluster}
 use Rattle.lin_live.proofs.Replying.{answers-so, says-question}

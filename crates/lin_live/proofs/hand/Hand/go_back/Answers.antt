@@ -3,7 +3,7 @@ use Rattle.std.specs.Str.{bytes_eq}
 use Rattle.std.proofs.lemmas.Result.{err_from_is_err_and}
 use Rattle.lin_live.specs.Marking.{mark_place, start_name}
 use Rattle.lin_live.specs.Told.{heard_reply}
-use Rattle.lin_live.specs.declared.heard.Heard.TheVariants.{GoBack}
+use Rattle.lin_live.specs.Heard.Heard.{GoBack}
 use Rattle.lin_live.proofs.HeldMarks.{gone-mark, gone-none, gone-start}
 use Rattle.lin_live.proofs.LinesTold.{no-memory}
 use Rattle.lin_live.proofs.hand.Hand.go_back.Goals as goal

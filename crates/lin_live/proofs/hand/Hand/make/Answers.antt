@@ -2,7 +2,7 @@ use Rattle.std.proofs.Common.{◌∙◌, Err, ap, refl}
 use Rattle.std.proofs.lemmas.Result.{err_from_is_err_and}
 use Rattle.lin_text.proofs.Adding.{appends-nothing}
 use Rattle.lin_live.specs.Told.{IsFullFor, heard_reply}
-use Rattle.lin_live.specs.declared.heard.Heard.TheVariants.{Make}
+use Rattle.lin_live.specs.Heard.Heard.{Make}
 use Rattle.lin_live.proofs.HeldMarks.{failed-so, made-by, made-its}
 use Rattle.lin_live.proofs.hand.Hand.make.Goals as goal
 

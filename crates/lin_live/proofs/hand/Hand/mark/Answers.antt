@@ -1,7 +1,7 @@
 use Rattle.std.proofs.Common.{◌∙◌, Err, ap}
 use Rattle.std.proofs.lemmas.Result.{err_from_is_err_and}
 use Rattle.lin_live.specs.Told.{heard_reply}
-use Rattle.lin_live.specs.declared.heard.Heard.TheVariants.{SetMark}
+use Rattle.lin_live.specs.Heard.Heard.{SetMark}
 use Rattle.lin_live.proofs.HeldMarks.{set-so}
 use Rattle.lin_live.proofs.LinesTold.{no-memory}
 use Rattle.lin_live.proofs.hand.Hand.mark.Goals as goal
