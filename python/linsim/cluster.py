@@ -343,6 +343,8 @@ class Cluster:
         see these bytes; the nodes of `leave`, which must be due, leave their responses out. If no
         response is left to damage, the refusal stands in the `Run`. Refused (Asleep, SlotOpen)
         where it can't be opened."""
+        if isinstance(leave, str):
+            raise TypeError(f"leave takes a list of nodes, not {leave!r}")
         left = [self.known("node", node) for node in leave]
         damage = None if hurt is None else as_bytes(hurt)
         self._refuse_in_bench()

@@ -80,7 +80,7 @@ class Backend(unittest.TestCase):
         path = os.path.abspath(os.environ["LINSIM"])
         with open(path, "rb") as file:
             if file.read(4) != b"\x7fELF":
-                self.skipTest("LINSIM is no program of its own")
+                self.skipTest("LINSIM is a script that starts the program")
         return path
 
     def test_wheel_with_the_program(self):

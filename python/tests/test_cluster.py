@@ -181,6 +181,8 @@ class Slots(unittest.TestCase):
     def test_responses_left_out(self):
         with cluster("Regul") as bus:
             self.assertEqual(bus.slot(leave=["BCM"]).seen, "none")
+            with self.assertRaisesRegex(TypeError, "^leave takes a list of nodes, not 'BCM'$"):
+                bus.slot(leave="BCM")
             self.assertEqual(bus.slot(hurt="0102").hurt, b"\1\2")
             with self.assertRaisesRegex(linsim.LinsimError, "^Heater isn't due"):
                 bus.slot(leave=["BCM", "Heater"])
