@@ -124,8 +124,8 @@ fn campaign<'a>(alloc: Global) -> Result<Command<'a>, AllocError> {
         .arg(fault_kinds(alloc))?
         .arg(pairs(alloc))?
         .arg(random(alloc))?
-        .arg(seed(alloc))?
-        .arg(rate(alloc))?
+        .arg(seed(alloc)?)?
+        .arg(rate(alloc)?)?
         .arg(part(alloc))?
         .arg(denied_results(alloc))?
         .arg(table(alloc))?

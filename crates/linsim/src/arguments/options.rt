@@ -294,22 +294,24 @@ pub(crate) fn random<'a>(alloc: Global) -> Arg<'a> {
         .help("Also play N random sets of the single faults, 1 to 1000000000")
 }
 
-pub(crate) fn seed<'a>(alloc: Global) -> Arg<'a> {
+pub(crate) fn seed<'a>(alloc: Global) -> Result<Arg<'a>, AllocError> {
     Arg::new(alloc, "seed")
         .long("seed")
         .value_name("S")
         .value_parser(value_parser!(u64))
         .default_value("1")
         .help("Seed of the random sets, 64 bits")
+        .requires_arg("random")
 }
 
-pub(crate) fn rate<'a>(alloc: Global) -> Arg<'a> {
+pub(crate) fn rate<'a>(alloc: Global) -> Result<Arg<'a>, AllocError> {
     Arg::new(alloc, "rate")
         .long("rate")
         .value_name("R")
         .value_parser(value_parser!(u16).range(1..=1000))
         .default_value("20")
         .help("How many of 1000 single faults are in a random set, 1 to 1000")
+        .requires_arg("random")
 }
 
 pub(crate) fn part<'a>(alloc: Global) -> Arg<'a> {
