@@ -19,7 +19,7 @@ use lin_log::{first_field, is_port, port_step, step};
 use lin_parts::Cluster;
 use std::alloc::{AllocError, Global};
 
-/// There is no form of these fields after `on`.
+/// The fault of a line of `on` that is none of its forms.
 fn no_form(alloc: Global, all: &[&[u8]]) -> Result<LineFault, AllocError>
     ensures { IfOk result (λ fault. fault ≡ LineFault.Bad (Reason.UnknownOn (field_texts all.now))) }
 {
@@ -104,7 +104,7 @@ fn is_called(word: &[u8]) -> bool
         || word == b"sleep".as_slice()
 }
 
-/// A step that a form calls for, which the bus gives where no port stands before it.
+/// The step of a reaction. Without a port before it, its port is `bus`.
 fn on_step(
     alloc: Global,
     cluster: &Cluster,

@@ -66,7 +66,7 @@ fn equals_place(form: &[&[u8]]) -> Option<usize>
 }
 
 /// The parts of a form with a `=` in this place, if the fields before it are those of `on`, and the fields
-/// behind the form.
+/// after the form.
 fn marked_at<'a>(form: &'a [&'a [u8]], behind: &'a [&'a [u8]], at: usize) -> Option<WordedOn<'a>>
     requires some { 0 < at }
     requires within { at < length form.now }
@@ -84,7 +84,7 @@ fn marked_at<'a>(form: &'a [&'a [u8]], behind: &'a [&'a [u8]], at: usize) -> Opt
     })
 }
 
-/// The parts of a form with words, if it is one, and the fields behind it.
+/// The parts of a form with words, if it is one, and the fields after it.
 fn marked_form<'a>(form: &'a [&'a [u8]], behind: &'a [&'a [u8]]) -> Option<WordedOn<'a>>
     ensures { option_map on_line_of result ≡ marked_form (field_texts form.now) (field_texts behind.now) }
 {
