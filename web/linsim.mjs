@@ -1,12 +1,12 @@
 #!/usr/bin/env node
 // linsim as a program of Node.js 18 or later: node linsim.mjs ARGS. linsim.wasm has to be in the same folder.
 //
-// It reads files and standard input, writes what the native program writes, and ends with the same exit status. A
+// It reads and writes the files and streams of the native program, and ends with the same exit status. A
 // WebAssembly module has no threads, so `run` ends with `no thread` and status 5.
 import fs from 'node:fs';
 import tty from 'node:tty';
 
-const NO_ARGUMENT = -1, TOO_LONG = -2, NO_SEEK = -29n, NO_THREAD_STATUS = 5, TRAPPED = 132;
+const NO_ARGUMENT = -1, TOO_LONG = -2, NO_SEEK = -29n, TO_WRITE = 1, NO_THREAD_STATUS = 5, TRAPPED = 132;
 const given = ['linsim', ...process.argv.slice(2)], words = given.map(word => Buffer.from(word));
 let memory;
 const bytes = (at, length) => new Uint8Array(memory.buffer, Number(at), length);
@@ -36,7 +36,7 @@ const host = {
 		bytes(to, word.length).set(word);
 		return word.length;
 	},
-	open: (at, length) => call(() => fs.openSync(Buffer.from(bytes(at, length)), 'r')),
+	open: (at, length, how) => call(() => fs.openSync(Buffer.from(bytes(at, length)), how & TO_WRITE ? 'w' : 'r')),
 	close: file => call(() => { fs.closeSync(file); return 0; }),
 	read: (file, to, room) => call(() => fs.readSync(file, bytes(to, room))),
 	write: (file, from, length) => call(() => fs.writeSync(file, bytes(from, length))),

@@ -73,6 +73,8 @@ fn open<R: AllocGlobal + Env + Files>(rt: &R) -> Result<(), Fault> {
             request: Request::Live(settings),
             wanted,
             levels: _levels,
+            given: _given,
+            scripts: _scripts,
         })) => {
             let mut notes = Notes::new(alloc, wanted);
             let hand = bench_of(rt, &settings, &mut notes)?;

@@ -122,6 +122,16 @@ function clusterOf(out) {
 	return to;
 }
 
+// The first lines of a script, with the ends of the blocks that are open after them.
+function firstLines(lines, count) {
+	const first = lines.slice(0, count), has = word => first.filter(it => it.split(/[ \t\r]+/).find(Boolean) === word).length;
+	return first.map(it => `${it}\n`).join('') + 'end\n'.repeat(Math.max(0, has('repeat') - has('end')));
+}
+// A script with `forget` in place of `test`, which does the same: its report has each check by its line. None without tests.
+function withoutTests(text) {
+	const found = text.replace(/^([ \t]*)test[ \t].*$/gm, '$1forget');
+	return found === text ? null : found;
+}
 // The judgements of a report (--to junit): the line of each, and whether it is met.
 function judgements(report) {
 	return [...report.matchAll(/<testcase [^>]*name="line (\d+): [^"]*"(\/?)>/g)].map(([, line, end]) => ({line: Number(line), isMet: end === '/'}));

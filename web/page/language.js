@@ -5,14 +5,14 @@ const LDF_WORDS = new Set(`LIN_description_file LIN_protocol_version LIN_languag
 	configurable_frames Schedule_tables delay Signal_encoding_types Signal_representation logical_value physical_value
 	bcd_value ascii_value kbps ms`.split(/\s+/));
 const STEP_WORDS = `slots slot write expect send switch sleep wake when every on timeouts response_errors services state node forget
-	open finish answer leave hurt close timeout`.split(/\s+/);
+	test set repeat end open finish answer leave hurt close timeout`.split(/\s+/);
 const FORM_WORDS = 'signal message messages next frame seen sent lost no waiting slot table cycle asleep awake not changed done refused'.split(' ');
 const ON_WORDS = 'signal changed frame seen slot not'.split(' ');
 const NOT_WORDS = 'signal waiting messages seen frame slot changed'.split(' ');
 const CALLED_WORDS = 'send write switch sleep'.split(' ');
 const SEEN_WORDS = 'good none silent damaged collided'.split(' '), CAUSE_WORDS = 'damaged timedout slept'.split(' ');
 const BENCH_WORDS = new Set([...STEP_WORDS, ...FORM_WORDS, ...SEEN_WORDS, ...CAUSE_WORDS,
-	...'until while idle ms within of last silent then after in enter do ldf off up down bus'.split(' ')]);
+	...'until while idle ms within of last silent then after in enter do ldf off up down bus include'.split(' ')]);
 
 // The colored parts of a line of an LDF, as [from, to, class]; `isOpen` if a comment is open at its start.
 function ldfParts(line, isOpen) {
@@ -128,6 +128,7 @@ function stepWords(words, names) {
 	case 'node': return count === 1 ? names('nodes').slice(1) : ['off', 'on'];
 	case 'state': return count === 1 ? names('nodes').slice(1) : ['default'];
 	case 'response_errors': case 'services': return ['on', 'off'];
+	case 'test': case 'set': case 'repeat': case 'end': case 'include': return [];
 	case 'send': case 'answer': case 'leave': case 'close': case 'timeout': return count < 3 ? names('nodes') : [];
 	default: return [...STEP_WORDS, ...signals];
 	}

@@ -85,22 +85,31 @@ async function judged(isCurrent) {
 	return played(found, isCurrent);
 }
 async function played(found, isCurrent) {
-	let it = await run(playWords('junit'), found.given);
-	if (it.stopped || !isCurrent()) return null;
-	found.ms += it.ms;
-	const marks = benchMarks(decoded(it.err || new Uint8Array()), fileName('bench'), editors.bench.lines), [bad] = marks.filter(mark => mark.head.startsWith('bad line'));
-	if (bad) {                                                     // played up to the first bad line
-		found.upTo = bad.line;
-		const text = editors.bench.lines.slice(0, bad.line - 1).map(line => `${line}\n`).join('');
-		found.given = {...found.given, [fileName('bench')]: bytesOf('bench', text)};
-		it = await run(playWords('junit'), found.given);
-		if (it.stopped || !isCurrent()) return null;
-		found.ms += it.ms;
-		marks.push(...benchMarks(decoded(it.err || new Uint8Array()), fileName('bench'), editors.bench.lines).filter(mark => mark.kind === 'missed'));
+	const name = fileName('bench'), {lines} = editors.bench, marksOf = it => benchMarks(decoded(it.err || new Uint8Array()), name, lines);
+	const report = async given => {
+		const it = await run(playWords('junit'), given);
+		found.ms += it.ms || 0;
+		return it.stopped || !isCurrent() ? null : it;
+	};
+	let it = await report(found.given), text = editors.bench.value;
+	if (!it) return null;
+	const marks = marksOf(it), bad = marks.filter(mark => mark.head.startsWith('bad line')).map(mark => mark.line);
+	if (bad.length) {                                              // played up to the first bad line
+		found.upTo = Math.min(...bad);
+		text = firstLines(lines, found.upTo - 1);
+		found.given = {...found.given, [name]: bytesOf('bench', text)};
+		it = await report(found.given);
+		if (!it) return null;
+		marks.push(...marksOf(it).filter(mark => mark.kind === 'missed'));
 		marks.sort((a, b) => a.line - b.line);
 	}
 	found.plays = it.status === 0 || it.status === 6;
 	if (!found.plays && !marks.length) marks.push(whole(it.failed || firstLine(it.err)));
+	const untested = found.plays && withoutTests(text);
+	if (untested) {
+		it = await report({...found.given, [name]: bytesOf('bench', untested)});
+		if (!it) return null;
+	}
 	found.judgements = found.plays ? judgements(decoded(it.out)) : [];
 	for (const {line, isMet} of found.judgements) if (isMet && !found.icons.has(line)) found.icons.set(line, 'met');
 	for (const mark of marks) found.icons.set(mark.line, mark.kind);
@@ -123,8 +132,8 @@ function summarize({ldf, bench: marks, isCluster, judgements: judged = [], upTo,
 	const parts = [];
 	if (errors) parts.push(['bad', `${plural(errors, 'error')} in the LDF`]);
 	else if (bad) parts.push(['bad', `${plural(bad, 'bad line')}${upTo > 1 ? `; played up to line ${upTo}` : ''}`]);
-	else if (missed) parts.push(['bad', `${judged.length - met} of ${plural(judged.length, 'expectation')} failed`]);
-	else if (isCluster) parts.push(['good', judged.length ? `${met} of ${plural(judged.length, 'expectation')} met` : 'played']);
+	else if (missed) parts.push(['bad', `${missed} of ${plural(met + missed, 'expectation')} failed`]);
+	else if (isCluster) parts.push(['good', met ? `${met} of ${plural(met, 'expectation')} met` : 'played']);
 	if (warnings && !errors) parts.push(['warn', plural(warnings, 'warning')]);
 	tell(parts, ms);
 }
@@ -237,7 +246,7 @@ function showSlot(slot) {
 // Shows the last slot that is made before the end of a line of the script.
 async function showSlotOf(line) {
 	if (!lastRun.plays) return;
-	const text = editors.bench.lines.slice(0, line).map(it => `${it}\n`).join('');
+	const text = firstLines(editors.bench.lines, line);
 	const {out} = await run(playWords('log'), {...lastRun.given, [fileName('bench')]: bytesOf('bench', text)});
 	const slots = out ? (decoded(out).match(/^bus finish$/gm) || []).length : 0;
 	if (slots) showSlot(slots - 1);

@@ -442,6 +442,7 @@ step-line c o cap b fs steps what before =
 pub alike-before : IsAlikeBefore
 unfolding made steps_said
 alike-before c o cap b line.Forget fs h = refl
+alike-before c o cap b (line.Test name) fs h = refl
 alike-before c o cap b (line.Rule r) fs h =
     ap (λ (rules : Rules). (record b { rules = rules }, rule_verdict (record b.rules { faults = fs }) r)) (ruled-under (time c b.past) b.rules fs (begun_rule c b.past r))
     ∙ ap (λ (v : Verdict). (record b { rules = record (ruled (time c b.past) (record b.rules { faults = [] }) (begun_rule c b.past r)) { faults = fs } }, v)) (verdict-under b.rules fs r)

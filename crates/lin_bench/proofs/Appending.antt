@@ -5,9 +5,10 @@ use Rattle.lin_log.proofs.CallerTexts.{all-after}
 use Rattle.lin_bench.specs.Fields.{◌>>=◌}
 use Rattle.lin_bench.specs.Scripts.{Script, with_line}
 use Rattle.lin_bench.specs.declared.line.ScriptLine.{ScriptLine}
+use Rattle.lin_bench.specs.declared.place.LinePlace.{LinePlace}
 use Rattle.lin_bench.specs.declared.reason.Reason.{Reason}
 
-abbrev pub appended : List (ℕ × ScriptLine) → Script → Script
+abbrev pub appended : List (LinePlace × ScriptLine) → Script → Script
 appended xs (Ok ys) = Ok (xs ++ ys)
 appended xs (Err bad) = Err bad
 
@@ -15,7 +16,7 @@ pub appended-nothing : (r : Script) → appended [] r ≡ r
 appended-nothing (Ok ys) = refl
 appended-nothing (Err bad) = refl
 
-pub appended-more : (xs : List (ℕ × ScriptLine)) (x : ℕ × ScriptLine) (r : Script) → appended (xs ++ x ∷ []) r ≡ appended xs (with_line x r)
+pub appended-more : (xs : List (LinePlace × ScriptLine)) (x : LinePlace × ScriptLine) (r : Script) → appended (xs ++ x ∷ []) r ≡ appended xs (with_line x r)
 appended-more xs x (Ok ys) = ap Ok (append_assoc xs (x ∷ []) ys)
 appended-more xs x (Err bad) = refl
 

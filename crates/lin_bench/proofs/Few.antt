@@ -32,6 +32,7 @@ use Rattle.lin_bench.specs.declared.line.Disturbance.TheVariants as slot
 use Rattle.lin_bench.specs.declared.expected.Expected.{Expected}
 use Rattle.lin_bench.specs.declared.line.Extent.{Extent}
 use Rattle.lin_bench.specs.declared.line.ScriptLine.{ScriptLine}
+use Rattle.lin_bench.specs.declared.place.LinePlace.{LinePlace}
 use Rattle.lin_bench.specs.declared.line.ScriptLine.TheVariants as line
 use Rattle.lin_bench.specs.declared.got.Verdict.{Verdict}
 use Rattle.lin_bench.specs.declared.rules.Rules.{Rules}
@@ -158,6 +159,7 @@ said-few c o cap limit b (line.Until s what) few = slots-few c o cap (slot.Leave
 said-few c o cap limit b (line.While s what) few = slots-few c o cap (slot.Leave s.leave) _ _ (course_of b) few
 said-few c o cap limit b (line.Expect what) few = omega arith
 said-few c o cap limit b line.Forget few = omega arith
+said-few c o cap limit b (line.Test name) few = omega arith
 said-few c o cap limit b (line.Rule rule) few = omega arith
 
 first-few : (c : Parts) (o cap n : ℕ) (b : BenchState) (l : ScriptLine) → slots_made l (steps_said c o cap (λ e. n) b l) ≤ n
@@ -169,6 +171,7 @@ first-few c o cap n b (line.Until s what) = slots-at-most c o cap (slot.Leave s.
 first-few c o cap n b (line.While s what) = slots-at-most c o cap (slot.Leave s.leave) _ n (course_of b)
 first-few c o cap n b (line.Expect what) = omega arith
 first-few c o cap n b line.Forget = omega arith
+first-few c o cap n b (line.Test name) = omega arith
 first-few c o cap n b (line.Rule rule) = omega arith
 
 -- what a log and the slots that are left may still come to
@@ -238,6 +241,7 @@ made-few : (c : Parts) (o cap : ℕ) (b : BenchState) (l : ScriptLine) → IsSma
     → IsFew (made c o cap b l).0 (still_to_come b + 2)
 unfolding made
 made-few c o cap b line.Forget few none h = record { rules = none; few = omega arith }
+made-few c o cap b (line.Test name) few none h = record { rules = none; few = omega arith }
 made-few c o cap b (line.Step by step) few none h = steps-few c o cap b (line.Step by step) few none
 made-few c o cap b (line.Slot how) few none h = steps-few c o cap b (line.Slot how) few none
 made-few c o cap b (line.Slots s) few none h = steps-few c o cap b (line.Slots s) few none
@@ -251,10 +255,10 @@ neither : (a b : Bool) → (a || b) ≡ false → (a ≡ false) × (b ≡ false)
 neither true b h = absurd (cc)
 neither false b h = (refl, h)
 
-told-few : (n m : ℕ) (b end : BenchState) (v : Verdict) → line_result n b v ≡ Ok end → IsFew b m → IsFew end m
+told-few : (n : LinePlace) (m : ℕ) (b end : BenchState) (v : Verdict) → line_result n b v ≡ Ok end → IsFew b m → IsFew end m
 told-few n m b end v e h = subst (λ (x : BenchState). IsFew x m) (told-bench n b end v e) h
 
-turn-few-by : (c : Parts) (o cap : ℕ) (b end : BenchState) (m : ℕ) (l : ℕ × ScriptLine) (ls : List (ℕ × ScriptLine)) (r : Result BenchState ℕ)
+turn-few-by : (c : Parts) (o cap : ℕ) (b end : BenchState) (m : ℕ) (l : LinePlace × ScriptLine) (ls : List (LinePlace × ScriptLine)) (r : Result BenchState LinePlace)
     → ((mid : BenchState) → IsFew mid m → in_turn c o cap (Ok mid) ls ≡ Ok end → IsFew end (m + 2 * length ls))
     → IsFew (made c o cap b l.1).0 m → next c o cap b l ≡ r → in_turn c o cap r ls ≡ Ok end → IsFew end (m + 2 * length ls)
 turn-few-by c o cap b end m l ls (Ok mid) more h is e =
@@ -264,7 +268,7 @@ turn-few-by c o cap b end m l ls (Err n) more h is e = let no : Err n ≡ Ok end
 more-few : (b : BenchState) (m n : ℕ) → IsFew b m → m ≤ n → IsFew b n
 more-few b m n h le = record { rules = h.rules; few = omega (arith, h.few, le) }
 
-turns-few : (c : Parts) (o cap : ℕ) (b end : BenchState) (m : ℕ) (ls : List (ℕ × ScriptLine)) → IsSmall c → has_rule ls ≡ false → IsFew b m
+turns-few : (c : Parts) (o cap : ℕ) (b end : BenchState) (m : ℕ) (ls : List (LinePlace × ScriptLine)) → IsSmall c → has_rule ls ≡ false → IsFew b m
     → in_turn c o cap (Ok b) ls ≡ Ok end → IsFew end (m + 2 * length ls)
 turns-few c o cap b end m [] few none h e =
     let same : b ≡ end = cc in
@@ -276,11 +280,11 @@ turns-few c o cap b end m (l ∷ ls) few none h e =
     more-few end (m + 2 + 2 * length ls) (m + 2 * length (l ∷ ls)) all (omega arith)
 
 -- lines without a rule never fill a log
-never-full : (c : Parts) (o cap : ℕ) (fs : List SlotFault) (ls : List (ℕ × ScriptLine)) → IsSmall c → length ls ≤ 16777217 → has_rule ls ≡ false → OverfillsUnder c o cap fs ls → ⊥
+never-full : (c : Parts) (o cap : ℕ) (fs : List SlotFault) (ls : List (LinePlace × ScriptLine)) → IsSmall c → length ls ≤ 17777217 → has_rule ls ≡ false → OverfillsUnder c o cap fs ls → ⊥
 never-full c o cap fs ls few short none f =
     let parts =
     neither (has_rule f.before) (has_rule (f.line ∷ f.behind))
-    (sym (list_any-append (λ (l : ℕ × ScriptLine). is_rule l.1) f.before (f.line ∷ f.behind)) ∙ ap has_rule (sym f.all) ∙ none) in
+    (sym (list_any-append (λ (l : LinePlace × ScriptLine). is_rule l.1) f.before (f.line ∷ f.behind)) ∙ ap has_rule (sym f.all) ∙ none) in
     let at = neither (is_rule f.line.1) (has_rule f.behind) parts.1 in
     let begun : IsFew (first_under fs) (2 * (most_steps * slot_limit)) = record { rules = refl; few = omega arith } in
     let so_far = turns-few c o cap (first_under fs) f.bench (2 * (most_steps * slot_limit)) f.before few parts.0 begun f.so_far in
@@ -288,20 +292,20 @@ never-full c o cap fs ls few short none f =
     let all = ap length f.all ∙ length-append f.before (f.line ∷ f.behind) in
     omega (arith, so_far.few, line.few, all, short, f.full)
 
-full-by : (c : Parts) (o cap : ℕ) (fs : List SlotFault) (ls : List (ℕ × ScriptLine)) (t : Bool) → has_rule ls ≡ t → IsSmall c → length ls ≤ 16777217 → OverfillsUnder c o cap fs ls
+full-by : (c : Parts) (o cap : ℕ) (fs : List SlotFault) (ls : List (LinePlace × ScriptLine)) (t : Bool) → has_rule ls ≡ t → IsSmall c → length ls ≤ 17777217 → OverfillsUnder c o cap fs ls
     → has_rule ls ≡ true
 full-by c o cap fs ls true h few short f = h
 full-by c o cap fs ls false h few short f = absurd (never-full c o cap fs ls few short h f)
 
-pub full-by-rule : (strict : Bool) (c : Parts) (o cap : ℕ) (ls : List (ℕ × ScriptLine)) (fault : PlayFault) → IsSmall c → PlayFails strict c o cap ls fault → length ls ≤ 16777217
+pub full-by-rule : (strict : Bool) (c : Parts) (o cap : ℕ) (ls : List (LinePlace × ScriptLine)) (fault : PlayFault) → IsSmall c → PlayFails strict c o cap ls fault → length ls ≤ 17777217
     → EndsWithFullLog {X = Played} (Err fault) → has_rule ls ≡ true
 full-by-rule strict c o cap ls (SlotLimit n) few fails short full = absurd full
 full-by-rule strict c o cap ls LogFull few fails short full = full-by c o cap [] ls (has_rule ls) refl few short fails
 full-by-rule strict c o cap ls OutOfMemory few fails short full = absurd full
 
 -- likewise under faults
-pub full-under-by-rule : (strict : Bool) (c : Parts) (o cap : ℕ) (fs : List SlotFault) (ls : List (ℕ × ScriptLine)) (fault : PlayFault) → IsSmall c
-    → PlaysUnder strict c o cap fs ls (Err fault) → length ls ≤ 16777217 → EndsWithFullLog {X = PlayedUnder} (Err fault) → has_rule ls ≡ true
+pub full-under-by-rule : (strict : Bool) (c : Parts) (o cap : ℕ) (fs : List SlotFault) (ls : List (LinePlace × ScriptLine)) (fault : PlayFault) → IsSmall c
+    → PlaysUnder strict c o cap fs ls (Err fault) → length ls ≤ 17777217 → EndsWithFullLog {X = PlayedUnder} (Err fault) → has_rule ls ≡ true
 full-under-by-rule strict c o cap fs ls (SlotLimit n) few plays short full = absurd full
 full-under-by-rule strict c o cap fs ls LogFull few plays short full = full-by c o cap fs ls (has_rule ls) refl few short plays
 full-under-by-rule strict c o cap fs ls OutOfMemory few plays short full = absurd full

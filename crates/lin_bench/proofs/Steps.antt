@@ -1,6 +1,6 @@
 -- Texts in the language of a cluster's names, as bench scripts: scripts of numbers, and logs with names.
-use Rattle.std.proofs.Common.{◌≡◌, ◌∙◌, ◌+◌, ◌-◌, ◌==◌, ℕ, List, [], ◌∷◌, Bool, true, false, not, nat_lt, refl, sym, ap, arith, reverse, Option, Some, None, Result, Ok, Err, filter, length, slice_index, take, option_map}
-use Rattle.std.specs.List.{slice_split, onto_first, take_while}
+use Rattle.std.proofs.Common.{◌≡◌, ◌∙◌, ◌+◌, ◌-◌, ◌==◌, ℕ, List, [], ◌∷◌, Bool, true, false, not, nat_lt, refl, sym, ap, arith, reverse, Option, Some, None, Result, Ok, Err, filter, length, map, slice_index, take, option_map}
+use Rattle.std.specs.List.{list_any, slice_split, onto_first, take_while}
 use Rattle.std.specs.Str.Lines.{strip_carriage_return}
 use Rattle.std.proofs.lemmas.Grind.{common_steps}
 use Rattle.std.proofs.lemmas.List.Sums.{take_while-cons}
@@ -8,7 +8,7 @@ use Rattle.lin_parts.specs.declared.parts.Parts.{Parts}
 use Rattle.lin_core.specs.Runs.{entry_of, history}
 use Rattle.lin_core.specs.declared.port.PortId.{PortId}
 use Rattle.lin_core.specs.declared.step.Step.{Step}
-use Rattle.lin_log.specs.Language.{named_language, plain}
+use Rattle.lin_log.specs.Language.{Language, named_language, plain}
 use Rattle.lin_log.specs.Said.{is_comment, is_digit, is_gap, is_port, is_not_empty, line_says, of_fields as step_of_fields, port_step, steps_from, text_says}
 use Rattle.lin_log.specs.Said as log
 use Rattle.lin_log.specs.Script.{script, without_reason}
@@ -17,9 +17,14 @@ use Rattle.lin_log.proofs.Stays.{texts-stay}
 use Rattle.lin_bench.proofs.Makes.{after-history}
 use Rattle.lin_bench.specs.Fields.{line_fields}
 use Rattle.lin_bench.specs.Lines.{line_form, line_of_fields, read_line}
-use Rattle.lin_bench.specs.Scripts.{read, read_lines, without_mark}
+use Rattle.lin_bench.specs.Scripts.{in_tests, read, read_lines, script_in_tests}
+use Rattle.lin_bench.specs.Written.{line_place, script_lines, without_mark}
 use Rattle.lin_values.specs.Coded.{CodedData}
-use Rattle.lin_bench.specs.Plain.{HasNoMarks, NamedTexts, PlainScripts}
+use Rattle.lin_bench.specs.Strict.{has_test}
+use Rattle.lin_bench.specs.Files.{SourceData}
+use Rattle.lin_bench.specs.Plain.{HasNoMarks, NamedTexts, PlainScripts, SaysSteps, resolves}
+use Rattle.lin_bench.proofs.LineByLine.{line-by-line}
+use Rattle.lin_bench.proofs.PlainFields.{ArePlainLines, IsPlainLine, lang, numbers-are-plain, plain-line, plain-lines, plain-rest, steps-resolve-nothing}
 use Rattle.lin_bench.specs.Words.{limited_line, line_in_words, or_unmarked, read_worded_line, worded, worded_on}
 use Rattle.lin_bench.proofs.OnWords.{not-worded-on, nothing-worded-on}
 use Rattle.lin_bench.proofs.Wordless.{wordless}
@@ -32,6 +37,7 @@ use Rattle.lin_bench.specs.Slots.{Course, course_after, past_after}
 use Rattle.lin_bench.specs.declared.rules.NodeLimits.{NodeLimits}
 use Rattle.lin_bench.specs.declared.rules.Rules.{Rules}
 use Rattle.lin_bench.specs.declared.line.ScriptLine.{ScriptLine}
+use Rattle.lin_bench.specs.declared.place.LinePlace.{LinePlace}
 use Rattle.lin_bench.specs.declared.reason.Reason.{Reason as BenchReason}
 use Rattle.lin_bench.specs.declared.line.ScriptLine.TheVariants as line
 
@@ -149,9 +155,9 @@ unfolding read_worded_line line_in_words
 plain-line-read c limits l o e = ap (limited_line limits) (line-read c l o e) ∙ limited-stays limits o
 
 -- ---- lines in order, each with its number
-abbrev pub lines_of : List (ℕ × (PortId × Step)) → List (ℕ × ScriptLine)
+abbrev pub lines_of : List (ℕ × (PortId × Step)) → List (LinePlace × ScriptLine)
 lines_of [] = []
-lines_of (t ∷ ts) = (t.0, line.Step t.1.0 t.1.1) ∷ lines_of ts
+lines_of (t ∷ ts) = (line_place t.0, line.Step t.1.0 t.1.1) ∷ lines_of ts
 
 abbrev pub steps_of : List (ℕ × (PortId × Step)) → List (PortId × Step)
 steps_of [] = []
@@ -214,7 +220,7 @@ one-step c o room b s h =
     ∙ ap (λ (k : ℕ). record b { past = past; rules = no_rules; left = k }) left
     ∙ ap (λ (r : Rules). record b { past = past; rules = r }) (sym h)
 
-one-turn : (c : Parts) (o room : ℕ) (b : BenchState) (n : ℕ) (by : PortId) (step : Step) → b.rules ≡ no_rules
+one-turn : (c : Parts) (o room : ℕ) (b : BenchState) (n : LinePlace) (by : PortId) (step : Step) → b.rules ≡ no_rules
     → next c o room b (n, line.Step by step) ≡ Ok (record b { past = entry_of c o room b.past (by, step) ∷ b.past })
 unfolding made steps_said
 one-turn c o room b n by step h =
@@ -225,7 +231,7 @@ turns : (c : Parts) (o room : ℕ) (b : BenchState) (ts : List (ℕ × (PortId �
     → in_turn c o room (Ok b) (lines_of ts) ≡ Ok (record b { past = past_after c o room b.past (steps_of ts) })
 turns c o room b [] h = refl
 turns c o room b (t ∷ ts) h =
-    ap (λ r. in_turn c o room r (lines_of ts)) (one-turn c o room b t.0 t.1.0 t.1.1 h)
+    ap (λ r. in_turn c o room r (lines_of ts)) (one-turn c o room b (line_place t.0) t.1.0 t.1.1 h)
     ∙ turns c o room (record b { past = entry_of c o room b.past t.1 ∷ b.past }) ts h
 
 -- a step expects nothing
@@ -236,7 +242,7 @@ no-verdict c o room b by step =
     rw few refl
 
 unjudged : (c : Parts) (o room : ℕ) (b : BenchState) (ts : List (ℕ × (PortId × Step)))
-    → judged_from false false c o room b (lines_of ts) ≡ []
+    → judged_from false [] c o room b (lines_of ts) ≡ []
 unjudged c o room b [] = refl
 unjudged c o room b (t ∷ ts) =
     rw (no-verdict c o room b t.1.0 t.1.1) (unjudged c o room (made c o room b (line.Step t.1.0 t.1.1)).0 ts)
@@ -301,15 +307,68 @@ no-mark : (c : Parts) (text : List ℕ) (steps : List (PortId × Step)) → step
 no-mark c [] steps e = refl
 no-mark c (x ∷ xs) steps e = rw (mark-by c x xs steps (x == 10) refl e) refl
 
+-- steps begin no test, and are in none
+no-test : (ts : List (ℕ × (PortId × Step))) → has_test (lines_of ts) ≡ false
+no-test [] = refl
+no-test (t ∷ ts) = no-test ts
+
+no-tests : (ts : List (ℕ × (PortId × Step))) → in_tests 0 (lines_of ts) ≡ lines_of ts
+no-tests [] = refl
+no-tests (t ∷ ts) = ap (λ ls. (line_place t.0, line.Step t.1.0 t.1.1) ∷ ls) (no-tests ts)
+
+-- ---- no line of a text that says steps stands for others
+unsaid-by : (l : List ℕ) (t : Bool) → (slice_index l 0 == 62) ≡ t → (t ≡ false → line_fields l ≡ []) → resolves l ≡ false
+unsaid-by l true k e = rw k refl
+unsaid-by l false k e = let none = e refl in rw (k, none) refl
+
+line-resolves-by : (v : Language) (l : List ℕ) (o : Option (PortId × Step)) (a b : Bool) → IsPlainLine v l → (slice_index l 0 == 35) ≡ a → (slice_index l 0 == 62) ≡ b
+    → line_says (lang v) l ≡ Ok o → resolves l ≡ false
+unfolding line_says
+line-resolves-by v l o true b clear h k e = unsaid-by l b k (λ f. comment-fields l h)
+line-resolves-by v l o false true clear h k e = unsaid-by l true k (λ f. absurd (cc))
+line-resolves-by v l o false false clear h k e = steps-resolve-nothing v l o clear (rw (h, k) at e)
+
+line-resolves : (v : Language) (l : List ℕ) (o : Option (PortId × Step)) → IsPlainLine v l → line_says (lang v) l ≡ Ok o → resolves l ≡ false
+line-resolves v l o clear e = line-resolves-by v l o (slice_index l 0 == 35) (slice_index l 0 == 62) clear refl refl e
+
+both-say : (n : ℕ) (r : Result (Option (PortId × Step)) Reason) (more : log.Steps) (steps : List (PortId × Step)) → log.with_said n r more ≡ Ok steps
+    → (o : Option (PortId × Step)) × (ys : List (PortId × Step)) × (r ≡ Ok o) × (more ≡ Ok ys)
+both-say n (Err why) more steps e = absurd (cc)
+both-say n (Ok None) more steps e = (None, steps, refl, e)
+both-say n (Ok (Some s)) (Ok ys) steps e = (Some s, ys, refl, refl)
+both-say n (Ok (Some s)) (Err bad) steps e = absurd (cc)
+
+none-resolves : (v : Language) (ls : List (List ℕ)) (n : ℕ) (steps : List (PortId × Step)) → ArePlainLines v ls → steps_from (lang v) n ls ≡ Ok steps
+    → list_any resolves (map strip_carriage_return ls) ≡ false
+none-resolves v [] n steps clear e = refl
+none-resolves v (l ∷ ls) n steps clear e =
+    let p = both-say n (line_says (lang v) (strip_carriage_return l)) (steps_from (lang v) (n + 1) ls) steps e in
+    let first = line-resolves v (strip_carriage_return l) p.0 (plain-line v l ls clear) p.2 in
+    let rest = none-resolves v ls (n + 1) p.1 (plain-rest v l ls clear) p.3 in
+    rw (first, rest) refl
+
+nothing-resolved : (c : Parts) (k : Option CodedData) (limits : List NodeLimits) (s : SourceData) (text : List ℕ) → s.text ≡ text → list_any resolves (script_lines text) ≡ false
+    → read c k limits s ≡ script_in_tests 0 (read_lines c k limits 1 (slice_split (λ b. b == 10) (without_mark text)))
+nothing-resolved c k limits s text same none =
+    line-by-line c k limits s (ap (λ t. list_any resolves (script_lines t)) same ∙ none)
+    ∙ ap (λ t. script_in_tests 0 (read_lines c k limits 1 (slice_split (λ b. b == 10) (without_mark t)))) same
+
 -- ---- texts that say steps and nothing else
-pub named-texts : NamedTexts
-unfolding text_says read
-named-texts c opening capacity text steps e =
+says-steps : (c : Parts) (opening capacity : ℕ) (text : List ℕ) (steps : List (PortId × Step)) → steps_from (named_language c) 1 (slice_split (λ b. b == 10) text) ≡ Ok steps
+    → list_any resolves (script_lines text) ≡ false → SaysSteps c opening capacity text steps
+says-steps c opening capacity text steps e nothing =
     let q = lines-say c 1 (slice_split (λ b. b == 10) text) steps e in
+    let alone : (limits : List NodeLimits) → read_lines c None limits 1 (slice_split (λ b. b == 10) (without_mark text)) ≡ Ok (lines_of q.numbered) =
+    λ limits. rw (no-mark c text steps e) (q.reading None limits tt) in
+    let worded : HasNoMarks c → (k : CodedData) (limits : List NodeLimits) → read_lines c (Some k) limits 1 (slice_split (λ b. b == 10) (without_mark text)) ≡ Ok (lines_of q.numbered) =
+    λ none k limits. rw (no-mark c text steps e) (q.reading (Some k) limits none) in
     record {
       lines = lines_of q.numbered;
-      reading = λ limits. rw (no-mark c text steps e) (q.reading None limits tt);
-      coded = λ none k limits. rw (no-mark c text steps e) (q.reading (Some k) limits none);
+      reading = λ limits s same. nothing-resolved c None limits s text same nothing ∙ ap (script_in_tests 0) (alone limits) ∙ ap Ok (no-tests q.numbered);
+      coded = λ none k limits s same. nothing-resolved c (Some k) limits s text same nothing ∙ ap (script_in_tests 0) (worded none k limits) ∙ ap Ok (no-tests q.numbered);
+      plainly = alone;
+      plainly_coded = worded;
+      untested = no-test q.numbered;
       steps_alone =
           ap (λ js. with_judgements js (come_to c opening capacity (lines_of q.numbered))) (unjudged c opening capacity initial_bench q.numbered)
           ∙ ap (with_judgements []) (turns c opening capacity initial_bench q.numbered refl)
@@ -317,11 +376,23 @@ named-texts c opening capacity text steps e =
           (after-history c opening capacity [] (steps_of q.numbered) ∙ ap (λ ss. history c opening capacity (reverse ss)) (sym q.steps_are));
     }
 
+pub named-texts : NamedTexts
+unfolding text_says
+named-texts c opening capacity text steps names e =
+    says-steps c opening capacity text steps e
+    (rw (no-mark c text steps e) (none-resolves (named_language c) (slice_split (λ b. b == 10) text) 1 steps (plain-lines c text names) e))
+
 reasonless : (r : log.Steps) (steps : List (PortId × Step)) → without_reason r ≡ Ok steps → r ≡ Ok steps
 reasonless (Ok ys) steps e = cc
 reasonless (Err bad) steps e = absurd (cc)
 
+numbered-steps : (v : Language) (text : List ℕ) (steps : List (PortId × Step)) → script text ≡ Ok steps → steps_from (lang v) 1 (slice_split (λ b. b == 10) text) ≡ Ok steps
+unfolding script text_says
+numbered-steps v text steps e = texts-stay (lang v) text steps (reasonless (text_says plain text) steps e)
+
 pub plain-scripts : PlainScripts
-unfolding script
 plain-scripts c opening capacity text steps e =
-    named-texts c opening capacity text steps (texts-stay (named_language c) text steps (reasonless (text_says plain text) steps e))
+    let named = numbered-steps (named_language c) text steps e in
+    says-steps c opening capacity text steps named
+    (rw (no-mark c text steps named)
+    (none-resolves plain (slice_split (λ b. b == 10) text) 1 steps (numbers-are-plain (slice_split (λ b. b == 10) text)) (numbered-steps plain text steps e)))

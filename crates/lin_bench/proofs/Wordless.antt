@@ -69,7 +69,7 @@ no-some F f bs m one other e = elim (mark-cases f m) [
   | inr is ↦ absurd (let no : None ≡ Some bs = sym other ∙ ap F (sym is) ∙ e in cc)
 ]
 
-row-first : (r o : Option (List ℕ)) (bs : List ℕ) → option_map_or (λ bytes. option_map (λ more. bytes ++ more) o) r None ≡ Some bs → (xs ys : List ℕ) × (r ≡ Some xs) × (o ≡ Some ys)
+pub row-first : (r o : Option (List ℕ)) (bs : List ℕ) → option_map_or (λ bytes. option_map (λ more. bytes ++ more) o) r None ≡ Some bs → (xs ys : List ℕ) × (r ≡ Some xs) × (o ≡ Some ys)
 row-first None o bs e = absurd (cc)
 row-first (Some xs) None bs e = absurd (cc)
 row-first (Some xs) (Some ys) bs e = (xs, ys, refl, refl)
@@ -88,7 +88,7 @@ no-bytes-of f [] zero bs e m = no-some hex_bytes f bs m refl refl e
 no-bytes-of f [] (suc n) bs e m = absurd (cc)
 no-bytes-of f (g ∷ fs) n bs e m = no-row (f ∷ g ∷ fs) n bs e m
 
-some-found : {A : Type 0} (o : Option A) (why : Reason) (x : A) → log.or_bad o why ≡ Ok x → o ≡ Some x
+pub some-found : {A : Type 0} (o : Option A) (why : Reason) (x : A) → log.or_bad o why ≡ Ok x → o ≡ Some x
 some-found None why x e = absurd (cc)
 some-found (Some y) why x e = cc
 
@@ -99,7 +99,7 @@ no-bytes c (f ∷ fs) n bs e m = no-bytes-of f fs n bs (some-found (bytes_of tru
 
 -- ---- what stands in turn
 
-first-done : {A B : Type 0} (r : Result A Reason) (f : A → Result B Reason) (y : B) → log.◌>>=◌ r f ≡ Ok y → (x : A) × (r ≡ Ok x) × (f x ≡ Ok y)
+pub first-done : {A B : Type 0} (r : Result A Reason) (f : A → Result B Reason) (y : B) → log.◌>>=◌ r f ≡ Ok y → (x : A) × (r ≡ Ok x) × (f x ≡ Ok y)
 first-done (Ok x) f y e = (x, refl, e)
 first-done (Err why) f y e = absurd (cc)
 
@@ -200,7 +200,7 @@ late-step c word fs n s e m =
 
 -- ---- what fields before a mark ask for
 
-no-port : (f g : List ℕ) → is_port f ≡ true → is_port g ≡ false → bytes_eq f g ≡ false
+pub no-port : (f g : List ℕ) → is_port f ≡ true → is_port g ≡ false → bytes_eq f g ≡ false
 no-port f g holds fails = other-word f g is_port holds fails
 
 single : (word mark : List ℕ) → is_port word ≡ true → wish_of (word ∷ []) mark ≡ None

@@ -12,11 +12,12 @@ use Rattle.lin_bench.specs.Made.{BenchState, made}
 use Rattle.lin_bench.specs.Played.{play_result, played_under}
 use Rattle.lin_bench.specs.declared.faults.ArmedFault.{ArmedFault}
 use Rattle.lin_bench.specs.declared.line.ScriptLine.{ScriptLine}
+use Rattle.lin_bench.specs.declared.place.LinePlace.{LinePlace}
 
 -- under no fault it is a play
 abbrev pub UnderNoneIsPlayed : Type 0
 UnderNoneIsPlayed =
-    (strict : Bool) (c : Parts) (opening capacity : ℕ) (ls : List (ℕ × ScriptLine))
+    (strict : Bool) (c : Parts) (opening capacity : ℕ) (ls : List (LinePlace × ScriptLine))
     → played_under strict c opening capacity [] ls ≡ play_result strict c opening capacity ls
 
 -- none of these steps is refused, each on the history with those before it

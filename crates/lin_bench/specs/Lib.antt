@@ -11,7 +11,13 @@ pub mod Hints
 pub mod Words
 pub mod Parts
 pub mod Meanings
+pub mod Written
+pub mod Files
+pub mod Resolved
+pub mod Resolving
 pub mod Scripts
+pub mod Listed
+pub mod Replacing
 pub mod Read
 pub mod Faults
 pub mod Added
@@ -31,6 +37,7 @@ pub mod RuleLaws
 pub mod Bench
 pub mod Marks
 pub mod Strict
+pub mod Tests
 pub mod Played
 pub mod Plays
 pub mod FaultLaws

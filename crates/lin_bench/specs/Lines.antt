@@ -11,11 +11,12 @@ use Rattle.lin_log.specs.Said.{is_port, port_step, step_form}
 use Rattle.lin_log.specs.declared.reason.Reason.TheVariants.{Takes}
 use Rattle.lin_bench.specs.Fields.{◌>>=◌, bytes_fields, count_field, line_fields, node_field, of_step}
 use Rattle.lin_bench.specs.Expectations.{expectation, until_form, while_form}
+use Rattle.lin_bench.specs.LineWords.{fields_text}
 use Rattle.lin_bench.specs.OnLines.{on_form}
 use Rattle.lin_bench.specs.RuleLines.{errors_form, every_form, services_form, power_form, state_form, timeouts_form, when_form}
 use Rattle.lin_bench.specs.declared.reason.Reason.{Reason}
 use Rattle.lin_bench.specs.declared.reason.Reason.TheVariants.{Step, SlotsForm, SlotForm}
-use Rattle.lin_bench.specs.declared.reason.Reason.TheVariants.{LeaveForm, SlotsLeaveForm}
+use Rattle.lin_bench.specs.declared.reason.Reason.TheVariants.{ForScripts, LeaveForm, SlotsLeaveForm, TestForm}
 use Rattle.lin_bench.specs.declared.line.Disturbance.{Disturbance}
 use Rattle.lin_bench.specs.declared.line.Disturbance.TheVariants as slot
 use Rattle.lin_bench.specs.declared.line.Extent.{Extent}
@@ -117,6 +118,17 @@ abbrev pub forget_form : List (List ℕ) → Result ScriptLine Reason
 forget_form [] = Ok line.Forget
 forget_form fs = Err (Step (Takes (codes "forget") 0))
 
+-- a test, by the fields of its name
+abbrev pub test_form : List (List ℕ) → Result ScriptLine Reason
+test_form [] = Err TestForm
+test_form fs = Ok (line.Test (fields_text fs))
+
+-- a word of lines that are resolved while a script is read
+abbrev pub is_resolved : List ℕ → Bool
+is_resolved word =
+    bytes_eq word (codes "set")
+    || (bytes_eq word (codes "repeat") || (bytes_eq word (codes "end") || bytes_eq word (codes "include")))
+
 -- what a line of a rule says, or of a step before which no port stands: the bus gives it
 abbrev pub rule_or_step_form : Parts → List ℕ → List (List ℕ) → Result ScriptLine Reason
 rule_or_step_form c word fs =
@@ -141,6 +153,8 @@ line_form c word fs =
     else if bytes_eq word (codes "slot") then slot_form c fs >>= (λ how. Ok (line.Slot how))
     else if bytes_eq word (codes "expect") then expectation c fs >>= (λ what. Ok (line.Expect what))
     else if bytes_eq word (codes "forget") then forget_form fs
+    else if bytes_eq word (codes "test") then test_form fs
+    else if is_resolved word then Err (ForScripts word)
     else rule_or_step_form c word fs
 
 abbrev pub line_of_fields : Parts → List (List ℕ) → Result (Option ScriptLine) Reason

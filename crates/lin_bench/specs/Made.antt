@@ -78,6 +78,7 @@ steps_said c opening capacity limit b (line.While s what) =
     (fails c opening b.taken (length b.past) (expected_begun c b.past what)) (limit s.extent) (course_of b)
 steps_said c opening capacity limit b (line.Expect what) = []
 steps_said c opening capacity limit b line.Forget = []
+steps_said c opening capacity limit b (line.Test name) = []
 steps_said c opening capacity limit b (line.Rule r) = []
 
 -- how many slots a line of slots made by these steps; no other line makes any
@@ -89,6 +90,7 @@ slots_made (line.Until s what) steps = ended_slot_count steps
 slots_made (line.While s what) steps = ended_slot_count steps
 slots_made (line.Expect what) steps = 0
 slots_made line.Forget steps = 0
+slots_made (line.Test name) steps = 0
 slots_made (line.Rule r) steps = 0
 
 -- what slots expect after them
@@ -156,6 +158,7 @@ rule_verdict rules r = Nothing
 -- a bench after a line, and the line's verdict
 unfoldable pub made : Parts → ℕ → ℕ → BenchState → ScriptLine → BenchState × Verdict
 made c opening capacity b line.Forget = (forgotten b, Nothing)
+made c opening capacity b (line.Test name) = (forgotten b, Nothing)
 made c opening capacity b (line.Rule r) = (with_rule c b r, rule_verdict b.rules r)
 made c opening capacity b line =
     let steps = steps_said c opening capacity most b line

@@ -1,5 +1,5 @@
 -- What reading a part of a line answers, beside what the definition reads.
-use Rattle.std.specs.Prelude.{◌≡◌, ℕ, Bool, true, false, List, [], ◌∷◌, Option, Some, None, Result, Ok, Err}
+use Rattle.std.specs.Prelude.{◌≡◌, Bool, true, false, List, [], ◌∷◌, Option, Some, None, Result, Ok, Err}
 use Rattle.lin_log.specs.declared.reason.LineFault.{LineFault as StepFault}
 use Rattle.lin_log.specs.declared.reason.LineFault.TheVariants as faults
 use Rattle.lin_bench.specs.declared.fault.LineFault.{LineFault}
@@ -7,13 +7,14 @@ use Rattle.lin_bench.specs.declared.fault.LineFault.TheVariants.{Bad, OutOfMemor
 use Rattle.lin_bench.specs.declared.fault.ReadFault.{ReadFault}
 use Rattle.lin_bench.specs.declared.fault.ReadFault.TheVariants.{BadLine, OutOfMemory as NoMemory}
 use Rattle.lin_bench.specs.declared.line.ScriptLine.{ScriptLine}
+use Rattle.lin_bench.specs.declared.place.LinePlace.{LinePlace}
 use Rattle.lin_bench.specs.declared.reason.Reason.{Reason}
 use Rattle.lin_bench.specs.declared.reason.Reason.TheVariants.{Step}
+use Rattle.lin_bench.specs.declared.resolving.Item.{Item as LineItem}
 use Rattle.lin_bench.specs.declared.rules.NodeLimits.{NodeLimits}
-use Rattle.lin_bench.specs.declared.script.LinesLeft.{LinesLeft}
 use Rattle.lin_values.specs.Coded.{CodedData}
-use Rattle.lin_bench.specs.Scripts.{Script, read_lines, with_line}
-use Rattle.lin_log.specs.Judged.{lines_left}
+use Rattle.lin_bench.specs.Resolving.{item_of}
+use Rattle.lin_bench.specs.Scripts.{Script, item_read, with_line}
 use Rattle.lin_parts.specs.declared.parts.Parts.{Parts}
 
 -- a fault of a line of steps
@@ -36,27 +37,28 @@ is_bad_line (Err OutOfMemory) = false
 
 -- what reading a bench script answers
 abbrev pub ReadFails : ReadFault → Script → Type 0
-ReadFails (BadLine n why) said = said ≡ Err (n, why)
+ReadFails (BadLine p why) said = said ≡ Err (p, why)
 ReadFails NoMemory said = Unit {0}
 
-abbrev pub ReadsBenchScript : {X : Type 0} → (X → List (ℕ × ScriptLine)) → Result X ReadFault → Script → Type 0
+abbrev pub ReadsBenchScript : {X : Type 0} → (X → List (LinePlace × ScriptLine)) → Result X ReadFault → Script → Type 0
 ReadsBenchScript view (Ok x) said = said ≡ Ok (view x)
 ReadsBenchScript view (Err e) said = ReadFails e said
 
--- what the lines that are left say
-abbrev pub script_left : Parts → Option CodedData → List NodeLimits → LinesLeft → Script
-script_left c k limits lines = read_lines c k limits lines.number (lines_left lines.left)
+-- what a line says after what it resolves
+abbrev pub item_text_read
+    : Parts → Option CodedData → List NodeLimits → LineItem → Result (Option ScriptLine) Reason
+item_text_read c k limits item = item_read c k limits (item_of item)
 
 -- what asking for the next line answers: of what the lines said, and of what those after it say
-abbrev pub NextLine : Result (Option (ℕ × ScriptLine)) ReadFault → Script → Script → Type 0
+abbrev pub NextLine : Result (Option (LinePlace × ScriptLine)) ReadFault → Script → Script → Type 0
 NextLine (Ok None) old new = old ≡ Ok []
 NextLine (Ok (Some l)) old new = old ≡ with_line l new
 NextLine (Err e) old new = ReadFails e old
 
 -- a script that is read has no bad line, and otherwise the first of them is why it isn't read
-abbrev pub AreBadOf : Script → List (ℕ × Reason) → Type 0
+abbrev pub AreBadOf : Script → List (LinePlace × Reason) → Type 0
 AreBadOf (Ok ls) bad = bad ≡ []
-AreBadOf (Err first) bad = (rest : List (ℕ × Reason)) × (bad ≡ first ∷ rest)
+AreBadOf (Err first) bad = (rest : List (LinePlace × Reason)) × (bad ≡ first ∷ rest)
 
 -- why a line is bad, if it is
 abbrev pub IsWhy : Result (Option ScriptLine) Reason → Option Reason → Type 0

@@ -1,7 +1,7 @@
 -- What a strict play judges of a line, beside what the line expects.
-use Rattle.std.specs.Prelude.{ℕ, ◌-◌, ◌==◌, Bool, true, false, not, is_some, if◌then◌else◌, List, []}
-use Rattle.std.specs.Prelude.{◌∷◌, drop, find, length, option_map, reverse, take, Option, Some, None}
-use Rattle.std.specs.List.{list_any}
+use Rattle.std.specs.Prelude.{ℕ, ◌-◌, ◌==◌, ◌&&◌, Bool, true, false, not, is_some, if◌then◌else◌, List, []}
+use Rattle.std.specs.Prelude.{◌∷◌, ◌++◌, drop, find, length, option_map, reverse, take, Option, Some, None}
+use Rattle.std.specs.List.{list_any, take_while}
 use Rattle.std.specs.Option.{option_map_or, option_or}
 use Rattle.lin_core.specs.History.{events}
 use Rattle.lin_core.specs.declared.event.Event.{Event}
@@ -10,12 +10,14 @@ use Rattle.lin_core.specs.declared.reply.Refusal.{Refusal}
 use Rattle.lin_core.specs.declared.reply.Reply.{Reply}
 use Rattle.lin_core.specs.declared.reply.Reply.TheVariants.{Done, Refused}
 use Rattle.lin_bench.specs.Made.{expects}
+use Rattle.lin_bench.specs.Written.{line_place}
 use Rattle.lin_bench.specs.Slots.{due_node, leave_nodes}
 use Rattle.lin_bench.specs.declared.expected.Expected.TheVariants as expected
 use Rattle.lin_bench.specs.declared.got.Got.TheVariants as got
 use Rattle.lin_bench.specs.declared.got.Judged.{Judged}
 use Rattle.lin_bench.specs.declared.got.Judged.TheVariants.{Unmet, NotDue}
 use Rattle.lin_bench.specs.declared.line.ScriptLine.{ScriptLine}
+use Rattle.lin_bench.specs.declared.place.LinePlace.{LinePlace}
 use Rattle.lin_bench.specs.declared.line.ScriptLine.TheVariants as line
 
 -- the entries by which a history grew, the oldest first
@@ -32,7 +34,7 @@ first_refusal [] = None
 first_refusal (e ∷ es) = option_or (refusal_in e.reply) (first_refusal es)
 
 -- whether what a line expects, if there is one, is said of the last step before it
-abbrev pub speaks_of_last : Option (ℕ × ScriptLine) → Bool
+abbrev pub speaks_of_last : Option (LinePlace × ScriptLine) → Bool
 speaks_of_last (Some (n, line.Expect expected.Done)) = true
 speaks_of_last (Some (n, line.Expect (expected.Refused why))) = true
 speaks_of_last other = false
@@ -72,6 +74,35 @@ strictly nodes is_told es =
     then option_map (λ why. Unmet expected.Done (got.Refused why)) (first_refusal (counted_entries is_told es))
     else option_map (λ node. NotDue node) (not_due nodes es)
 
--- some line of a script expects something
-abbrev pub expects_something : List (ℕ × ScriptLine) → Bool
-expects_something ls = list_any (λ (l : ℕ × ScriptLine). is_some (expects l.1)) ls
+-- ---- that something is expected
+-- some line expects something
+abbrev pub expects_something : List (LinePlace × ScriptLine) → Bool
+expects_something ls = list_any (λ (l : LinePlace × ScriptLine). is_some (expects l.1)) ls
+
+-- a line that begins a test
+abbrev pub begins_test : ScriptLine → Bool
+begins_test (line.Test name) = true
+begins_test l = false
+
+abbrev pub has_test : List (LinePlace × ScriptLine) → Bool
+has_test ls = list_any (λ (l : LinePlace × ScriptLine). begins_test l.1) ls
+
+-- the lines of a test that has begun, by those after its first one
+abbrev pub lines_of_test : List (LinePlace × ScriptLine) → List (LinePlace × ScriptLine)
+lines_of_test ls = take_while (λ (l : LinePlace × ScriptLine). not (begins_test l.1)) ls
+
+-- the lines that begin a test in which nothing is expected
+abbrev pub quiet_tests : List (LinePlace × ScriptLine) → List LinePlace
+quiet_tests [] = []
+quiet_tests (l ∷ ls) =
+    (if begins_test l.1 && not (expects_something (lines_of_test ls)) then l.0 ∷ [] else []) ++ quiet_tests ls
+
+-- the lines at which it is judged that nothing is expected: those of tests, or of a script without
+-- tests its first line
+abbrev pub quiet_lines : List (LinePlace × ScriptLine) → List LinePlace
+quiet_lines ls =
+    if has_test ls then quiet_tests ls else (if expects_something ls then [] else line_place 1 ∷ [])
+
+-- a play that isn't strict doesn't judge that
+abbrev pub silent_lines : Bool → List (LinePlace × ScriptLine) → List LinePlace
+silent_lines strict ls = if strict then quiet_lines ls else []

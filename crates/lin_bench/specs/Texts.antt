@@ -1,7 +1,6 @@
 -- What is said of bad lines and of expectations that aren't met.
 use Rattle.std.specs.Prelude.{ℕ, ◌==◌, if◌then◌else◌, Bool, true, false, List, [], ◌∷◌, ◌++◌, flat_map}
 use Rattle.std.specs.Prelude.{codes, Option, Some, None}
-use Rattle.std.specs.Fmt.{decimal}
 use Rattle.std.specs.Option.{option_map_or}
 use Rattle.lin_parts.specs.declared.parts.Parts.{Parts}
 use Rattle.lin_core.specs.Tables.{cause_word, look_word, refusal_word}
@@ -17,6 +16,9 @@ use Rattle.lin_log.specs.declared.pattern.Pattern.{Pattern}
 use Rattle.lin_log.specs.declared.reason.Reason.{Reason as StepReason}
 use Rattle.lin_log.specs.declared.reason.Reason.TheVariants as step
 use Rattle.lin_bench.specs.LineWords.{words_text}
+use Rattle.lin_bench.specs.Files.{place_number_text}
+use Rattle.lin_bench.specs.declared.files.ScriptFile.{ScriptFile}
+use Rattle.lin_bench.specs.declared.place.LinePlace.{LinePlace}
 use Rattle.lin_bench.specs.declared.expected.Since.{Since}
 use Rattle.lin_bench.specs.declared.expected.Since.TheVariants.{Request, Last}
 use Rattle.lin_bench.specs.declared.reason.Hint.{Hint}
@@ -122,6 +124,20 @@ reason_words (reason.UnknownUntil fields) =
 reason_words reason.WhileForm = Fixed (codes "missing expectation after while") ∷ []
 reason_words (reason.UnknownWhile fields) =
     Fixed (codes "while doesn't accept") ∷ Fields fields ∷ []
+reason_words (reason.ForScripts word) = Said word ∷ Fixed (codes "is for scripts") ∷ []
+reason_words reason.SetForm = Fixed (codes "usage: set NAME TEXT") ∷ []
+reason_words (reason.NoParameter name) = Fixed (codes "unknown parameter") ∷ Said name ∷ []
+reason_words (reason.HashField field) = Said field ∷ Fixed (codes "would begin a comment") ∷ []
+reason_words reason.IncludeForm = Fixed (codes "usage: include FILE") ∷ []
+reason_words reason.IncludeDepth = Fixed (codes "include is more than 16 deep") ∷ []
+reason_words (reason.Unread name) = Fixed (codes "read failed") ∷ []
+reason_words (reason.LongFile name) = Fixed (codes "script too long") ∷ []
+reason_words reason.LongLine = Fixed (codes "more than 65536 bytes") ∷ []
+reason_words reason.RepeatForm = Fixed (codes "usage: repeat N") ∷ []
+reason_words reason.EndWithoutRepeat = Fixed (codes "end without repeat") ∷ []
+reason_words reason.RepeatWithoutEnd = Fixed (codes "repeat without end") ∷ []
+reason_words reason.TooManyLines = Fixed (codes "more than 1000000 lines") ∷ []
+reason_words reason.TestForm = Fixed (codes "usage: test NAME") ∷ []
 reason_words reason.WhenForm =
     Fixed (codes "usage: when NODE PATTERN answer BYTES, when NODE PATTERN silent or when NODE PATTERN off") ∷ []
 reason_words reason.OnForm = Fixed (codes "usage: on FORM do STEP, on FORM off or on off") ∷ []
@@ -162,10 +178,14 @@ reason_words (reason.SeveralValues count text signal) =
 abbrev pub reason_text : Reason → List ℕ
 reason_text why = words_text plain (reason_words why)
 
--- the line of a bad line
-abbrev pub bad_line_text : ℕ → Reason → List ℕ
-bad_line_text n why =
-    codes "script " ++ (decimal n ++ (codes " bad line: " ++ (reason_text why ++ 10 ∷ [])))
+-- the line of a bad line; of one that includes a file that isn't read it is the reason alone
+abbrev pub bad_place_text : List ScriptFile → LinePlace → Reason → List ℕ
+bad_place_text fs p (reason.Unread name) = []
+bad_place_text fs p (reason.LongFile name) = []
+bad_place_text fs p why = codes "script " ++ (place_number_text fs p ++ codes " bad line: ")
+
+abbrev pub bad_line_text : List ScriptFile → LinePlace → Reason → List ℕ
+bad_line_text fs p why = bad_place_text fs p why ++ (reason_text why ++ 10 ∷ [])
 
 -- words with the names of a cluster
 abbrev pub cluster_text : Parts → List Word → List ℕ
@@ -346,8 +366,8 @@ judged_text c what =
     ++ (what_text c what ++ 58 ∷ option_map_or spaced_word (found_text c what) [])
 
 -- the line of a judgement, where it isn't met
-abbrev pub unmet_text : Parts → Judgement → List ℕ
-unmet_text c j =
+abbrev pub unmet_text : Parts → List ScriptFile → Judgement → List ℕ
+unmet_text c fs j =
     if is_unmet j.judged
-    then codes "script " ++ (decimal j.line ++ (judged_text c j.judged ++ 10 ∷ []))
+    then codes "script " ++ (place_number_text fs j.place ++ (judged_text c j.judged ++ 10 ∷ []))
     else []

@@ -72,10 +72,14 @@ is_expect before =
     && (is_expectation_word (from_end before 2)
     || (bytes_eq (from_end before 2) (codes "not") && is_expectation_word (from_end before 3)))
 
--- what is asked for by the fields before a signal and the mark behind it
+-- what is asked for by the fields before a signal and the mark behind it; nothing by the name of a test
+abbrev pub is_test : List (List ℕ) → Bool
+is_test before = bytes_eq (slice_index_or before 0 []) (codes "test")
+
 abbrev pub wish_of : List (List ℕ) → List ℕ → Option Wish
 wish_of before mark =
-    if is_expect before then (if bytes_eq mark (codes "=") then Some Expect else None)
+    if is_test before then None
+    else if is_expect before then (if bytes_eq mark (codes "=") then Some Expect else None)
     else if is_write before then Some (if bytes_eq mark (codes "~") then Nearest else Write)
     else None
 

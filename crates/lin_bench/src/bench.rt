@@ -391,7 +391,7 @@ impl Bench {
             ScriptLine::Until(slots, expected) => self.slots_until(alloc, slots, expected),
             ScriptLine::While(slots, expected) => self.slots_while(alloc, slots, expected),
             ScriptLine::Expect(expected) => self.judge(alloc, Some(expected)),
-            ScriptLine::Forget => {
+            ScriptLine::Forget | ScriptLine::Test(_) => {
                 self.forget(alloc);
                 Ok(Verdict::Nothing)
             }

@@ -4,8 +4,10 @@ ghost use Rattle.std.specs.Prelude.{◌≡◌};
 ghost use Rattle.lin_bench.specs.Read.{step_fault};
 ghost use Rattle.lin_bench.specs.declared.fault.MakeFault.TheVariants.{OutOfMemory as NotMade};
 ghost use Rattle.lin_bench.specs.declared.fault.PlayFault.TheVariants.{OutOfMemory as NoMemory};
+ghost use Rattle.lin_bench.specs.declared.fault.ReadFault.TheVariants.{OutOfMemory as NotRead};
 ghost use Rattle.lin_bench.specs.declared.fault.LineFault.TheVariants.{OutOfMemory};
 
+use crate::place::LinePlace;
 use crate::reason::Reason;
 use std::alloc::AllocError;
 
@@ -38,9 +40,17 @@ impl From<AllocError> for LineFault {
 /// Why a bench script isn't read.
 #[derive(Debug, Drop)]
 pub enum ReadFault {
-    /// The first line that is bad, counted from 1 over all lines.
-    BadLine { line: u64, reason: Reason },
+    /// The first line that is bad.
+    BadLine { place: LinePlace, reason: Reason },
     OutOfMemory,
+}
+
+impl From<AllocError> for ReadFault {
+    ghost from_gives = { λ _ fault. fault ≡ NotRead };
+
+    fn from(_: AllocError) -> ReadFault {
+        ReadFault::OutOfMemory
+    }
 }
 
 /// Why a line isn't made.
@@ -63,7 +73,7 @@ impl From<AllocError> for MakeFault {
 #[derive(Debug, Drop)]
 pub enum PlayFault {
     /// By this line, counted from 1, the lines of slots make more than 1,000,000 of them.
-    SlotLimit { line: u64 },
+    SlotLimit { place: LinePlace },
     /// The steps of the lines are more than the log has room for, which takes 4,294,967,295 entries.
     LogFull,
     OutOfMemory,

@@ -4,6 +4,7 @@ ghost use Rattle.std.specs.Prelude.{◌≡◌};
 ghost use Rattle.lin_bench.specs.Played.{is_unmet, some_unmet};
 
 use crate::expected::Expected;
+use crate::place::LinePlace;
 use lin_core::{Cause, Look, Payload, Refusal};
 use lin_frame::Value;
 use lin_log::Carried;
@@ -93,15 +94,15 @@ pub enum Judged {
     Unmet(Expected, Got),
     /// A line leaves out the response of this node, which isn't due in its slot.
     NotDue { node: u8 },
-    /// The script expects nothing.
+    /// The script, or a test of it, expects nothing.
     NothingExpected,
 }
 
 /// A judgement on a line of a bench script.
 #[derive(Drop)]
 pub struct Judgement {
-    /// The number of the line, counted from 1.
-    pub line: u64,
+    /// The line.
+    pub place: LinePlace,
     /// How many entries the log had when it was judged.
     pub entries: usize,
     pub judged: Judged,

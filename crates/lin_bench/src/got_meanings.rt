@@ -105,12 +105,12 @@ fn judgement_meaning(
     ensures { IfOk result (λ j. j ≡ judgement_meaning coded.now judgement) }
 {
     let Judgement {
-        line,
+        place,
         entries,
         judged,
     } = judgement;
     Ok(Judgement {
-        line,
+        place,
         entries,
         judged: judged_meaning(alloc, coded, judged)?,
     })

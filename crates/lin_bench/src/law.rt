@@ -1,13 +1,15 @@
 //! What bench scripts say that are scripts of steps alone, and what rules and faults leave as it is.
 
 ghost use Rattle.lin_bench.specs.FaultLaws.{IsAlikeBefore, NoFaultIsRefused, UnderNoneIsPlayed};
-ghost use Rattle.lin_bench.specs.Plain.{NamedTexts, PlainScripts};
+ghost use Rattle.lin_bench.specs.Plain.{LineByLine, NamedTexts, PlainScripts};
 ghost use Rattle.lin_bench.specs.RuleLaws.{AddedByAnyFinish, AddedByHistoryAndRules, NoRuleAddsNothing};
 ghost use Rattle.lin_bench.specs.RuleLaws.{KeepsDistinct, NoRuleChangesNothing, OffIsLeave, OldScripts, OrderOfRules};
 
-/// A script that `replay` reads says the same steps as a bench script, and makes and expects
-/// nothing else; and so does a text of steps with the cluster's names.
+/// A script without long lines, parameters and repetition says what its lines say one by one. A script that
+/// `replay` reads says the same steps as a bench script, and makes and expects nothing else; and so does a
+/// text of steps with the cluster's names.
 pub fn plain_scripts_say_the_same()
+    ensures lines { LineByLine }
     ensures plain { PlainScripts }
     ensures named { NamedTexts }
 {}

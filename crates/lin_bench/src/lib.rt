@@ -3,9 +3,10 @@
 //!
 //! ```
 //! // a message, the slots that it takes, and what is expected
-//! let lines = read(alloc, &cluster, None, b"send cem door 3E\nslots idle\nexpect sent cem\n")?;
+//! let source = Source::of(b"send cem door 3E\nslots idle\nexpect sent cem\n");
+//! let lines = read(alloc, &cluster, None, &[], source)?;
 //! let Played { core, judgements } = play(alloc, cluster, table, capacity, lines, false)?;
-//! write_unmet(core.cluster(), judgements.as_slice(), &mut errors)?;
+//! write_unmet(core.cluster(), source.files, judgements.as_slice(), &mut errors)?;
 //!
 //! // the same in hand, a line at a time
 //! let mut bench = Bench::new(alloc, Core::new(alloc, cluster, table, capacity)?);
@@ -33,6 +34,7 @@ mod expected;
 mod fault;
 mod faults;
 mod fields;
+mod files;
 mod forms;
 mod got;
 mod got_meanings;
@@ -42,14 +44,18 @@ mod left_events;
 mod limits;
 mod line;
 mod lines;
+mod listed;
 mod marks;
 mod meant;
 mod on_lines;
 mod ons;
+mod parameters;
+mod place;
 mod playing;
 mod powers;
 mod reason;
 mod replies;
+mod resolving;
 mod rule_lines;
 mod ruled;
 mod rules;
@@ -60,6 +66,7 @@ mod slot_runs;
 mod states;
 mod strict;
 mod taken;
+mod tests;
 mod texts;
 mod times;
 mod unmarked;
@@ -74,6 +81,7 @@ pub use expected::{Condition, Expected, SaidTime, Since};
 pub use fault::{LineFault, MakeFault, PlayFault, ReadFault};
 pub use faults::{FaultKind, SlotFault};
 pub use fields::{present_node, present_signal};
+pub use files::{FileText, ScriptFile, Source, file_name, file_text};
 pub use got::{Got, Judged, Judgement, Pending, Verdict, is_unmet, some_unmet};
 pub use got_meanings::{told_meaning, told_meanings};
 pub use law::{
@@ -86,13 +94,18 @@ pub use line::{Disturbance, Extent, ScriptLine, Slots};
 pub use lines::read_line;
 pub use marks::Mark;
 pub use meant::MeantValues;
+pub use parameters::GivenParameter;
+pub use place::{LinePlace, put_place_number};
 pub use playing::{LineEnd, Played, PlayedUnder, play, play_under};
 pub use reason::{Hint, Reason};
 pub use replies::first_refusal;
+pub use resolving::{missing_file, uses_parameter};
+pub use rule_lines::is_name;
 pub use rules::{
     Every, Form, Limit, NodeLimits, On, Part, Rule, RuleAnswer, RuleEnd, Watched, When,
 };
 pub use script::{bad_lines, read, without_mark};
+pub use tests::{TestName, put_test_name, test_names};
 pub use texts::{
     put_found, put_judged, put_pending, put_reason, put_unmet, put_verdict, put_what, reason_line,
     write_bad_line, write_unmet,

@@ -3,7 +3,7 @@
 use crate::expected::Expected;
 use crate::rules::Rule;
 use lin_core::{Payload, PortId, Step};
-use lin_text::Many;
+use lin_text::{Many, Text};
 
 /// How one slot is disturbed.
 #[derive(Drop)]
@@ -48,6 +48,8 @@ pub enum ScriptLine {
     Expect(Expected),
     /// Of all messages that arrived, and of all that were sent or lost, expectations speak no more.
     Forget,
+    /// A test of this name begins. Of what came before it, expectations speak no more.
+    Test(Text),
     /// A rule is in force for the lines after it, or no longer.
     Rule(Rule),
 }

@@ -3,18 +3,19 @@
 ghost use Rattle.std.specs.Prelude.{◌≡◌, option_map};
 ghost use Rattle.lin_bench.specs.Fields.{line_fields};
 ghost use Rattle.lin_bench.specs.Lines.{after_count, all_answer, count_form, early_form, ends_early};
-ghost use Rattle.lin_bench.specs.Lines.{extent_of, forget_form, idle_form, leave_form, left_form};
+ghost use Rattle.lin_bench.specs.Lines.{extent_of, forget_form, idle_form, is_resolved, leave_form, left_form};
 ghost use Rattle.lin_bench.specs.Lines.{line_form, node_fields, nodes_and_early, nodes_read, read_line};
-ghost use Rattle.lin_bench.specs.Lines.{rule_or_step_form, slot_form, slots_form, BeginsNodes};
+ghost use Rattle.lin_bench.specs.Lines.{rule_or_step_form, slot_form, slots_form, test_form, BeginsNodes};
 ghost use Rattle.lin_bench.specs.Read.{Gives};
 
 use crate::expectations::{expectation, holding, until};
 use crate::fault::LineFault;
-use crate::fields::{bytes_fields, count_field, node_field};
+use crate::fields::{bytes_fields, count_field, fields, node_field};
 use crate::line::{Disturbance, Extent, ScriptLine, Slots};
 use crate::on_lines::on;
 use crate::reason::Reason;
 use crate::rule_lines::{every, power, response_errors, services, state, timeouts, when};
+use crate::said_values::joined;
 use lin_core::PortId;
 use lin_log::{first_field, is_over, is_port, port_step, step};
 use lin_parts::Cluster;
@@ -206,6 +207,18 @@ fn forget(alloc: Global, cluster: &Cluster, line: &[u8]) -> Result<ScriptLine, L
     })))
 }
 
+/// That a test begins, by the fields of its name.
+fn test(alloc: Global, cluster: &Cluster, line: &[u8]) -> Result<ScriptLine, LineFault>
+    ensures { Gives (λ l. l) result (test_form (line_fields line.now)) }
+{
+    let name = fields(alloc, cluster, line)?;
+    if name.is_empty() {
+        return Err(LineFault::Bad(Reason::TestForm));
+    }
+    let name = joined(alloc, name.as_slice())?;
+    Ok(ScriptLine::Test(Text::copied(alloc, name.as_slice())?))
+}
+
 fn node_fields(alloc: Global, cluster: &Cluster, line: &[u8]) -> Result<Many<u8>, LineFault>
     ensures { Gives (λ nodes. nodes) result (node_fields cluster.now (line_fields line.now)) }
 {
@@ -246,6 +259,16 @@ fn slot(alloc: Global, cluster: &Cluster, line: &[u8]) -> Result<Disturbance, Li
     } else {
         Err(LineFault::Bad(Reason::SlotForm(Text::copied(alloc, word)?)))
     }
+}
+
+/// Whether a word is one of lines that are resolved while a script is read.
+fn is_resolved(word: &[u8]) -> bool
+    ensures { result ≡ is_resolved word.now }
+{
+    word == b"set".as_slice()
+        || word == b"repeat".as_slice()
+        || word == b"end".as_slice()
+        || word == b"include".as_slice()
 }
 
 /// What a line of a rule says, or of a step by the bus, by its first field and the rest of it.
@@ -299,6 +322,10 @@ fn of_word(
         Ok(ScriptLine::Expect(expectation(alloc, cluster, rest)?))
     } else if word == b"forget".as_slice() {
         forget(alloc, cluster, rest)
+    } else if word == b"test".as_slice() {
+        test(alloc, cluster, rest)
+    } else if is_resolved(word) {
+        Err(LineFault::Bad(Reason::ForScripts(Text::copied(alloc, word)?)))
     } else {
         rule_or_step(alloc, cluster, word, rest)
     }

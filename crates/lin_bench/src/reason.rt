@@ -4,6 +4,7 @@ ghost use Rattle.std.specs.Prelude.{◌≡◌, IfOk};
 ghost use Rattle.lin_bench.specs.Expectations.{until_reason, while_reason};
 ghost use Rattle.lin_bench.specs.Fields.{field_texts};
 ghost use Rattle.lin_bench.specs.OnLines.{on_reason};
+ghost use Rattle.lin_bench.specs.Resolved.{unread_file};
 
 use crate::fields::copied_fields;
 use lin_text::{Many, Text};
@@ -70,6 +71,34 @@ pub enum Reason {
     WhileForm,
     /// `while` has no form of these fields.
     UnknownWhile(Many<Text>),
+    /// `test` takes a name.
+    TestForm,
+    /// `set` takes a name and a value.
+    SetForm,
+    /// No parameter has this name.
+    NoParameter(Text),
+    /// A field of a parameter's text that would begin a comment.
+    HashField(Text),
+    /// A line in which parameters were replaced is too long.
+    LongLine,
+    /// `repeat` takes a number.
+    RepeatForm,
+    /// An `end` without `repeat`.
+    EndWithoutRepeat,
+    /// A `repeat` without `end`.
+    RepeatWithoutEnd,
+    /// More lines are read than may be.
+    TooManyLines,
+    /// `include` takes a file.
+    IncludeForm,
+    /// A file is included more than 16 deep.
+    IncludeDepth,
+    /// The file that a line includes under this name can't be read.
+    Unread(Text),
+    /// With the file that a line includes under this name, the script has more than 16,777,216 bytes.
+    LongFile(Text),
+    /// Only scripts have lines that begin with this word.
+    ForScripts(Text),
     /// `when` takes a node, a pattern and answers, `silent` or `off`.
     WhenForm,
     /// `on` takes a form, `do` and a step, or `off`.
@@ -175,6 +204,20 @@ impl Drop for Reason {
             Reason::UnknownUntil(_field) => {}
             Reason::WhileForm => {}
             Reason::UnknownWhile(_field) => {}
+            Reason::TestForm => {}
+            Reason::SetForm => {}
+            Reason::NoParameter(_field) => {}
+            Reason::HashField(_field) => {}
+            Reason::LongLine => {}
+            Reason::RepeatForm => {}
+            Reason::EndWithoutRepeat => {}
+            Reason::RepeatWithoutEnd => {}
+            Reason::TooManyLines => {}
+            Reason::IncludeForm => {}
+            Reason::IncludeDepth => {}
+            Reason::Unread(_field) => {}
+            Reason::LongFile(_field) => {}
+            Reason::ForScripts(_field) => {}
             Reason::WhenForm => {}
             Reason::OnForm => {}
             Reason::UnknownOn(_field) => {}
@@ -257,6 +300,16 @@ impl Reason {
                 alloc, all,
             )?)),
             other => Ok(other),
+        }
+    }
+
+    /// The name of the file that the line includes, if the line is bad because that file can't be read.
+    pub(crate) fn unread_file(self) -> Option<Text>
+        ensures { result ≡ unread_file self }
+    {
+        match self {
+            Reason::Unread(name) => Some(name),
+            _ => None,
         }
     }
 }

@@ -298,7 +298,7 @@ fn is_digit(sign: u8) -> bool
     matches!(sign, b'0'..=b'9')
 }
 
-fn is_name_sign(sign: u8) -> bool
+pub(crate) fn is_name_sign(sign: u8) -> bool
     ensures { result ≡ is_name_sign sign }
 {
     is_letter(sign) || is_digit(sign)
@@ -311,7 +311,7 @@ fn are_name_signs(signs: &[u8]) -> bool
 }
 
 /// Whether a field is a name: a letter or `_`, then letters, digits and `_`.
-fn is_name(field: &[u8]) -> bool
+pub fn is_name(field: &[u8]) -> bool
     ensures { result ≡ is_name field.now }
 {
     match field {

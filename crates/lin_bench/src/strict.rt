@@ -1,13 +1,15 @@
 //! What a strict play judges of a line, beside what the line expects.
 
-ghost use Rattle.std.specs.Prelude.{◌≡◌, drop, find, is_some, IfOk};
+ghost use Rattle.std.specs.Prelude.{◌≡◌, drop, find, is_some, not, IfOk};
 ghost use Rattle.lin_bench.specs.Made.{expects};
-ghost use Rattle.lin_bench.specs.Strict.{expects_something, is_due_event, is_never_due, left_out, not_due, speaks_of_last, strictly};
-ghost use Rattle.lin_bench.specs.Strict.{tells_due};
+ghost use Rattle.lin_bench.specs.Strict.{begins_test, expects_something, has_test, is_due_event, is_never_due, left_out};
+ghost use Rattle.lin_bench.specs.Strict.{lines_of_test, not_due, quiet_lines, quiet_tests, silent_lines, speaks_of_last};
+ghost use Rattle.lin_bench.specs.Strict.{strictly, tells_due};
 
 use crate::expected::Expected;
 use crate::got::{Got, Judged};
 use crate::line::{Disturbance, Extent, ScriptLine, Slots};
+use crate::place::{LinePlace, line_place};
 use crate::replies::{counted_refusal, first_refusal};
 use crate::slot_runs::due_node;
 use crate::taken::events_of;
@@ -31,14 +33,93 @@ fn expects(line: &ScriptLine) -> bool
 }
 
 /// Whether one of these lines expects something.
-pub(crate) fn expects_something(lines: &[(u64, ScriptLine)]) -> bool
+fn expects_something(lines: &[(LinePlace, ScriptLine)]) -> bool
     ensures { result ≡ expects_something lines.now }
 {
     lines.iter().any(|line| expects(&line.1))
 }
 
+/// Whether a line begins a test.
+fn begins_test(line: &ScriptLine) -> bool
+    ensures { result ≡ begins_test line.now }
+{
+    matches!(line, ScriptLine::Test(_))
+}
+
+/// Whether one of these lines begins a test.
+fn has_test(lines: &[(LinePlace, ScriptLine)]) -> bool
+    ensures { result ≡ has_test lines.now }
+{
+    lines.iter().any(|line| begins_test(&line.1))
+}
+
+/// Whether nothing is expected in a test that has begun, by the lines after its first one.
+fn is_quiet(lines: &[(LinePlace, ScriptLine)]) -> bool
+    ensures { result ≡ not (expects_something (lines_of_test lines.now)) }
+{
+    for line in lines {
+        if begins_test(&line.1) {
+            return true;
+        }
+        if expects(&line.1) {
+            return false;
+        }
+    }
+    true
+}
+
+/// The lines that begin a test in which nothing is expected. An error means out of memory.
+fn quiet_tests(
+    alloc: Global,
+    lines: &[(LinePlace, ScriptLine)],
+) -> Result<Vec<LinePlace>, AllocError>
+    ensures { IfOk result (λ v. v.items ≡ quiet_tests lines.now) }
+{
+    let mut quiet = Vec::new(alloc);
+    let mut left = lines;
+    while let [line, rest @ ..] = left {
+        if begins_test(&line.1) && is_quiet(rest) {
+            quiet.push(line.0)?;
+        }
+        left = rest;
+    }
+    Ok(quiet)
+}
+
+/// The lines at which it is judged that nothing is expected: those of tests, or of a script without tests
+/// its first line. An error means out of memory.
+fn quiet_lines(
+    alloc: Global,
+    lines: &[(LinePlace, ScriptLine)],
+) -> Result<Vec<LinePlace>, AllocError>
+    ensures { IfOk result (λ v. v.items ≡ quiet_lines lines.now) }
+{
+    if has_test(lines) {
+        return quiet_tests(alloc, lines);
+    }
+    if expects_something(lines) {
+        return Ok(Vec::new(alloc));
+    }
+    Vec::from_slice(alloc, &[line_place(1)])
+}
+
+/// Those at which a strict play judges that; none if the play isn't strict. An error means out of memory.
+pub(crate) fn silent_lines(
+    alloc: Global,
+    is_strict: bool,
+    lines: &[(LinePlace, ScriptLine)],
+) -> Result<Vec<LinePlace>, AllocError>
+    ensures { IfOk result (λ v. v.items ≡ silent_lines is_strict lines.now) }
+{
+    if is_strict {
+        quiet_lines(alloc, lines)
+    } else {
+        Ok(Vec::new(alloc))
+    }
+}
+
 /// Whether what a line expects, if there is one, is said of the last step before it.
-pub(crate) fn speaks_of_last(line: &Option<(u64, ScriptLine)>) -> bool
+pub(crate) fn speaks_of_last(line: &Option<(LinePlace, ScriptLine)>) -> bool
     ensures { result ≡ speaks_of_last line.now }
 {
     match line {

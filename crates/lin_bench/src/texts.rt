@@ -7,7 +7,7 @@ ghost use Rattle.lin_text.specs.Written.{Grows, WritesText};
 ghost use Rattle.lin_log.specs.Language.{named_language};
 ghost use Rattle.lin_log.specs.Shown.{as_word};
 ghost use Rattle.lin_bench.specs.LineWords.{spaced_words};
-ghost use Rattle.lin_bench.specs.Texts.{bad_line_text, bytes_word, cluster_text, condition_words, counts_word, end_words, entries_word, expected_text, expected_words, fields_word};
+ghost use Rattle.lin_bench.specs.Texts.{bad_line_text, bad_place_text, bytes_word, cluster_text, condition_words, counts_word, end_words, entries_word, expected_text, expected_words, fields_word};
 ghost use Rattle.lin_bench.specs.declared.expected.Expected.TheVariants.{HasRule};
 ghost use Rattle.lin_bench.specs.declared.rules.RuleEnd.{RuleEnd};
 ghost use Rattle.lin_bench.specs.Texts.{found_text, got_text, hint_words, judged_text, on_end_words};
@@ -17,7 +17,9 @@ ghost use Rattle.lin_bench.specs.Texts.{short_words, since_word, step_reason_wor
 ghost use Rattle.lin_bench.specs.Texts.{unmet_text, verdict_text, what_text, when_end_words, word_if};
 
 use crate::expected::{Condition, Expected, Since};
+use crate::files::ScriptFile;
 use crate::got::{Got, Judged, Judgement, Pending, is_unmet};
+use crate::place::{LinePlace, put_place_number};
 use crate::reason::{Hint, Reason};
 use crate::rules::{Form, RuleEnd};
 use crate::rules_in_force::put_repeating_port;
@@ -218,6 +220,29 @@ pub fn reason_line(reason: &Reason) -> WordList<'_>
         Reason::OnStep => {
             return WordList::of(&[Word::Fixed("on accepts only send, write, switch and sleep")]);
         }
+        Reason::ForScripts(word) => return WordList::of(&[
+            Word::Said(word.as_slice()),
+            Word::Fixed("is for scripts"),
+        ]),
+        Reason::SetForm => return WordList::of(&[Word::Fixed("usage: set NAME TEXT")]),
+        Reason::NoParameter(name) => return WordList::of(&[
+            Word::Fixed("unknown parameter"),
+            Word::Said(name.as_slice()),
+        ]),
+        Reason::HashField(field) => return WordList::of(&[
+            Word::Said(field.as_slice()),
+            Word::Fixed("would begin a comment"),
+        ]),
+        Reason::IncludeForm => return WordList::of(&[Word::Fixed("usage: include FILE")]),
+        Reason::IncludeDepth => return WordList::of(&[Word::Fixed("include is more than 16 deep")]),
+        Reason::Unread(_) => return WordList::of(&[Word::Fixed("read failed")]),
+        Reason::LongFile(_) => return WordList::of(&[Word::Fixed("script too long")]),
+        Reason::LongLine => return WordList::of(&[Word::Fixed("more than 65536 bytes")]),
+        Reason::RepeatForm => return WordList::of(&[Word::Fixed("usage: repeat N")]),
+        Reason::EndWithoutRepeat => return WordList::of(&[Word::Fixed("end without repeat")]),
+        Reason::RepeatWithoutEnd => return WordList::of(&[Word::Fixed("repeat without end")]),
+        Reason::TooManyLines => return WordList::of(&[Word::Fixed("more than 1000000 lines")]),
+        Reason::TestForm => return WordList::of(&[Word::Fixed("usage: test NAME")]),
         Reason::WhenForm => return WordList::of(&[Word::Fixed(
             "usage: when NODE PATTERN answer BYTES, when NODE PATTERN silent or when NODE PATTERN off",
         )]),
@@ -329,32 +354,58 @@ pub fn put_reason<W: Write>(out: &mut TextWriter<'_, W>, reason: &Reason)
     put_word_list(out, &NumberNaming, &reason_line(reason));
 }
 
-fn put_bad_line<W: Write>(out: &mut TextWriter<'_, W>, line: u64, reason: &Reason)
-    ensures { Grows W.contents out.old out.new (bad_line_text line reason.now) }
+/// The place of a bad line; nothing if it includes a file that isn't read.
+fn put_bad_place<W: Write>(
+    out: &mut TextWriter<'_, W>,
+    files: &[ScriptFile],
+    place: LinePlace,
+    reason: &Reason,
+)
+    ensures { Grows W.contents out.old out.new (bad_place_text files.now place reason.now) }
 {
-    out.put_text("script ");
-    out.put_number(line);
-    out.put_text(" bad line: ");
+    match reason {
+        Reason::Unread(_) => {}
+        Reason::LongFile(_) => {}
+        _ => {
+            out.put_text("script ");
+            put_place_number(out, files, place);
+            out.put_text(" bad line: ");
+        }
+    }
+}
+
+fn put_bad_line<W: Write>(
+    out: &mut TextWriter<'_, W>,
+    files: &[ScriptFile],
+    place: LinePlace,
+    reason: &Reason,
+)
+    ensures { Grows W.contents out.old out.new (bad_line_text files.now place reason.now) }
+{
+    put_bad_place(out, files, place, reason);
     put_reason(out, reason);
     out.put_byte(b'\n');
 }
 
-/// Writes the line that says why a line of a bench script is bad: `script LINE bad line: REASON`.
+/// Writes the line that says why a line of a bench script is bad: `script LINE bad line: REASON`, with the
+/// number of the line after the name of its file if the script includes that. For a line that includes a file
+/// that isn't read it is `REASON`.
 ///
 /// # Errors
 /// `WriteFailed` at the first error of the writer; what was written then is the beginning of the
 /// line.
 pub fn write_bad_line<W: Write>(
-    line: u64,
+    files: &[ScriptFile],
+    place: LinePlace,
     reason: &Reason,
     writer: &mut W,
 ) -> Result<(), WriteFailed>
     ensures { WritesText (W.contents writer.old) (W.contents writer.new) result
-        (bad_line_text line reason.now) }
+        (bad_line_text files.now place reason.now) }
 {
     let mut buffer = TextBuffer::empty();
     let mut out = TextWriter::new(writer, &mut buffer);
-    put_bad_line(&mut out, line, reason);
+    put_bad_line(&mut out, files, place, reason);
     out.finish()
 }
 
@@ -857,40 +908,53 @@ pub fn put_judged<W: Write>(out: &mut TextWriter<'_, W>, cluster: &Cluster, judg
 }
 
 /// The line of a judgement, where it isn't met.
-pub fn put_unmet<W: Write>(out: &mut TextWriter<'_, W>, cluster: &Cluster, judgement: &Judgement)
-    ensures { Grows W.contents out.old out.new (unmet_text cluster.now judgement.now) }
+pub fn put_unmet<W: Write>(
+    out: &mut TextWriter<'_, W>,
+    cluster: &Cluster,
+    files: &[ScriptFile],
+    judgement: &Judgement,
+)
+    ensures { Grows W.contents out.old out.new (unmet_text cluster.now files.now judgement.now) }
 {
     if is_unmet(&judgement.judged) {
         out.put_text("script ");
-        out.put_number(judgement.line);
+        put_place_number(out, files, judgement.place);
         put_judged(out, cluster, &judgement.judged);
         out.put_byte(b'\n');
     }
 }
 
-fn put_all_unmet<W: Write>(out: &mut TextWriter<'_, W>, cluster: &Cluster, judgements: &[Judgement])
-    ensures { Grows W.contents out.old out.new (flat_map (unmet_text cluster.now) judgements.now) }
+fn put_all_unmet<W: Write>(
+    out: &mut TextWriter<'_, W>,
+    cluster: &Cluster,
+    files: &[ScriptFile],
+    judgements: &[Judgement],
+)
+    ensures { Grows W.contents out.old out.new
+        (flat_map (unmet_text cluster.now files.now) judgements.now) }
 {
     for one in judgements {
-        put_unmet(out, cluster, one);
+        put_unmet(out, cluster, files, one);
     }
 }
 
-/// Writes a line for each expectation that isn't met, in order: `script LINE expected WHAT: GOT`.
+/// Writes a line for each expectation that isn't met, in order: `script LINE expected WHAT: GOT`, with the
+/// number of the line after the name of its file if the script includes that.
 ///
 /// # Errors
 /// `WriteFailed` at the first error of the writer; what was written then is the beginning of the
 /// lines.
 pub fn write_unmet<W: Write>(
     cluster: &Cluster,
+    files: &[ScriptFile],
     judgements: &[Judgement],
     writer: &mut W,
 ) -> Result<(), WriteFailed>
     ensures { WritesText (W.contents writer.old) (W.contents writer.new) result
-        (flat_map (unmet_text cluster.now) judgements.now) }
+        (flat_map (unmet_text cluster.now files.now) judgements.now) }
 {
     let mut buffer = TextBuffer::empty();
     let mut out = TextWriter::new(writer, &mut buffer);
-    put_all_unmet(&mut out, cluster, judgements);
+    put_all_unmet(&mut out, cluster, files, judgements);
     out.finish()
 }

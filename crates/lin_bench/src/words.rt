@@ -10,7 +10,7 @@ ghost use Rattle.lin_bench.specs.Parts.{worded_line_of};
 ghost use Rattle.lin_bench.specs.Read.{Gives};
 ghost use Rattle.lin_bench.specs.Words.{expected_line, from_end, in_numbers, is_expect, is_expectation_word, is_value_mark};
 ghost use Rattle.lin_bench.specs.Words.{by_wish, limited, line_in_words, nearest_line, worded_by, written_line};
-ghost use Rattle.lin_bench.specs.Words.{is_write, meant_line, read_worded_line, wish_of};
+ghost use Rattle.lin_bench.specs.Words.{is_test, is_write, meant_line, read_worded_line, wish_of};
 ghost use Rattle.lin_bench.specs.Words.{line_with_signal, marked_line, said_line, worded_signal};
 ghost use Rattle.lin_bench.specs.Words.{without_comment, worded, worded_line, worded_or_plain};
 
@@ -84,10 +84,23 @@ pub(crate) fn is_expect(before: &[&[u8]]) -> bool
         && (expects_after(before, 2) || is_from_end(before, 2, b"not") && expects_after(before, 3))
 }
 
-/// What the fields before a signal and the mark behind it ask for.
+/// Whether fields are those of a test.
+fn is_test(before: &[&[u8]]) -> bool
+    ensures { result ≡ is_test (field_texts before.now) }
+{
+    match before {
+        [first, ..] => *first == b"test".as_slice(),
+        [] => false,
+    }
+}
+
+/// What the fields before a signal and the mark behind it ask for; nothing if they are of a test's name.
 fn wish_of(before: &[&[u8]], mark: &[u8]) -> Option<Wish>
     ensures { result ≡ wish_of (field_texts before.now) mark.now }
 {
+    if is_test(before) {
+        return None;
+    }
     if is_expect(before) {
         return if mark == b"=".as_slice() {
             Some(Wish::Expect)

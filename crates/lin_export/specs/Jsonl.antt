@@ -2,7 +2,7 @@
 -- write, each event of a message, sleep and wake-up, or a step that was refused; failed checks; the end.
 use Rattle.std.specs.Prelude.{◌≡◌, ℕ, ◌+◌, ◌-◌, ◌==◌, Bool, not, ◌&&◌, ◌||◌, if◌then◌else◌, List, []}
 use Rattle.std.specs.Prelude.{◌∷◌, ◌++◌, length, map, flat_map, codes, drop, reverse, take, zip, slice_get}
-use Rattle.std.specs.Prelude.{slice_index, Option, None}
+use Rattle.std.specs.Prelude.{slice_index, Option, None, Some, option_map}
 use Rattle.std.specs.Fmt.{decimal}
 use Rattle.std.specs.Option.{option_map_or}
 use Rattle.lin_frame.specs.Bits.{unpacked_value}
@@ -364,21 +364,28 @@ objects_between c k r =
 abbrev pub last_slot_number : ℕ → List ℕ
 last_slot_number count = if count == 0 then null else decimal (count - 1)
 
--- a check of a script's line that failed after a history: what was expected, and what is so instead
-abbrev pub unmet_line : Parts → List LogEntry → List ℕ → ℕ → List ℕ → List ℕ → List ℕ
-unmet_line c past script line what got =
+-- the name of a test; null outside of tests
+abbrev pub test_shown : Option (List ℕ) → List ℕ
+test_shown None = null
+test_shown (Some name) = printable_text name
+
+-- a check of a script's line that failed after a history: its test, what was expected, and what is so
+-- instead
+abbrev pub unmet_line : Parts → List LogEntry → List ℕ → ℕ → Option (List ℕ) → List ℕ → List ℕ → List ℕ
+unmet_line c past script line test what got =
     object_line (codes "unmet")
     (time_member (time c past)
     ∷ member (codes "slot") (last_slot_number (finished_slot_count past))
     ∷ member (codes "script") (printable_text script)
     ∷ member (codes "line") (decimal line)
-    ∷ member (codes "test") null
+    ∷ member (codes "test") (test_shown test)
     ∷ member (codes "what") (printable_text what)
     ∷ member (codes "got") (printable_text got)
     ∷ [])
 
 abbrev pub unmet_object : Parts → List LogEntry → Unmet → List ℕ
-unmet_object c past unmet = unmet_line c past unmet.script.now unmet.line unmet.what.now unmet.got.now
+unmet_object c past unmet =
+    unmet_line c past unmet.script.now unmet.line (option_map (λ t. t.now) unmet.test) unmet.what.now unmet.got.now
 
 -- the end of a run: its time, its finished slots, and its checks, refused steps and messages in numbers
 abbrev pub end_line : Parts → List LogEntry → Counts → List ℕ

@@ -1,7 +1,7 @@
 //! Logs as objects of JSON, one a line.
 
 ghost use Rattle.std.specs.Prelude.{◌≡◌, ◌<◌, ◌≤◌, ◌^◌, ◌∷◌, ℕ, [], IfOk, List, OnOk, codes, flat_map};
-ghost use Rattle.std.specs.Prelude.{length, map, reverse, slice_index, take};
+ghost use Rattle.std.specs.Prelude.{length, map, option_map, reverse, slice_index, take};
 ghost use Rattle.std.specs.Fmt.{decimal};
 ghost use Rattle.lin_parts.specs.Cluster.{nodes};
 ghost use Rattle.lin_parts.specs.declared.parts.Parts.{Parts};
@@ -14,7 +14,7 @@ ghost use Rattle.lin_export.specs.Jsonl.{IfObjectsOf, IsObjectTrackOf, accepted_
 ghost use Rattle.lin_export.specs.Jsonl.{last_slot_number, lost_line, message_line, nad_value, node_text};
 ghost use Rattle.lin_export.specs.Jsonl.{entries_before, entries_to_end, objects_between, objects_from, receiver_member, refused_line, run_line, sending_members};
 ghost use Rattle.lin_export.specs.Jsonl.{sent_line, settled_after, settled_all, step_object};
-ghost use Rattle.lin_export.specs.Jsonl.{step_text, unmet_object, written_line};
+ghost use Rattle.lin_export.specs.Jsonl.{step_text, test_shown, unmet_object, written_line};
 ghost use Rattle.lin_export.specs.Members.{member_shown};
 ghost use Rattle.lin_export.specs.PutsGroups.{AreCounts};
 ghost use Rattle.lin_export.specs.Putting.{PutsAll};
@@ -592,9 +592,9 @@ impl ObjectTrack {
             &[
                 Member::Number("time_us", self.track.time()),
                 self.slot_member(),
-                Member::Printable("script", unmet.script.as_bytes()),
+                Member::Printable("script", unmet.script),
                 Member::Number("line", unmet.line),
-                Member::Null("test"),
+                test_member(unmet.test),
                 Member::Printable("what", unmet.what),
                 Member::Printable("got", unmet.got),
             ],
@@ -623,6 +623,16 @@ impl ObjectTrack {
     }
 }
 
+/// The name of a test, null outside of tests.
+fn test_member(test: Option<&[u8]>) -> Member<'_>
+    ensures { member_shown result ≡ member (codes "test") (test_shown (option_map (λ t. t.now) test.entry)) }
+{
+    match test {
+        Some(name) => Member::Printable("test", name),
+        None => Member::Null("test"),
+    }
+}
+
 /// A range of the entries of a log: from index `from` up to index `end`, without it.
 #[derive(Clone, Copy)]
 pub struct LogRange<'a> {
@@ -631,12 +641,14 @@ pub struct LogRange<'a> {
     pub end: usize,
 }
 
-/// A failed check: the name of the script, the number of its line, what was expected, and what is so
-/// instead.
+/// A failed check: the name of the script, the number of its line, the name of its test, what was
+/// expected, and what is so instead.
 #[derive(Clone, Copy)]
 pub struct Unmet<'a> {
-    pub script: &'a str,
+    pub script: &'a [u8],
     pub line: u64,
+    /// `None` outside of tests.
+    pub test: Option<&'a [u8]>,
     pub what: &'a [u8],
     pub got: &'a [u8],
 }

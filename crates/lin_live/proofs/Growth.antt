@@ -21,13 +21,13 @@ use Rattle.lin_bench.specs.declared.got.Verdict.TheVariants.{SlotLimit}
 use Rattle.lin_bench.specs.declared.line.ScriptLine.{ScriptLine}
 use Rattle.lin_bench.specs.declared.line.ScriptLine.TheVariants as line
 use Rattle.lin_bench.specs.Fields.{line_fields}
-use Rattle.lin_bench.specs.Scripts.{without_mark}
+use Rattle.lin_bench.specs.Written.{without_mark}
 use Rattle.lin_bench.specs.Words.{read_worded_line}
 use Rattle.lin_bench.specs.declared.reason.Reason.{Reason as ScriptReason}
 use Rattle.lin_values.specs.Coded.{CodedData}
 use Rattle.lin_live.specs.Answers.{AnswersAreTheLog, AnswersAreWritten, KeepsLog, answers, answers_text}
 use Rattle.lin_live.specs.Asked.{◌>>=◌, question}
-use Rattle.lin_live.specs.Heard.{Heard, heard_in, of_script}
+use Rattle.lin_live.specs.Heard.{Heard, heard_in, of_line, of_script}
 use Rattle.lin_live.specs.Marking.{Marked, back_name, has_first_word, bench_at, mark_name}
 use Rattle.lin_live.specs.declared.question.Question.{Question}
 use Rattle.lin_live.specs.Told.{HandData, answer_text, gone_back, line_answer, heard_as, shown_coding, heard_answer, without_byte_order_mark}
@@ -108,6 +108,7 @@ kept-made c opening capacity P keeps b (line.Until extent what) h = kept-line c 
 kept-made c opening capacity P keeps b (line.While extent what) h = kept-line c opening capacity P keeps b (line.While extent what) h
 kept-made c opening capacity P keeps b (line.Expect what) h = kept-line c opening capacity P keeps b (line.Expect what) h
 kept-made c opening capacity P keeps b line.Forget h = h
+kept-made c opening capacity P keeps b (line.Test name) h = h
 kept-made c opening capacity P keeps b (line.Rule rule) h = h
 
 pub grown-made : (c : Parts) (opening capacity : ℕ) (b : BenchState) (l : ScriptLine) → Grown b.past (made c opening capacity b l).0.past
@@ -126,9 +127,20 @@ abbrev pub IsForward : Result (Option Heard) Reason → Type 0
 IsForward (Ok (Some (GoBack name))) = ⊥
 IsForward said = Unit {0}
 
+step-forward : (l : ScriptLine) → IsForward (of_line l)
+step-forward (line.Test name) = tt
+step-forward (line.Step by step) = tt
+step-forward (line.Slot how) = tt
+step-forward (line.Slots s) = tt
+step-forward (line.Until s what) = tt
+step-forward (line.While s what) = tt
+step-forward (line.Expect what) = tt
+step-forward line.Forget = tt
+step-forward (line.Rule rule) = tt
+
 script-forward : (r : Result (Option ScriptLine) ScriptReason) → IsForward (of_script r)
 script-forward (Ok None) = tt
-script-forward (Ok (Some line)) = tt
+script-forward (Ok (Some l)) = step-forward l
 script-forward (Err why) = tt
 
 question-forward : (r : Result Question Reason) → IsForward (r >>= (λ asked. Ok (Some (Ask asked))))

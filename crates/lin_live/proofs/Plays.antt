@@ -15,15 +15,19 @@ use Rattle.lin_bench.specs.Scripts.{Script, read_lines, with_read_line}
 use Rattle.lin_bench.specs.Made.{BenchState, expects_from, bench_with_verdict, made, made_within, steps_said, slots_made, bench_after_steps}
 use Rattle.lin_bench.specs.Played.{Run, come_to, initial_bench, in_turn, is_unmet as is_missed, judged_from, judgements, next, on_line, own, some_unmet, line_result as run_told, with_judgements}
 use Rattle.lin_bench.specs.Slots.{most, slot_limit}
+use Rattle.lin_bench.specs.Strict.{begins_test, has_test}
+use Rattle.lin_bench.specs.Written.{line_place}
 use Rattle.lin_bench.specs.Words.{read_worded_line}
 use Rattle.lin_bench.specs.declared.expected.Expected.{Expected}
 use Rattle.lin_bench.specs.declared.got.Judgement.{Judgement}
 use Rattle.lin_bench.specs.declared.got.Verdict.{Verdict}
 use Rattle.lin_bench.specs.declared.got.Verdict.TheVariants.{Nothing, Met, Unmet, SlotLimit}
 use Rattle.lin_bench.specs.declared.line.ScriptLine.{ScriptLine}
+use Rattle.lin_bench.specs.declared.place.LinePlace.{LinePlace}
 use Rattle.lin_bench.specs.declared.line.ScriptLine.TheVariants as line
 use Rattle.lin_bench.specs.declared.reason.Reason.{Reason}
-use Rattle.lin_live.specs.Heard.{heard_in, of_script}
+use Rattle.lin_live.specs.Heard.{heard_in, of_line, of_script}
+use Rattle.lin_live.specs.Heard.Heard.{Make}
 use Rattle.lin_live.specs.Told.{HandData, after_line, is_limit, is_unmet_verdict, reply, heard_answer}
 use Rattle.lin_live.specs.Transcript.{state_after, most_bytes, short}
 use Rattle.lin_bench.proofs.Runs.{told-bench}
@@ -79,6 +83,7 @@ alike-made c opening capacity b more (line.Until extent what) le = alike-line c 
 alike-made c opening capacity b more (line.While extent what) le = alike-line c opening capacity b more (line.While extent what) le
 alike-made c opening capacity b more (line.Expect what) le = alike-line c opening capacity b more (line.Expect what) le
 alike-made c opening capacity b more line.Forget le = λ h. (refl, refl, refl, refl)
+alike-made c opening capacity b more (line.Test name) le = λ h. (refl, refl, refl, refl)
 alike-made c opening capacity b more (line.Rule rule) le = λ h. (refl, refl, refl, refl)
 
 -- ---- slots that are left
@@ -111,10 +116,11 @@ less-made c opening capacity b (line.Until extent what) = less-line c opening ca
 less-made c opening capacity b (line.While extent what) = less-line c opening capacity b (line.While extent what)
 less-made c opening capacity b (line.Expect what) = less-line c opening capacity b (line.Expect what)
 less-made c opening capacity b line.Forget = omega arith
+less-made c opening capacity b (line.Test name) = omega arith
 less-made c opening capacity b (line.Rule rule) = omega arith
 
 -- ---- one line
-not-limit : (n : ℕ) (b end : BenchState) (v : Verdict) → run_told n b v ≡ Ok end → is_limit v ≡ false
+not-limit : (n : LinePlace) (b end : BenchState) (v : Verdict) → run_told n b v ≡ Ok end → is_limit v ≡ false
 not-limit n b end SlotLimit h = absurd (cc)
 not-limit n b end (Unmet what got) h = refl
 not-limit n b end Nothing h = refl
@@ -128,19 +134,19 @@ or-assoc : (x y z : Bool) → ((x || y) || z) ≡ (x || (y || z))
 or-assoc true y z = refl
 or-assoc false y z = refl
 
-own-unmet : (n entries : ℕ) (v : Verdict) → some_unmet (on_line n entries (own v) ++ []) ≡ is_unmet_verdict v
+own-unmet : (n : LinePlace) (entries : ℕ) (v : Verdict) → some_unmet (on_line n entries (own v) ++ []) ≡ is_unmet_verdict v
 own-unmet n entries SlotLimit = refl
 own-unmet n entries (Unmet what got) = refl
 own-unmet n entries Nothing = refl
 own-unmet n entries (Met what) = refl
 
 -- what is unmet of a line and of those after it
-unmet-more : (c : Parts) (opening capacity : ℕ) (b : BenchState) (l : ℕ × ScriptLine) (ls : List (ℕ × ScriptLine))
-    → some_unmet (judged_from false false c opening capacity b (l ∷ ls))
-    ≡ (is_unmet_verdict (made c opening capacity b l.1).1 || some_unmet (judged_from false false c opening capacity (made c opening capacity b l.1).0 ls))
+unmet-more : (c : Parts) (opening capacity : ℕ) (b : BenchState) (l : LinePlace × ScriptLine) (ls : List (LinePlace × ScriptLine))
+    → some_unmet (judged_from false [] c opening capacity b (l ∷ ls))
+    ≡ (is_unmet_verdict (made c opening capacity b l.1).1 || some_unmet (judged_from false [] c opening capacity (made c opening capacity b l.1).0 ls))
 unmet-more c opening capacity b l ls =
     let m = made c opening capacity b l.1 in
-    let rest = judged_from false false c opening capacity m.0 ls in
+    let rest = judged_from false [] c opening capacity m.0 ls in
     list_any-append (λ (j : Judgement). is_missed j.judged) (on_line l.0 (length m.0.past) (own m.1) ++ []) rest
     ∙ ap (λ t. t || some_unmet rest) (own-unmet l.0 (length m.0.past) m.1)
 
@@ -169,7 +175,7 @@ same-hand : (f : AnswerFormat) (coded : Option CodedData) (limits : List NodeLim
     → hand_with f coded limits physical c opening capacity p bad unmet ≡ hand_with f coded limits physical c opening capacity q false wanted
 same-hand f coded limits physical c opening capacity p q bad unmet wanted e e2 g h k = cc
 
-line-same : (f : AnswerFormat) (coded : Option CodedData) (limits : List NodeLimits) (physical : Bool) (c : Parts) (opening capacity : ℕ) (b s : BenchState) (unmet : Bool) (l : ℕ × ScriptLine) → b.left ≤ slot_limit → next c opening capacity b l ≡ Ok s
+line-same : (f : AnswerFormat) (coded : Option CodedData) (limits : List NodeLimits) (physical : Bool) (c : Parts) (opening capacity : ℕ) (b s : BenchState) (unmet : Bool) (l : LinePlace × ScriptLine) → b.left ≤ slot_limit → next c opening capacity b l ≡ Ok s
     → (after_line (hand_of f coded limits physical c opening capacity b unmet) (made c opening capacity (hand_of f coded limits physical c opening capacity b unmet).bench l.1)).0
     ≡ hand_of f coded limits physical c opening capacity s (unmet || is_unmet_verdict (made c opening capacity b l.1).1)
 line-same f coded limits physical c opening capacity b s unmet l le h =
@@ -183,7 +189,7 @@ line-same f coded limits physical c opening capacity b s unmet l le h =
     (alike.2 ∙ ap (λ (x : BenchState). x.taken) came)
     (ap is_limit alike.3 ∙ limit) (ap (λ v. unmet || is_unmet_verdict v) alike.3)
 
-line-less : (c : Parts) (opening capacity : ℕ) (b s : BenchState) (l : ℕ × ScriptLine) → b.left ≤ slot_limit → next c opening capacity b l ≡ Ok s → s.left ≤ slot_limit
+line-less : (c : Parts) (opening capacity : ℕ) (b s : BenchState) (l : LinePlace × ScriptLine) → b.left ≤ slot_limit → next c opening capacity b l ≡ Ok s → s.left ≤ slot_limit
 line-less c opening capacity b s l le h =
     let m = made c opening capacity b l.1 in
     let came = told-bench l.0 m.0 s m.1 h in
@@ -217,11 +223,11 @@ answer-of f coded limits physical c opening capacity b unmet line said plain e =
     ∙ ap (λ s. (heard_answer h s).0) (heard-plain c coded limits line (line_fields line) plain.1 ∙ ap of_script e)
 
 -- ---- all lines
-abbrev lines_or : Script → List (ℕ × ScriptLine)
+abbrev lines_or : Script → List (LinePlace × ScriptLine)
 lines_or (Ok ls) = ls
 lines_or (Err bad) = []
 
-abbrev bench_or : BenchState → Result BenchState ℕ → BenchState
+abbrev bench_or : BenchState → Result BenchState LinePlace → BenchState
 bench_or b (Ok s) = s
 bench_or b (Err n) = b
 
@@ -231,64 +237,83 @@ Same f coded limits physical c opening capacity ls b unmet end more =
     state_after reply (hand_of f coded limits physical c opening capacity b unmet) (map strip_carriage_return ls) ≡ hand_of f coded limits physical c opening capacity end (unmet || more)
 
 abbrev pub Goes : AnswerFormat → Option CodedData → List NodeLimits → Bool → Parts → ℕ → ℕ → List (List ℕ) → Type 0
-Goes f coded limits physical c opening capacity ls = (n : ℕ) (b end : BenchState) (unmet : Bool) (said : List (ℕ × ScriptLine)) → b.left ≤ slot_limit
-    → read_lines c coded limits n ls ≡ Ok said → in_turn c opening capacity (Ok b) said ≡ Ok end
-    → Same f coded limits physical c opening capacity ls b unmet end (some_unmet (judged_from false false c opening capacity b said))
+Goes f coded limits physical c opening capacity ls = (n : ℕ) (b end : BenchState) (unmet : Bool) (said : List (LinePlace × ScriptLine)) → b.left ≤ slot_limit
+    → has_test said ≡ false → read_lines c coded limits n ls ≡ Ok said → in_turn c opening capacity (Ok b) said ≡ Ok end
+    → Same f coded limits physical c opening capacity ls b unmet end (some_unmet (judged_from false [] c opening capacity b said))
 
 nothing-goes : (f : AnswerFormat) (coded : Option CodedData) (limits : List NodeLimits) (physical : Bool) (c : Parts) (opening capacity : ℕ) → Goes f coded limits physical c opening capacity []
-nothing-goes f coded limits physical c opening capacity n b end unmet [] le e h =
+nothing-goes f coded limits physical c opening capacity n b end unmet [] le none e h =
     ap (λ o. hand_of f coded limits physical c opening capacity (bench_or b o) unmet) h ∙ ap (hand_of f coded limits physical c opening capacity end) (sym (or-none unmet))
-nothing-goes f coded limits physical c opening capacity n b end unmet (x ∷ xs) le e h = absurd (cc)
+nothing-goes f coded limits physical c opening capacity n b end unmet (x ∷ xs) le none e h = absurd (cc)
 
 -- after a line that was made
-next-goes : (f : AnswerFormat) (coded : Option CodedData) (limits : List NodeLimits) (physical : Bool) (c : Parts) (opening capacity : ℕ) (b end : BenchState) (unmet : Bool) (l : ℕ × ScriptLine) (line : List ℕ) (ls : List (List ℕ)) (rest : List (ℕ × ScriptLine)) (o : Result BenchState ℕ)
-    → b.left ≤ slot_limit → Goes f coded limits physical c opening capacity ls → (n : ℕ) → read_lines c coded limits n ls ≡ Ok rest
+next-goes : (f : AnswerFormat) (coded : Option CodedData) (limits : List NodeLimits) (physical : Bool) (c : Parts) (opening capacity : ℕ) (b end : BenchState) (unmet : Bool) (l : LinePlace × ScriptLine) (line : List ℕ) (ls : List (List ℕ)) (rest : List (LinePlace × ScriptLine)) (o : Result BenchState LinePlace)
+    → b.left ≤ slot_limit → Goes f coded limits physical c opening capacity ls → (n : ℕ) → has_test rest ≡ false → read_lines c coded limits n ls ≡ Ok rest
     → (reply (hand_of f coded limits physical c opening capacity b unmet) (short (strip_carriage_return line))).0
     ≡ (after_line (hand_of f coded limits physical c opening capacity b unmet) (made c opening capacity (hand_of f coded limits physical c opening capacity b unmet).bench l.1)).0
     → next c opening capacity b l ≡ o → in_turn c opening capacity o rest ≡ Ok end
-    → Same f coded limits physical c opening capacity (line ∷ ls) b unmet end (some_unmet (judged_from false false c opening capacity b (l ∷ rest)))
-next-goes f coded limits physical c opening capacity b end unmet l line ls rest (Err k) le goes n e a is h = absurd (cc)
-next-goes f coded limits physical c opening capacity b end unmet l line ls rest (Ok s) le goes n e a is h =
+    → Same f coded limits physical c opening capacity (line ∷ ls) b unmet end (some_unmet (judged_from false [] c opening capacity b (l ∷ rest)))
+next-goes f coded limits physical c opening capacity b end unmet l line ls rest (Err k) le goes n none e a is h = absurd (cc)
+next-goes f coded limits physical c opening capacity b end unmet l line ls rest (Ok s) le goes n none e a is h =
     let m = made c opening capacity b l.1 in
     let came = told-bench l.0 m.0 s m.1 is in
-    let more = some_unmet (judged_from false false c opening capacity s rest) in
+    let more = some_unmet (judged_from false [] c opening capacity s rest) in
     ap (λ t. state_after reply t (map strip_carriage_return ls)) (a ∙ line-same f coded limits physical c opening capacity b s unmet l le is)
-    ∙ goes n s end (unmet || is_unmet_verdict m.1) rest (line-less c opening capacity b s l le is) e h
+    ∙ goes n s end (unmet || is_unmet_verdict m.1) rest (line-less c opening capacity b s l le is) none e h
     ∙ ap (hand_of f coded limits physical c opening capacity end)
     (or-assoc unmet (is_unmet_verdict m.1) more
-    ∙ ap (λ x. unmet || (is_unmet_verdict m.1 || some_unmet (judged_from false false c opening capacity x rest))) (sym came)
+    ∙ ap (λ x. unmet || (is_unmet_verdict m.1 || some_unmet (judged_from false [] c opening capacity x rest))) (sym came)
     ∙ ap (λ t. unmet || t) (sym (unmet-more c opening capacity b l rest)))
 
+-- a line that begins no test
+made-plain : (l : ScriptLine) → begins_test l ≡ false → of_line l ≡ Ok (Some (Make l))
+made-plain (line.Test name) h = absurd (cc)
+made-plain (line.Step by step) h = refl
+made-plain (line.Slot how) h = refl
+made-plain (line.Slots s) h = refl
+made-plain (line.Until s what) h = refl
+made-plain (line.While s what) h = refl
+made-plain (line.Expect what) h = refl
+made-plain line.Forget h = refl
+made-plain (line.Rule rule) h = refl
+
+neither-of : (a b : Bool) → (a || b) ≡ false → (a ≡ false) × (b ≡ false)
+neither-of false false h = (refl, refl)
+neither-of true b h = absurd (cc)
+neither-of false true h = absurd (cc)
+
 -- a line that says this, with those after it
-line-goes : (f : AnswerFormat) (coded : Option CodedData) (limits : List NodeLimits) (physical : Bool) (c : Parts) (opening capacity n : ℕ) (b end : BenchState) (unmet : Bool) (line : List ℕ) (ls : List (List ℕ)) (said : List (ℕ × ScriptLine)) (this : Result (Option ScriptLine) Reason) (more : Script)
+line-goes : (f : AnswerFormat) (coded : Option CodedData) (limits : List NodeLimits) (physical : Bool) (c : Parts) (opening capacity n : ℕ) (b end : BenchState) (unmet : Bool) (line : List ℕ) (ls : List (List ℕ)) (said : List (LinePlace × ScriptLine)) (this : Result (Option ScriptLine) Reason) (more : Script)
     → b.left ≤ slot_limit → IsPlain line → Goes f coded limits physical c opening capacity ls → read_worded_line c coded limits (strip_carriage_return line) ≡ this
-    → read_lines c coded limits (n + 1) ls ≡ more → with_read_line n this more ≡ Ok said → in_turn c opening capacity (Ok b) said ≡ Ok end
-    → Same f coded limits physical c opening capacity (line ∷ ls) b unmet end (some_unmet (judged_from false false c opening capacity b said))
-line-goes f coded limits physical c opening capacity n b end unmet line ls said (Err why) more le plain goes is rest e h = absurd (cc)
-line-goes f coded limits physical c opening capacity n b end unmet line ls said (Ok None) more le plain goes is rest e h =
+    → has_test said ≡ false → read_lines c coded limits (n + 1) ls ≡ more → with_read_line (line_place n) this more ≡ Ok said → in_turn c opening capacity (Ok b) said ≡ Ok end
+    → Same f coded limits physical c opening capacity (line ∷ ls) b unmet end (some_unmet (judged_from false [] c opening capacity b said))
+line-goes f coded limits physical c opening capacity n b end unmet line ls said (Err why) more le plain goes is none rest e h = absurd (cc)
+line-goes f coded limits physical c opening capacity n b end unmet line ls said (Ok None) more le plain goes is none rest e h =
     ap (λ t. state_after reply t (map strip_carriage_return ls)) (answer-of f coded limits physical c opening capacity b unmet (strip_carriage_return line) (Ok None) plain is)
-    ∙ goes (n + 1) b end unmet said le (rest ∙ e) h
-line-goes f coded limits physical c opening capacity n b end unmet line ls said (Ok (Some l)) (Err bad) le plain goes is rest e h = absurd (cc)
-line-goes f coded limits physical c opening capacity n b end unmet line ls said (Ok (Some l)) (Ok tail) le plain goes is rest e h =
-    let same : (n, l) ∷ tail ≡ said = ap lines_or e in
-    ap (λ t. t) (next-goes f coded limits physical c opening capacity b end unmet (n, l) line ls tail (next c opening capacity b (n, l)) le goes (n + 1) rest
-    (answer-of f coded limits physical c opening capacity b unmet (strip_carriage_return line) (Ok (Some l)) plain is) refl
+    ∙ goes (n + 1) b end unmet said le none (rest ∙ e) h
+line-goes f coded limits physical c opening capacity n b end unmet line ls said (Ok (Some l)) (Err bad) le plain goes is none rest e h = absurd (cc)
+line-goes f coded limits physical c opening capacity n b end unmet line ls said (Ok (Some l)) (Ok tail) le plain goes is none rest e h =
+    let same : (line_place n, l) ∷ tail ≡ said = ap lines_or e in
+    let nor = neither-of (begins_test l) (has_test tail) (ap has_test same ∙ none) in
+    let h0 = hand_of f coded limits physical c opening capacity b unmet in
+    ap (λ t. t) (next-goes f coded limits physical c opening capacity b end unmet (line_place n, l) line ls tail (next c opening capacity b (line_place n, l)) le goes (n + 1) nor.1 rest
+    (answer-of f coded limits physical c opening capacity b unmet (strip_carriage_return line) (Ok (Some l)) plain is ∙ ap (λ s. (heard_answer h0 s).0) (made-plain l nor.0)) refl
     (ap (λ ls. in_turn c opening capacity (Ok b) ls) same ∙ h))
-    ∙ ap (λ ls. hand_of f coded limits physical c opening capacity end (unmet || some_unmet (judged_from false false c opening capacity b ls))) same
+    ∙ ap (λ ls. hand_of f coded limits physical c opening capacity end (unmet || some_unmet (judged_from false [] c opening capacity b ls))) same
 
 all-go : (f : AnswerFormat) (coded : Option CodedData) (limits : List NodeLimits) (physical : Bool) (c : Parts) (opening capacity : ℕ) (ls : List (List ℕ)) → AllByRecursion IsPlain ls → Goes f coded limits physical c opening capacity ls
 all-go f coded limits physical c opening capacity [] p = nothing-goes f coded limits physical c opening capacity
-all-go f coded limits physical c opening capacity (line ∷ ls) p = λ n b end unmet said le e h.
-    line-goes f coded limits physical c opening capacity n b end unmet line ls said (read_worded_line c coded limits (strip_carriage_return line)) (read_lines c coded limits (n + 1) ls) le p.0 (all-go f coded limits physical c opening capacity ls p.1) refl refl e h
+all-go f coded limits physical c opening capacity (line ∷ ls) p = λ n b end unmet said le none e h.
+    line-goes f coded limits physical c opening capacity n b end unmet line ls said (read_worded_line c coded limits (strip_carriage_return line)) (read_lines c coded limits (n + 1) ls) le p.0 (all-go f coded limits physical c opening capacity ls p.1) refl none refl e h
 
 -- what the lines of a play come to
-played-bench : (js : List Judgement) (o : Result BenchState ℕ) (run : Run) → with_judgements js o ≡ Ok run → (o ≡ Ok run.bench) × (js ≡ run.judgements)
+played-bench : (js : List Judgement) (o : Result BenchState LinePlace) (run : Run) → with_judgements js o ≡ Ok run → (o ≡ Ok run.bench) × (js ≡ run.judgements)
 played-bench js (Err n) run h = absurd (cc)
 played-bench js (Ok b) run h = (cc, cc)
 
 pub live-is-play : LiveIsPlay
-live-is-play f coded limits physical c opening capacity ls said run plain e h =
+live-is-play f coded limits physical c opening capacity ls said run plain none e h =
     let js = judgements false c opening capacity said in
     let is = played-bench js (come_to c opening capacity said) run h in
-    all-go f coded limits physical c opening capacity ls plain 1 initial_bench run.bench false said (omega arith) e is.0
+    all-go f coded limits physical c opening capacity ls plain 1 initial_bench run.bench false said (omega arith) none e is.0
     ∙ ap (hand_of f coded limits physical c opening capacity run.bench) (ap some_unmet is.1)

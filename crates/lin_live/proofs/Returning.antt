@@ -15,13 +15,14 @@ use Rattle.lin_bench.specs.declared.rules.NodeLimits.{NodeLimits}
 use Rattle.lin_bench.specs.Fields.{line_fields}
 use Rattle.lin_bench.specs.Made.{BenchState}
 use Rattle.lin_bench.specs.Played.{initial_bench}
-use Rattle.lin_bench.specs.Scripts.{without_mark}
+use Rattle.lin_bench.specs.Written.{without_mark}
 use Rattle.lin_bench.specs.Words.{read_worded_line}
 use Rattle.lin_bench.specs.declared.line.ScriptLine.{ScriptLine}
+use Rattle.lin_bench.specs.declared.line.ScriptLine.TheVariants as line
 use Rattle.lin_bench.specs.declared.reason.Reason.{Reason as ScriptReason}
 use Rattle.lin_live.specs.Asked.{◌>>=◌, question}
 use Rattle.lin_live.specs.GoingBack.{BackRestores, GoesBack, MarksStay, SetsMark}
-use Rattle.lin_live.specs.Heard.{Heard, heard_in, of_script}
+use Rattle.lin_live.specs.Heard.{Heard, heard_in, of_line, of_script}
 use Rattle.lin_live.specs.Marking.{Marked, back_name, bench_at, bench_at_place, is_other, lone_name, mark_name, mark_place, start_name, unless_start, with_mark}
 use Rattle.lin_live.specs.Told.{HandData, gone_back, heard_answer, heard_as, reply, without_byte_order_mark}
 use Rattle.lin_live.specs.Transcript.{short, state_after}
@@ -41,9 +42,20 @@ back_said name = Ok (Some (GoBack name))
 abbrev IsNamed : List ℕ → Result (Option Heard) Reason → Type 0
 IsNamed name said = said ≡ Ok (Some (SetMark name)) → bytes_eq name start_name ≡ false
 
+line-of-named : (name : List ℕ) (l : ScriptLine) → IsNamed name (of_line l)
+line-of-named name (line.Test test) e = absurd (cc)
+line-of-named name (line.Step by step) e = absurd (cc)
+line-of-named name (line.Slot how) e = absurd (cc)
+line-of-named name (line.Slots s) e = absurd (cc)
+line-of-named name (line.Until s what) e = absurd (cc)
+line-of-named name (line.While s what) e = absurd (cc)
+line-of-named name (line.Expect what) e = absurd (cc)
+line-of-named name line.Forget e = absurd (cc)
+line-of-named name (line.Rule rule) e = absurd (cc)
+
 script-named : (name : List ℕ) (r : Result (Option ScriptLine) ScriptReason) → IsNamed name (of_script r)
 script-named name (Ok None) e = absurd (cc)
-script-named name (Ok (Some line)) e = absurd (cc)
+script-named name (Ok (Some l)) e = line-of-named name l e
 script-named name (Err why) e = absurd (cc)
 
 question-named : (name : List ℕ) (r : Result Question Reason) → IsNamed name (r >>= (λ asked. Ok (Some (Ask asked))))

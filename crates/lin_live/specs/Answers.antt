@@ -2,7 +2,7 @@
 use Rattle.std.specs.Prelude.{◌≡◌, ℕ, false, List, [], ◌∷◌, ◌++◌, codes, flat_map, reverse, Option}
 use Rattle.std.specs.List.{AllByRecursion}
 use Rattle.lin_bench.specs.Fields.{line_fields}
-use Rattle.lin_bench.specs.Scripts.{without_mark}
+use Rattle.lin_bench.specs.Written.{without_mark}
 use Rattle.lin_live.specs.Marking.{has_first_word}
 use Rattle.lin_parts.specs.declared.parts.Parts.{Parts}
 use Rattle.lin_values.specs.Coded.{CodedData}

@@ -7,7 +7,9 @@ use Rattle.lin_bench.specs.Fields.{line_fields}
 use Rattle.lin_values.specs.Coded.{CodedData}
 use Rattle.lin_bench.specs.Words.{read_worded_line}
 use Rattle.lin_bench.specs.declared.line.ScriptLine.{ScriptLine}
+use Rattle.lin_bench.specs.declared.line.ScriptLine.TheVariants.{Test}
 use Rattle.lin_bench.specs.declared.reason.Reason.{Reason as ScriptReason}
+use Rattle.lin_bench.specs.declared.reason.Reason.TheVariants.{ForScripts}
 use Rattle.lin_bench.specs.declared.rules.NodeLimits.{NodeLimits}
 use Rattle.lin_live.specs.Asked.{◌>>=◌, question}
 use Rattle.lin_live.specs.Marking.{back_name, mark_name}
@@ -22,9 +24,14 @@ pub data Heard : Type 0 where
   GoBack : (name : List ℕ) → Heard
   Make : (line : ScriptLine) → Heard
 
+-- a test is for scripts
+abbrev pub of_line : ScriptLine → Result (Option Heard) Reason
+of_line (Test name) = Err (Script (ForScripts (codes "test")))
+of_line line = Ok (Some (Make line))
+
 abbrev pub of_script : Result (Option ScriptLine) ScriptReason → Result (Option Heard) Reason
 of_script (Ok None) = Ok None
-of_script (Ok (Some line)) = Ok (Some (Make line))
+of_script (Ok (Some line)) = of_line line
 of_script (Err why) = Err (Script why)
 
 -- what is asked, which mark is set, and which one is gone back to, by the fields after the first one

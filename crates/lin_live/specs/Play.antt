@@ -9,7 +9,9 @@ use Rattle.lin_values.specs.Coded.{CodedData}
 use Rattle.lin_bench.specs.Scripts.{read_lines}
 use Rattle.lin_bench.specs.Played.{Run, initial_bench, play_result, some_unmet}
 use Rattle.lin_bench.specs.Slots.{slot_limit}
+use Rattle.lin_bench.specs.Strict.{has_test}
 use Rattle.lin_bench.specs.declared.line.ScriptLine.{ScriptLine}
+use Rattle.lin_bench.specs.declared.place.LinePlace.{LinePlace}
 use Rattle.lin_bench.specs.declared.rules.NodeLimits.{NodeLimits}
 use Rattle.lin_live.specs.Marking.{has_first_word}
 use Rattle.lin_live.specs.Told.{HandData, reply}
@@ -49,14 +51,14 @@ in_hand_of format k limits is_physical c opening capacity run = record {
 abbrev pub empty_run : Run
 empty_run = record { bench = initial_bench; judgements = [] }
 
--- The lines of a bench script without bad lines and within the limit of slots come, answered in
+-- The lines of a bench script without bad lines and tests and within the limit of slots come, answered in
 -- hand, to the bench that its play comes to, with the same log; an expectation isn't met in one
 -- exactly where one isn't met in the other.
 abbrev pub LiveIsPlay : Type 0
 LiveIsPlay = (format : AnswerFormat) (k : Option CodedData) (limits : List NodeLimits) (is_physical : Bool) (c : Parts)
     (opening capacity : ℕ) (ls : List (List ℕ))
-    (said : List (ℕ × ScriptLine)) (run : Run)
-    → AllByRecursion IsPlain ls → read_lines c k limits 1 ls ≡ Ok said
+    (said : List (LinePlace × ScriptLine)) (run : Run)
+    → AllByRecursion IsPlain ls → has_test said ≡ false → read_lines c k limits 1 ls ≡ Ok said
     → play_result false c opening capacity said ≡ Ok run
     → state_after reply (in_hand_of format k limits is_physical c opening capacity empty_run) (map strip_carriage_return ls)
     ≡ in_hand_of format k limits is_physical c opening capacity run

@@ -17,7 +17,7 @@ use Rattle.lin_export.specs.Jsonl.{objects_of}
 use Rattle.lin_export.specs.Named.{named_entries}
 use Rattle.lin_values.specs.Coded.{CodedData}
 use Rattle.lin_bench.specs.Meanings.{told_meaning}
-use Rattle.lin_bench.specs.Scripts.{without_mark}
+use Rattle.lin_bench.specs.Written.{without_mark}
 use Rattle.lin_bench.specs.Made.{BenchState, made}
 use Rattle.lin_bench.specs.Slots.{slot_limit}
 use Rattle.lin_bench.specs.Strict.{entries_since, first_refusal}

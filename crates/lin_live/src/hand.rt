@@ -5,10 +5,11 @@ ghost use Rattle.std.specs.Prelude.{position, reverse, true};
 ghost use Rattle.std.specs.Str.{bytes_eq};
 ghost use Rattle.lin_bench.specs.Played.{initial_bench};
 ghost use Rattle.lin_bench.specs.Fields.{line_fields};
+ghost use Rattle.lin_bench.specs.declared.reason.Reason.TheVariants.{ForScripts};
 ghost use Rattle.lin_bench.specs.Words.{read_worded_line};
 ghost use Rattle.lin_live.specs.Asked.{Fails, IsAskable};
 ghost use Rattle.lin_live.specs.Hand.{AnswersSaid, gone_to, other_marks, with_named};
-ghost use Rattle.lin_live.specs.Heard.{Heard, back_heard, line_heard, mark_heard, of_script, question_heard};
+ghost use Rattle.lin_live.specs.Heard.{Heard, back_heard, line_heard, mark_heard, of_line, of_script, question_heard};
 ghost use Rattle.lin_live.specs.Held.{new_hand};
 ghost use Rattle.lin_live.specs.Marking.{mark_place, with_mark};
 ghost use Rattle.lin_live.specs.Serving.{WritesAnswer};
@@ -16,7 +17,7 @@ ghost use Rattle.lin_live.specs.Told.{Fine, HandData, Is, IsFull, IsFullFor, ask
 ghost use Rattle.lin_live.specs.Told.{heard_reply, reply, without_byte_order_mark};
 ghost use Rattle.lin_live.specs.Heard.Heard.{GoBack, Make, SetMark};
 ghost use Rattle.lin_live.specs.declared.reason.Reason.{Reason};
-ghost use Rattle.lin_live.specs.declared.reason.Reason.TheVariants.{TooLong};
+ghost use Rattle.lin_live.specs.declared.reason.Reason.TheVariants.{Script, TooLong};
 
 use crate::answer_format::AnswerFormat;
 use crate::answering::Answering;
@@ -435,6 +436,40 @@ impl Hand {
         }
     }
 
+    /// Answers a line that begins with a word which is for scripts.
+    #[inline(never)]
+    fn refuse_for_scripts<W: Write>(
+        &mut self,
+        alloc: Global,
+        word: &[u8],
+        writer: &mut W,
+        buffer: &mut TextBuffer,
+    ) -> Result<(), Fault>
+        ensures { WritesAnswer (bad_reply self.old (Script (ForScripts word.now)))
+            ⊥ self.new (W.contents writer.old) (W.contents writer.new) result }
+    {
+        let word = Text::copied(alloc, word)?;
+        let reason = Reason::Script(lin_bench::Reason::ForScripts(word));
+        self.refuse(alloc, &reason, writer, buffer)
+    }
+
+    /// Makes a line that is read, unless it is for scripts, and answers so.
+    fn answer_made<W: Write>(
+        &mut self,
+        alloc: Global,
+        line: ScriptLine,
+        writer: &mut W,
+        buffer: &mut TextBuffer,
+    ) -> Result<(), Fault>
+        ensures { AnswersSaid self.old (of_line line) self.new
+            (W.contents writer.old) (W.contents writer.new) result }
+    {
+        match line {
+            ScriptLine::Test(_) => self.refuse_for_scripts(alloc, b"test", writer, buffer),
+            line => self.make(alloc, line, writer, buffer),
+        }
+    }
+
     /// Makes a line of a bench script, and answers so.
     #[inline(never)]
     fn answer_script<W: Write>(
@@ -452,7 +487,7 @@ impl Hand {
             return Err(Fault::OutOfMemory);
         };
         match held.script_line(alloc, line) {
-            Ok(Some(line)) => self.make(alloc, line, writer, buffer),
+            Ok(Some(line)) => self.answer_made(alloc, line, writer, buffer),
             Ok(None) => self.pass(writer, buffer),
             Err(fault) => self.answer_fault(alloc, &LineFault::from(fault), writer, buffer),
         }

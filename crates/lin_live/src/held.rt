@@ -4,8 +4,8 @@ ghost use Rattle.std.specs.Prelude.{◌≡◌, ◌≤◌, ◌||◌, [], IfOk, If
 ghost use Rattle.std.specs.Prelude.{length, option_map, reverse, true};
 ghost use Rattle.lin_bench.specs.Marks.{IsMarkOf, state_at};
 ghost use Rattle.lin_bench.specs.Read.{Gives as ReadsLine};
-ghost use Rattle.lin_bench.specs.Scripts.{without_mark};
 ghost use Rattle.lin_bench.specs.Words.{read_worded_line};
+ghost use Rattle.lin_bench.specs.Written.{without_mark};
 ghost use Rattle.lin_live.specs.Asked.{IsAskable};
 ghost use Rattle.lin_live.specs.Hand.{IsOpening};
 ghost use Rattle.lin_live.specs.Held.{IsBoxedTrack, IsBoxedTrackOf, IsKept, earlier, entries_from, line_text};

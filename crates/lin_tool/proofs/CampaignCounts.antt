@@ -89,12 +89,12 @@ place-push-by : (b : Bool) (i : ℕ) (all before own : Option ℕ) → all ≡ o
 place-push-by true i all before own e = refl
 place-push-by false i all before own e = e
 
-pub place-push : (n i : ℕ) (js : List Judgement) (j : Judgement) → place_from i n (js ++ j ∷ []) ≡ option_or (place_from i n js) (if j.line == n then Some (i + length js) else None)
-place-push n i [] j = let e : i ≡ i + 0 = omega arith in ap (λ k. if j.line == n then Some k else None) e
+pub place-push : (n i : ℕ) (js : List Judgement) (j : Judgement) → place_from i n (js ++ j ∷ []) ≡ option_or (place_from i n js) (if j.place.own == n then Some (i + length js) else None)
+place-push n i [] j = let e : i ≡ i + 0 = omega arith in ap (λ k. if j.place.own == n then Some k else None) e
 place-push n i (x ∷ xs) j =
     let e : (i + 1) + length xs ≡ i + suc (length xs) = omega arith in
-    place-push-by (x.line == n) i (place_from (i + 1) n (xs ++ j ∷ [])) (place_from (i + 1) n xs) (if j.line == n then Some ((i + 1) + length xs) else None) (place-push n (i + 1) xs j)
-    ∙ ap (λ k. option_or (place_from i n (x ∷ xs)) (if j.line == n then Some k else None)) e
+    place-push-by (x.place.own == n) i (place_from (i + 1) n (xs ++ j ∷ [])) (place_from (i + 1) n xs) (if j.place.own == n then Some ((i + 1) + length xs) else None) (place-push n (i + 1) xs j)
+    ∙ ap (λ k. option_or (place_from i n (x ∷ xs)) (if j.place.own == n then Some k else None)) e
 
 -- what is kept of line n before a row is counted
 abbrev pub only_placed : Option ℕ → LineCount
@@ -107,7 +107,7 @@ or-none : (o : Option ℕ) → option_or o None ≡ o
 or-none None = refl
 or-none (Some x) = refl
 
-first-by : (n i line : ℕ) (js : List Judgement) (j : Judgement) (now new : LineCount) → i ≡ length js → j.line ≡ line → new ≡ (if n == line then first_at i now else now) → now ≡ first_counts js n
+first-by : (n i line : ℕ) (js : List Judgement) (j : Judgement) (now new : LineCount) → i ≡ length js → j.place.own ≡ line → new ≡ (if n == line then first_at i now else now) → now ≡ first_counts js n
     → ((eqb n line ≡ true) × (n ≡ line)) ⊎ ((eqb n line ≡ false) × (n ≢ line)) → ((eqb line n ≡ true) × (line ≡ n)) ⊎ ((eqb line n ≡ false) × (line ≢ n))
     → new ≡ first_counts (js ++ j ∷ []) n
 first-by n i line js j now new at own e is (inl h) (inl k) =
@@ -120,7 +120,7 @@ first-by n i line js j now new at own e is (inr h) (inr k) =
     let place : place_from 0 n (js ++ j ∷ []) ≡ place_from 0 n js = place-push n 0 js j ∙ rw (own, k.0) (or-none (place_from 0 n js)) in
     e ∙ rw h.0 (is ∙ ap only_placed (sym place))
 
-first-next : (n i line : ℕ) (js : List Judgement) (j : Judgement) (now new : LineCount) → j ≡ get_or js i j → i < length js → j.line ≡ line → new ≡ (if n == line then first_at i now else now)
+first-next : (n i line : ℕ) (js : List Judgement) (j : Judgement) (now new : LineCount) → j ≡ get_or js i j → i < length js → j.place.own ≡ line → new ≡ (if n == line then first_at i now else now)
     → now ≡ first_counts (take i js) n → new ≡ first_counts (take (i + 1) js) n
 first-next n i line js j now new at h own e is =
     let more : take (i + 1) js ≡ take i js ++ j ∷ [] = take_more js i j h ∙ ap (λ x. take i js ++ x ∷ []) (sym at) in
@@ -132,9 +132,9 @@ same-item [] i a b h = absurd (omega arith)
 same-item (j ∷ js) zero a b h = refl
 same-item (j ∷ js) (suc i) a b h = same-item js i a b (omega arith)
 
-pub first-next-at : (n i : ℕ) (js : List Judgement) (d : Judgement) (now new : LineCount) → i < length js → new ≡ (if n == (get_or js i d).line then first_at i now else now) → now ≡ first_counts (take i js) n
+pub first-next-at : (n i : ℕ) (js : List Judgement) (d : Judgement) (now new : LineCount) → i < length js → new ≡ (if n == (get_or js i d).place.own then first_at i now else now) → now ≡ first_counts (take i js) n
     → new ≡ first_counts (take (i + 1) js) n
-first-next-at n i js d now new h e is = let j = get_or js i d in first-next n i j.line js j now new (same-item js i d j h) h refl e is
+first-next-at n i js d now new h e is = let j = get_or js i d in first-next n i j.place.own js j now new (same-item js i d j h) h refl e is
 
 -- ---- one row more
 count-push : (p : Row → Bool) (rows : List Row) (r : Row) → count_by p (rows ++ r ∷ []) ≡ count_by p rows + one_if (p r)
@@ -253,7 +253,7 @@ has-by false i o rest e = e
 
 pub has-place : (i n : ℕ) (js : List Judgement) → is_some (place_from i n js) ≡ has_judgement js n
 has-place i n [] = refl
-has-place i n (j ∷ js) = has-by (j.line == n) i (place_from (i + 1) n js) (has_judgement js n) (has-place (i + 1) n js)
+has-place i n (j ∷ js) = has-by (j.place.own == n) i (place_from (i + 1) n js) (has_judgement js n) (has-place (i + 1) n js)
 
 some-by : (b : Bool) (m : ℕ) (rest : Bool) → ltb 0 m ≡ rest → ltb 0 (one_if b + m) ≡ (b || rest)
 some-by true m rest e = above-one m
@@ -297,7 +297,7 @@ above-bound (k ∷ ks) start n h =
 
 in-lines : (js : List Judgement) (n : ℕ) → has_judgement js n ≡ is_in (judged_lines js) n
 in-lines [] n = refl
-in-lines (j ∷ js) n = ap (λ b. (j.line == n) || b) (in-lines js n)
+in-lines (j ∷ js) n = ap (λ b. (j.place.own == n) || b) (in-lines js n)
 
 in-rows : (rows : List Row) (n : ℕ) → list_any (breaks n) rows ≡ is_in (flat_map broken_lines rows) n
 in-rows [] n = refl
@@ -356,11 +356,11 @@ found-by false i k j js d place o e rest = let h = rest e in let at = h.at in le
   is = h.is;
 }
 
-found : (n i k : ℕ) (js : List Judgement) (d : Judgement) → place_from i n js ≡ Some k → Found i k js d (find (λ (j : Judgement). j.line == n) js)
+found : (n i k : ℕ) (js : List Judgement) (d : Judgement) → place_from i n js ≡ Some k → Found i k js d (find (λ (j : Judgement). j.place.own == n) js)
 found n i k [] d e = absurd (cc)
-found n i k (j ∷ js) d e = found-by (j.line == n) i k j js d (place_from (i + 1) n js) (find (λ (x : Judgement). x.line == n) js) e (λ rest. found n (i + 1) k js d rest)
+found n i k (j ∷ js) d e = found-by (j.place.own == n) i k j js d (place_from (i + 1) n js) (find (λ (x : Judgement). x.place.own == n) js) e (λ rest. found n (i + 1) k js d rest)
 
-pub found-at : (n k : ℕ) (js : List Judgement) (d : Judgement) → Some k ≡ place_from 0 n js → (k < length js) × (find (λ (j : Judgement). j.line == n) js ≡ Some (get_or js k d))
+pub found-at : (n k : ℕ) (js : List Judgement) (d : Judgement) → Some k ≡ place_from 0 n js → (k < length js) × (find (λ (j : Judgement). j.place.own == n) js ≡ Some (get_or js k d))
 found-at n k js d e =
     let h = found n 0 k js d (sym e) in
     let same : k ≡ h.past = omega (arith, h.at) in
@@ -371,11 +371,11 @@ none-by : (b : Bool) (i : ℕ) (j : Judgement) (place : Option ℕ) (o : Option 
 none-by true i j place o e rest = absurd (cc)
 none-by false i j place o e rest = rest e
 
-none-from : (n i : ℕ) (js : List Judgement) → None ≡ place_from i n js → find (λ (j : Judgement). j.line == n) js ≡ None
+none-from : (n i : ℕ) (js : List Judgement) → None ≡ place_from i n js → find (λ (j : Judgement). j.place.own == n) js ≡ None
 none-from n i [] e = refl
-none-from n i (j ∷ js) e = none-by (j.line == n) i j (place_from (i + 1) n js) (find (λ (x : Judgement). x.line == n) js) e (λ rest. none-from n (i + 1) js rest)
+none-from n i (j ∷ js) e = none-by (j.place.own == n) i j (place_from (i + 1) n js) (find (λ (x : Judgement). x.place.own == n) js) e (λ rest. none-from n (i + 1) js rest)
 
-pub none-at : (n : ℕ) (js : List Judgement) → None ≡ place_from 0 n js → find (λ (j : Judgement). j.line == n) js ≡ None
+pub none-at : (n : ℕ) (js : List Judgement) → None ≡ place_from 0 n js → find (λ (j : Judgement). j.place.own == n) js ≡ None
 none-at n js e = none-from n 0 js e
 
 pub place-within : (n k : ℕ) (js : List Judgement) → Some k ≡ place_from 0 n js → k < length js

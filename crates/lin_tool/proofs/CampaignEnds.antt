@@ -11,8 +11,10 @@ use Rattle.lin_text.specs.Written.{WritesText}
 use Rattle.lin_bench.specs.Plays.{OverfillsUnder}
 use Rattle.lin_bench.specs.Played.{some_unmet}
 use Rattle.lin_bench.specs.declared.faults.SlotFault.{SlotFault}
+use Rattle.lin_bench.specs.declared.files.ScriptFile.{ScriptFile}
 use Rattle.lin_bench.specs.declared.got.Judgement.{Judgement}
 use Rattle.lin_bench.specs.declared.line.ScriptLine.{ScriptLine}
+use Rattle.lin_bench.specs.declared.place.LinePlace.{LinePlace}
 use Rattle.lin_export.proofs.Rows.{flat-append}
 use Rattle.lin_export.specs.declared.fault.ExportFault.{ExportFault}
 use Rattle.lin_export.specs.declared.fault.ExportFault.TheVariants as export
@@ -39,7 +41,7 @@ use Rattle.lin_tool.specs.declared.campaign.singles.Single.{Single}
 use Rattle.lin_tool.specs.declared.fault.Fault.{Fault}
 use Rattle.lin_tool.specs.declared.fault.Fault.TheVariants.{LogFull, OutOfMemory, WriteFailed}
 use Rattle.lin_tool.proofs.CampaignRows.{bound-more, bound-within, count-rows}
-use Rattle.lin_tool.proofs.Plays.{writes-after}
+use Rattle.lin_tool.proofs.PlayedScripts.{writes-after}
 use Rattle.lin_tool.proofs.CampaignWholes.{a-row, all-rows, rows-append, rows-push, some-rows}
 
 -- ---- beginnings of texts
@@ -66,7 +68,7 @@ text-whole {old = old} {new = new} h = subst (λ l. Appends old new l) h.all h.w
 
 -- ---- one row
 -- the play of a row
-pub row-played : (on : Campaign) (c : Parts) (ls : List (ℕ × ScriptLine)) (ss : List Single) (n : ℕ) (places : List ℕ) (fs : List SlotFault) (one : Option Single) (p : Play) (js : List Judgement)
+pub row-played : (on : Campaign) (c : Parts) (ls : List (LinePlace × ScriptLine)) (ss : List Single) (n : ℕ) (places : List ℕ) (fs : List SlotFault) (one : Option Single) (p : Play) (js : List Judgement)
     → fs ≡ faults_at ss places → one ≡ only_single ss places → js ≡ p.judgements → PlaysRow on c fs ls (Ok p)
     → IsRowOf (stage_of on c ls) ss n places (record { number = n; faults = fs; single = one; row = p.row; log = p.core.log; judgements = js })
 row-played on c ls ss n places fs one p js faults single judged h = record {
@@ -91,36 +93,36 @@ played_data n fs one p js = record {
   judgements = js;
 }
 
-pub is-row : (on : Campaign) (t : RowSource) (c : Parts) (ls : List (ℕ × ScriptLine)) (n : ℕ) (places : List ℕ) (fs : List SlotFault) (one : Option Single) (p : Play) (js : List Judgement)
+pub is-row : (on : Campaign) (t : RowSource) (c : Parts) (ls : List (LinePlace × ScriptLine)) (n : ℕ) (places : List ℕ) (fs : List SlotFault) (one : Option Single) (p : Play) (js : List Judgement)
     → places ≡ places_of t.rows.now n → fs ≡ faults_at t.singles.now places → one ≡ only_single t.singles.now places → js ≡ p.judgements → PlaysRow on c fs ls (Ok p)
     → IsRowOf (stage_of on c ls) t.singles.now n (places_of t.rows.now n) (played_data n fs one p js)
 is-row on t c ls n places fs one p js at faults single judged h =
     subst (λ l. IsRowOf (stage_of on c ls) t.singles.now n l (played_data n fs one p js)) at (row-played on c ls t.singles.now n places fs one p js faults single judged h)
 
 -- its row was written whole and counted
-pub row-done : (on : Campaign) (t : RowSource) (c x handed : Parts) (ls : List (ℕ × ScriptLine)) (n : ℕ) (p : RowData) (counts more : RowCountsData) (old new : Option (List ℕ))
+pub row-done : (on : Campaign) (t : RowSource) (c x handed : Parts) (ls : List (LinePlace × ScriptLine)) (n : ℕ) (p : RowData) (counts more : RowCountsData) (old new : Option (List ℕ))
     → IsRowOf (stage_of on c ls) t.singles.now n (places_of t.rows.now n) p → x ≡ c → Appends old new (disturbed_row on t x p) → CountsMore (p ∷ []) counts more
     → WritesRow on t c ls n (Ok handed) counts more old new
 row-done on t c x handed ls n p counts more old new is same written counted = (p, is, subst (λ y. Appends old new (disturbed_row on t y p)) same written, counted)
 
 -- a beginning of it was written
-pub row-begun : (on : Campaign) (t : RowSource) (c x : Parts) (ls : List (ℕ × ScriptLine)) (n : ℕ) (p : RowData) (fault : Fault) (counts more : RowCountsData) (old new : Option (List ℕ))
+pub row-begun : (on : Campaign) (t : RowSource) (c x : Parts) (ls : List (LinePlace × ScriptLine)) (n : ℕ) (p : RowData) (fault : Fault) (counts more : RowCountsData) (old new : Option (List ℕ))
     → IsRowOf (stage_of on c ls) t.singles.now n (places_of t.rows.now n) p → x ≡ c → Begins old new (disturbed_row on t x p) → BreaksOff on t c ls fault
     → WritesRow on t c ls n (Err fault) counts more old new
 row-begun on t c x ls n p fault counts more old new is same begun failed = (p, is, subst (λ y. Begins old new (disturbed_row on t y p)) same begun, failed)
 
-pub row-fault : (on : Campaign) (t : RowSource) (c : Parts) (ls : List (ℕ × ScriptLine)) (n : ℕ) (fault : Fault) → n < length (rows t.rows.now)
+pub row-fault : (on : Campaign) (t : RowSource) (c : Parts) (ls : List (LinePlace × ScriptLine)) (n : ℕ) (fault : Fault) → n < length (rows t.rows.now)
     → IsUnfinished on c (faults_at t.singles.now (places_of t.rows.now n)) ls fault → BreaksOff on t c ls fault
 row-fault on t c ls n LogFull there h = (n, there, h)
 row-fault on t c ls n OutOfMemory there h = tt
 row-fault on t c ls n fault there h = absurd h
 
-pub written-fault : (on : Campaign) (t : RowSource) (c : Parts) (ls : List (ℕ × ScriptLine)) (fault : ExportFault) → BreaksOff on t c ls (export_fault fault)
+pub written-fault : (on : Campaign) (t : RowSource) (c : Parts) (ls : List (LinePlace × ScriptLine)) (fault : ExportFault) → BreaksOff on t c ls (export_fault fault)
 written-fault on t c ls export.OutOfMemory = tt
 written-fault on t c ls export.WriteFailed = tt
 
 -- a row of which nothing was written
-pub row-unbegun : (on : Campaign) (t : RowSource) (c : Parts) (ls : List (ℕ × ScriptLine)) (n : ℕ) (fault : Fault) (counts more : RowCountsData) (old : Option (List ℕ)) → BreaksOff on t c ls fault
+pub row-unbegun : (on : Campaign) (t : RowSource) (c : Parts) (ls : List (LinePlace × ScriptLine)) (n : ℕ) (fault : Fault) (counts more : RowCountsData) (old : Option (List ℕ)) → BreaksOff on t c ls fault
     → WritesRow on t c ls n (Err fault) counts more old old
 row-unbegun on t c ls n fault counts more old failed =
     let p = a-row (stage_of on c ls) t.singles.now n (places_of t.rows.now n) in (p.0, p.1, begins-nothing old (disturbed_row on t c p.0), failed)
@@ -138,18 +140,18 @@ more-counted ps qs old mid new h k = λ js counted are.
     (k js (counted ++ map numbered_row ps) (h js counted are))
 
 -- the rows with faults up to number n were written and counted
-pub record WroteUpTo (on : Campaign) (t : RowSource) (c : Parts) (ls : List (ℕ × ScriptLine)) (n : ℕ) (counts more : RowCountsData) (old new : Option (List ℕ)) : Type 0 where
+pub record WroteUpTo (on : Campaign) (t : RowSource) (c : Parts) (ls : List (LinePlace × ScriptLine)) (n : ℕ) (counts more : RowCountsData) (old new : Option (List ℕ)) : Type 0 where
   pub ps : List RowData
   pub rows_are : AreRowsOf (stage_of on c ls) t.singles.now t.rows.now (first_disturbed (first_part_row t)) ps
   pub many : length ps + first_disturbed (first_part_row t) ≡ n
   pub written : Appends old new (flat_map (disturbed_row on t c) ps)
   pub counted : CountsMore ps counts more
 
-pub wrote-none : (on : Campaign) (t : RowSource) (c : Parts) (ls : List (ℕ × ScriptLine)) (n : ℕ) (counts : RowCountsData) (old : Option (List ℕ)) → first_disturbed (first_part_row t) ≡ n
+pub wrote-none : (on : Campaign) (t : RowSource) (c : Parts) (ls : List (LinePlace × ScriptLine)) (n : ℕ) (counts : RowCountsData) (old : Option (List ℕ)) → first_disturbed (first_part_row t) ≡ n
     → WroteUpTo on t c ls n counts counts old old
 wrote-none on t c ls n counts old e = record { ps = []; rows_are = tt; many = omega (arith, e); written = Appends-nil old; counted = none-counted counts }
 
-pub wrote-more : (on : Campaign) (t : RowSource) (c handed : Parts) (ls : List (ℕ × ScriptLine)) (n m : ℕ) (counts mid more : RowCountsData) (old now new : Option (List ℕ)) → m ≡ n + 1
+pub wrote-more : (on : Campaign) (t : RowSource) (c handed : Parts) (ls : List (LinePlace × ScriptLine)) (n m : ℕ) (counts mid more : RowCountsData) (old now new : Option (List ℕ)) → m ≡ n + 1
     → WroteUpTo on t c ls n counts mid old now → WritesRow on t c ls n (Ok handed) mid more now new → WroteUpTo on t c ls m counts more old new
 wrote-more on t c handed ls n m counts mid more old now new e h k = record {
   ps = h.ps ++ k.0 ∷ [];
@@ -163,7 +165,7 @@ wrote-more on t c handed ls n m counts mid more old now new e h k = record {
 }
 
 -- a row broke off: the others are rows too
-pub rows-broke : (on : Campaign) (t : RowSource) (c : Parts) (ls : List (ℕ × ScriptLine)) (n : ℕ) (fault : Fault) (counts mid more : RowCountsData) (old now new : Option (List ℕ)) → n < end_part_row t
+pub rows-broke : (on : Campaign) (t : RowSource) (c : Parts) (ls : List (LinePlace × ScriptLine)) (n : ℕ) (fault : Fault) (counts mid more : RowCountsData) (old now new : Option (List ℕ)) → n < end_part_row t
     → WroteUpTo on t c ls n counts mid old now → WritesRow on t c ls n (Err fault) mid more now new → WritesRows on t c ls (Err fault) counts more old new
 rows-broke on t c ls n fault counts mid more old now new there h k =
     let on_ = stage_of on c ls in
@@ -188,7 +190,7 @@ rows-broke on t c ls n fault counts mid more old now new there h k =
     )
 
 -- all rows were written
-pub rows-written : (on : Campaign) (t : RowSource) (c handed : Parts) (ls : List (ℕ × ScriptLine)) (n : ℕ) (counts more : RowCountsData) (old new : Option (List ℕ)) → n ≡ max (end_part_row t) (first_disturbed (first_part_row t))
+pub rows-written : (on : Campaign) (t : RowSource) (c handed : Parts) (ls : List (LinePlace × ScriptLine)) (n : ℕ) (counts more : RowCountsData) (old new : Option (List ℕ)) → n ≡ max (end_part_row t) (first_disturbed (first_part_row t))
     → WroteUpTo on t c ls n counts more old new → WritesRows on t c ls (Ok handed) counts more old new
 rows-written on t c handed ls n counts more old new e h = (h.ps, h.rows_are, omega (arith, e, h.many), h.written, h.counted)
 
@@ -227,7 +229,7 @@ worst-faults-by items t counts places lent (Ok v) at same is = λ js rs are name
 worst-faults-by items t counts places lent (Err fault) at same is = tt
 
 -- rows of a table are named by it
-pub rows-named : (on : Campaign) (t : RowSource) (c : Parts) (ls : List (ℕ × ScriptLine)) (n : ℕ) (ps : List RowData) → AreRowsOf (stage_of on c ls) t.singles.now t.rows.now n ps
+pub rows-named : (on : Campaign) (t : RowSource) (c : Parts) (ls : List (LinePlace × ScriptLine)) (n : ℕ) (ps : List RowData) → AreRowsOf (stage_of on c ls) t.singles.now t.rows.now n ps
     → n + length ps ≤ length (rows t.rows.now) → AreTableRows t (map numbered_row ps)
 rows-named on t c ls n [] h few = tt
 rows-named on t c ls n (p ∷ ps) h few =
@@ -247,7 +249,7 @@ pub part-order : (t : RowSource) → IsTable t → (first_part_row t ≤ end_par
 part-order t h = bounds-order (length (rows t.rows.now)) t.part h.0
 
 -- the plays of a part, of which these have faults
-pub record ArePlayed (on : Campaign) (plan : CampaignPlan) (t : RowSource) (core : CoreData) (ls : List (ℕ × ScriptLine)) (ps : List RowData) : Type 0 where
+pub record ArePlayed (on : Campaign) (plan : CampaignPlan) (t : RowSource) (core : CoreData) (ls : List (LinePlace × ScriptLine)) (ps : List RowData) : Type 0 where
   pub plan_is : IsPlanned on plan t core ls
   pub rows_are : AreRowsOf (stage_of on core.cluster ls) t.singles.now t.rows.now (first_disturbed (first_part_row t)) ps
   pub many : length ps ≡ cases_of t
@@ -256,32 +258,32 @@ pub record ArePlayed (on : Campaign) (plan : CampaignPlan) (t : RowSource) (core
 abbrev pub text_of : Campaign → RowSource → CoreData → List RowData → List ℕ
 text_of on t core ps = head_with_calm on t core.cluster (calm_row t core) ++ (flat_map (disturbed_row on t core.cluster) ps ++ text_after_rows on.format)
 
-record HasWhole (on : Campaign) (plan : CampaignPlan) (t : RowSource) (core : CoreData) (ls : List (ℕ × ScriptLine)) (ps : List RowData) : Type 0 where
+record HasWhole (on : Campaign) (plan : CampaignPlan) (t : RowSource) (core : CoreData) (ls : List (LinePlace × ScriptLine)) (ps : List RowData) : Type 0 where
   pub it : PlaysOfCampaign (stage_of on core.cluster ls) plan
-  pub text : campaign_output on.script.now on.file.now on.bytes.now it ≡ text_of on t core ps
+  pub text : campaign_output on.script.now on.source.files.now on.file.now on.source.text.now it ≡ text_of on t core ps
   pub named_are : numbered_rows it.played ≡ map numbered_row ps
   pub judged : it.calm.judgements ≡ t.judgements.now
   pub singles : it.singles_are ≡ t.singles.now
   pub table : it.table ≡ t.rows.now
 
 -- the same, with a format and a part that are the plan's
-whole-text : (format : RowFormat) (script file bytes : List ℕ) (c : Parts) (calm : RowData) (t : Rows) (first : Bool) (cases : ℕ) (from to : ℕ) (ps all : List RowData) (lost : List LostMessage) (refused : List RefusedStep)
+whole-text : (format : RowFormat) (script : List ℕ) (fs : List ScriptFile) (file bytes : List ℕ) (c : Parts) (calm : RowData) (t : Rows) (first : Bool) (cases : ℕ) (from to : ℕ) (ps all : List RowData) (lost : List LostMessage) (refused : List RefusedStep)
     → lost ≡ calm.row.lost → refused ≡ calm.row.refused → length (rows_with_faults all) ≡ cases
-    → flat_map (row_in_output format script c calm) (plays_in_output format calm all)
-    ≡ (if ((from == 0) && nat_lt 0 to) || is_page format then row_as format script c [] [] calm else []) ++ flat_map (row_as format script c calm.row.lost calm.row.refused) ps
-    → text_before_rows format first script file bytes (length (rows_with_faults all)) t c calm ++ (rows_in_output format script c calm (plays_in_output format calm all) ++ text_after_rows format)
-    ≡ (text_before_rows format first script file bytes cases t c calm ++ (if ((from == 0) && nat_lt 0 to) || is_page format then row_as format script c [] [] calm else []))
-    ++ (flat_map (row_as format script c lost refused) ps ++ text_after_rows format)
-whole-text format script file bytes c calm t first cases from to ps all lost refused lost-is refused-is many e =
+    → flat_map (row_in_output format script fs c calm) (plays_in_output format calm all)
+    ≡ (if ((from == 0) && nat_lt 0 to) || is_page format then row_as format script fs c [] [] calm else []) ++ flat_map (row_as format script fs c calm.row.lost calm.row.refused) ps
+    → text_before_rows format first script file bytes (length (rows_with_faults all)) t c calm ++ (rows_in_output format script fs c calm (plays_in_output format calm all) ++ text_after_rows format)
+    ≡ (text_before_rows format first script file bytes cases t c calm ++ (if ((from == 0) && nat_lt 0 to) || is_page format then row_as format script fs c [] [] calm else []))
+    ++ (flat_map (row_as format script fs c lost refused) ps ++ text_after_rows format)
+whole-text format script fs file bytes c calm t first cases from to ps all lost refused lost-is refused-is many e =
     let start = text_before_rows format first script file bytes cases t c calm in
-    let zeroth = (if ((from == 0) && nat_lt 0 to) || is_page format then row_as format script c [] [] calm else []) in
-    let others = flat_map (row_as format script c calm.row.lost calm.row.refused) ps in
+    let zeroth = (if ((from == 0) && nat_lt 0 to) || is_page format then row_as format script fs c [] [] calm else []) in
+    let others = flat_map (row_as format script fs c calm.row.lost calm.row.refused) ps in
     ap₂ (λ n l. text_before_rows format first script file bytes n t c calm ++ (l ++ text_after_rows format)) many e
     ∙ ap (λ l. start ++ l) (append_assoc zeroth others (text_after_rows format))
     ∙ sym (append_assoc start zeroth (others ++ text_after_rows format))
-    ∙ ap₂ (λ a b. (start ++ zeroth) ++ (flat_map (row_as format script c a b) ps ++ text_after_rows format)) (sym lost-is) (sym refused-is)
+    ∙ ap₂ (λ a b. (start ++ zeroth) ++ (flat_map (row_as format script fs c a b) ps ++ text_after_rows format)) (sym lost-is) (sym refused-is)
 
-has-whole : (on : Campaign) (plan : CampaignPlan) (t : RowSource) (core : CoreData) (ls : List (ℕ × ScriptLine)) (ps : List RowData) → IsTable t → ArePlayed on plan t core ls ps
+has-whole : (on : Campaign) (plan : CampaignPlan) (t : RowSource) (core : CoreData) (ls : List (LinePlace × ScriptLine)) (ps : List RowData) → IsTable t → ArePlayed on plan t core ls ps
     → HasWhole on plan t core ls ps
 has-whole on plan t core ls ps is h =
     let c = core.cluster in
@@ -290,8 +292,8 @@ has-whole on plan t core ls ps is h =
     let all = all-rows (stage_of on c ls) t.singles.now t.rows.now (first_part_row t) (end_part_row t) calm ps h.plan_is.undisturbed h.rows_are h.many order.0 order.1 in
     let many : length (rows_with_faults all.0) ≡ cases_of t = ap length all.1.counted_are ∙ h.many in
     let text =
-    whole-text plan.format on.script.now on.file.now on.bytes.now c calm t.rows.now (plan.part.number == 1) (cases_of t) (first_part_row t) (end_part_row t) ps all.0 t.calm.now.lost t.calm.now.refused refl refl
-    many (all.1.text plan.format on.script.now c) in
+    whole-text plan.format on.script.now on.source.files.now on.file.now on.source.text.now c calm t.rows.now (plan.part.number == 1) (cases_of t) (first_part_row t) (end_part_row t) ps all.0 t.calm.now.lost t.calm.now.refused refl refl
+    many (all.1.text plan.format on.script.now on.source.files.now c) in
     record {
       it = record {
         calm = calm;
@@ -310,9 +312,9 @@ has-whole on plan t core ls ps is h =
       text =
           text
           ∙ ap₂
-          (λ (f : RowFormat) (p : CampaignPart). (text_before_rows f (p.number == 1) on.script.now on.file.now on.bytes.now (cases_of t) t.rows.now c calm
-          ++ (if ((first_part_row t == 0) && nat_lt 0 (end_part_row t)) || is_page f then row_as f on.script.now c [] [] calm else []))
-          ++ (flat_map (row_as f on.script.now c t.calm.now.lost t.calm.now.refused) ps ++ text_after_rows f))
+          (λ (f : RowFormat) (p : CampaignPart). (text_before_rows f (p.number == 1) on.script.now on.file.now on.source.text.now (cases_of t) t.rows.now c calm
+          ++ (if ((first_part_row t == 0) && nat_lt 0 (end_part_row t)) || is_page f then row_as f on.script.now on.source.files.now c [] [] calm else []))
+          ++ (flat_map (row_as f on.script.now on.source.files.now c t.calm.now.lost t.calm.now.refused) ps ++ text_after_rows f))
           (sym h.plan_is.format) (sym h.plan_is.part);
       named_are = ap (map numbered_row) all.1.counted_are;
       judged = refl;
@@ -321,7 +323,7 @@ has-whole on plan t core ls ps is h =
     }
 
 -- ---- the end
-fault-ends : (on : Campaign) (t : RowSource) (c : Parts) (ls : List (ℕ × ScriptLine)) (watched denied : Bool) (fault : Fault) (text told : List ℕ) (old new silent heard : Option (List ℕ))
+fault-ends : (on : Campaign) (t : RowSource) (c : Parts) (ls : List (LinePlace × ScriptLine)) (watched denied : Bool) (fault : Fault) (text told : List ℕ) (old new silent heard : Option (List ℕ))
     → BreaksOff on t c ls fault → Begins old new text → Ends watched (Err fault) denied text told old new silent heard
 fault-ends on t c ls watched denied LogFull text told old new silent heard failed h = h
 fault-ends on t c ls watched denied OutOfMemory text told old new silent heard failed h = h
@@ -332,7 +334,7 @@ not-true : {X : Type 0} → false ≡ true → X
 not-true h = absurd (cc)
 
 -- the row whose log is full
-full-row : (on : Campaign) (plan : CampaignPlan) (t : RowSource) (c : Parts) (ls : List (ℕ × ScriptLine)) (fault : Fault) (it : PlaysOfCampaign (stage_of on c ls) plan) → it.singles_are ≡ t.singles.now → it.table ≡ t.rows.now
+full-row : (on : Campaign) (plan : CampaignPlan) (t : RowSource) (c : Parts) (ls : List (LinePlace × ScriptLine)) (fault : Fault) (it : PlaysOfCampaign (stage_of on c ls) plan) → it.singles_are ≡ t.singles.now → it.table ≡ t.rows.now
     → BreaksOff on t c ls fault → is_full (Err fault) ≡ true → SomeRowOverfills it
 full-row on plan t c ls LogFull it are is failed full =
     subst (λ (r : Rows). (n : ℕ) × (n < length (rows r)) × OverfillsUnder c on.table on.capacity (faults_at it.singles_are (places_of r n)) ls) (sym is)
@@ -368,7 +370,7 @@ calm-same : (calm : Play) (t : RowSource) → t.calm.now ≡ calm.row → t.judg
 calm-same calm t row judgements =
     ap₂ (λ (r : Row) (js : List Judgement). record { number = 0; faults = []; single = None; row = r; log = calm.core.log; judgements = js }) row judgements
 
-pub planned : (on : Campaign) (plan : CampaignPlan) (calm : Play) (t : RowSource) (ls : List (ℕ × ScriptLine)) → IsCampaignBegun on plan calm ls → t.calm.now ≡ calm.row → t.judgements.now ≡ calm.judgements
+pub planned : (on : Campaign) (plan : CampaignPlan) (calm : Play) (t : RowSource) (ls : List (LinePlace × ScriptLine)) → IsCampaignBegun on plan calm ls → t.calm.now ≡ calm.row → t.judgements.now ≡ calm.judgements
     → t.part ≡ plan.part → t.singles.now ≡ singles calm.core.cluster plan.kinds calm.core.log
     → t.rows.now ≡ record { singles = length t.singles.now; pairs = plan.pairs; random = plan.random } → IsPlanned on plan t calm.core ls
 planned on plan calm t ls h row judgements part are made = record {
@@ -382,40 +384,40 @@ planned on plan calm t ls h row judgements part are made = record {
 }
 
 -- a campaign of which nothing was written
-pub campaign-unwritten : (on : Campaign) (plan : CampaignPlan) (calm : Play) (ls : List (ℕ × ScriptLine)) (watched : Bool) (old silent heard : Option (List ℕ)) → IsPart plan.part → IsCampaignBegun on plan calm ls
-    → WritesPlays (stage_of on calm.core.cluster ls) plan watched on.script.now on.file.now on.bytes.now (Err OutOfMemory) old old silent heard
+pub campaign-unwritten : (on : Campaign) (plan : CampaignPlan) (calm : Play) (ls : List (LinePlace × ScriptLine)) (watched : Bool) (old silent heard : Option (List ℕ)) → IsPart plan.part → IsCampaignBegun on plan calm ls
+    → WritesPlays (stage_of on calm.core.cluster ls) plan watched on.script.now on.source.files.now on.file.now on.source.text.now (Err OutOfMemory) old old silent heard
 campaign-unwritten on plan calm ls watched old silent heard part h =
     let it = any-plays (stage_of on calm.core.cluster ls) plan (row_of_play calm) part h.undisturbed h.met in
-    (it, (λ full. not-true full), begins-nothing old (campaign_output on.script.now on.file.now on.bytes.now it))
+    (it, (λ full. not-true full), begins-nothing old (campaign_output on.script.now on.source.files.now on.file.now on.source.text.now it))
 
 -- a campaign of which a beginning was written
-pub campaign-broke : (on : Campaign) (plan : CampaignPlan) (t : RowSource) (core : CoreData) (ls : List (ℕ × ScriptLine)) (ps : List RowData) (watched : Bool) (fault : Fault) (old new silent heard : Option (List ℕ))
+pub campaign-broke : (on : Campaign) (plan : CampaignPlan) (t : RowSource) (core : CoreData) (ls : List (LinePlace × ScriptLine)) (ps : List RowData) (watched : Bool) (fault : Fault) (old new silent heard : Option (List ℕ))
     → IsTable t → ArePlayed on plan t core ls ps → BreaksOff on t core.cluster ls fault → Begins old new (text_of on t core ps)
-    → WritesPlays (stage_of on core.cluster ls) plan watched on.script.now on.file.now on.bytes.now (Err fault) old new silent heard
+    → WritesPlays (stage_of on core.cluster ls) plan watched on.script.now on.source.files.now on.file.now on.source.text.now (Err fault) old new silent heard
 campaign-broke on plan t core ls ps watched fault old new silent heard is h failed begun =
     let w = has-whole on plan t core ls ps is h in (
       w.it,
       full-row on plan t core.cluster ls fault w.it w.singles w.table failed,
-      fault-ends on t core.cluster ls watched (denies w.it) fault (campaign_output on.script.now on.file.now on.bytes.now w.it) (counts on.script.now w.it) old new silent heard failed
+      fault-ends on t core.cluster ls watched (denies w.it) fault (campaign_output on.script.now on.source.files.now on.file.now on.source.text.now w.it) (counts on.script.now w.it) old new silent heard failed
           (subst (λ l. Begins old new l) (sym w.text) begun),
     )
 
 -- before its rows with faults were played
-pub campaign-unplayed : (on : Campaign) (plan : CampaignPlan) (t : RowSource) (core : CoreData) (ls : List (ℕ × ScriptLine)) (watched : Bool) (fault : Fault) (old new silent heard : Option (List ℕ))
+pub campaign-unplayed : (on : Campaign) (plan : CampaignPlan) (t : RowSource) (core : CoreData) (ls : List (LinePlace × ScriptLine)) (watched : Bool) (fault : Fault) (old new silent heard : Option (List ℕ))
     → IsTable t → IsPlanned on plan t core ls → BreaksOff on t core.cluster ls fault → Begins old new (head_with_calm on t core.cluster (calm_row t core))
-    → WritesPlays (stage_of on core.cluster ls) plan watched on.script.now on.file.now on.bytes.now (Err fault) old new silent heard
+    → WritesPlays (stage_of on core.cluster ls) plan watched on.script.now on.source.files.now on.file.now on.source.text.now (Err fault) old new silent heard
 campaign-unplayed on plan t core ls watched fault old new silent heard is h failed begun =
     let ps = some-rows (stage_of on core.cluster ls) t.singles.now t.rows.now (first_disturbed (first_part_row t)) (cases_of t) in
     campaign-broke on plan t core ls ps.0 watched fault old new silent heard is (record { plan_is = h; rows_are = ps.1; many = ps.2 }) failed
     (begins-longer old new (head_with_calm on t core.cluster (calm_row t core)) (flat_map (disturbed_row on t core.cluster) ps.0 ++ text_after_rows on.format) begun)
 
 -- a campaign that was written
-pub campaign-ended : (on : Campaign) (plan : CampaignPlan) (t : RowSource) (core : CoreData) (ls : List (ℕ × ScriptLine)) (ps : List RowData) (watched : Bool) (result : Result Unit Fault)
+pub campaign-ended : (on : Campaign) (plan : CampaignPlan) (t : RowSource) (core : CoreData) (ls : List (LinePlace × ScriptLine)) (ps : List RowData) (watched : Bool) (result : Result Unit Fault)
     (old new silent heard : Option (List ℕ)) → IsTable t → ArePlayed on plan t core ls ps → is_full result ≡ false → Appends old new (text_of on t core ps)
     → (watched ≡ false → WritesTextOrPart silent heard (counts_text on t core.cluster (map numbered_row ps)))
     → (((denied : Bool) → denied ≡ is_denied plan.denies_broken plan.denies_never t.judgements.now (rows_of (map numbered_row ps)) → (text told : List ℕ) → Appends old new text
     → (watched ≡ false → WritesTextOrPart silent heard told) → Ends watched result denied text told old new silent heard))
-    → WritesPlays (stage_of on core.cluster ls) plan watched on.script.now on.file.now on.bytes.now result old new silent heard
+    → WritesPlays (stage_of on core.cluster ls) plan watched on.script.now on.source.files.now on.file.now on.source.text.now result old new silent heard
 campaign-ended on plan t core ls ps watched result old new silent heard is h unfull written told ends =
     let w = has-whole on plan t core ls ps is h in
     let same : counts on.script.now w.it ≡ counts_text on t core.cluster (map numbered_row ps) =
@@ -423,7 +425,7 @@ campaign-ended on plan t core ls ps watched result old new silent heard is h unf
       w.it,
       (λ full. not-true (sym unfull ∙ full)),
       ends (denies w.it) (ap₂ (λ js rs. is_denied plan.denies_broken plan.denies_never js (rows_of rs)) w.judged w.named_are)
-          (campaign_output on.script.now on.file.now on.bytes.now w.it) (counts on.script.now w.it) (subst (λ l. Appends old new l) (sym w.text) written)
+          (campaign_output on.script.now on.source.files.now on.file.now on.source.text.now w.it) (counts on.script.now w.it) (subst (λ l. Appends old new l) (sym w.text) written)
           (λ quiet. subst (λ l. WritesTextOrPart silent heard l) (sym same) (told quiet)),
     )
 
@@ -440,19 +442,19 @@ part-fits : (t : RowSource) (ps : List RowData) → IsTable t → length ps ≡ 
 part-fits t ps is many = let order = part-order t is in omega (arith, order.0, order.1, many, count-rows t.rows.now)
 
 -- a row broke off
-pub rows-fail : (on : Campaign) (plan : CampaignPlan) (t : RowSource) (core : CoreData) (ls : List (ℕ × ScriptLine)) (watched : Bool) (fault : Fault) (counts more : RowCountsData) (old mid new silent heard : Option (List ℕ))
+pub rows-fail : (on : Campaign) (plan : CampaignPlan) (t : RowSource) (core : CoreData) (ls : List (LinePlace × ScriptLine)) (watched : Bool) (fault : Fault) (counts more : RowCountsData) (old mid new silent heard : Option (List ℕ))
     → IsTable t → IsPlanned on plan t core ls → Appends old mid (head_with_calm on t core.cluster (calm_row t core)) → WritesRows on t core.cluster ls (Err fault) counts more mid new
-    → WritesPlays (stage_of on core.cluster ls) plan watched on.script.now on.file.now on.bytes.now (Err fault) old new silent heard
+    → WritesPlays (stage_of on core.cluster ls) plan watched on.script.now on.source.files.now on.file.now on.source.text.now (Err fault) old new silent heard
 rows-fail on plan t core ls watched fault counts more old mid new silent heard is h first (ps, rows-are, many, begun, failed) =
     let texts = flat_map (disturbed_row on t core.cluster) ps in
     campaign-broke on plan t core ls ps watched fault old new silent heard is (record { plan_is = h; rows_are = rows-are; many = many }) failed
     (begins-behind old mid new (head_with_calm on t core.cluster (calm_row t core)) (texts ++ text_after_rows on.format) first (begins-longer mid new texts (text_after_rows on.format) begun))
 
 -- something behind the rows failed
-pub tail-fails : {E : Type 0} (on : Campaign) (plan : CampaignPlan) (t : RowSource) (core : CoreData) (handed : Parts) (ls : List (ℕ × ScriptLine)) (watched : Bool) (fault : Fault) (r : Result Unit E) (counts more : RowCountsData)
+pub tail-fails : {E : Type 0} (on : Campaign) (plan : CampaignPlan) (t : RowSource) (core : CoreData) (handed : Parts) (ls : List (LinePlace × ScriptLine)) (watched : Bool) (fault : Fault) (r : Result Unit E) (counts more : RowCountsData)
     (old mid rest new silent heard : Option (List ℕ)) → IsTable t → IsPlanned on plan t core ls → Appends old mid (head_with_calm on t core.cluster (calm_row t core))
     → WritesRows on t core.cluster ls (Ok handed) counts more mid rest → WritesText rest new r (text_after_rows on.format) → BreaksOff on t core.cluster ls fault
-    → WritesPlays (stage_of on core.cluster ls) plan watched on.script.now on.file.now on.bytes.now (Err fault) old new silent heard
+    → WritesPlays (stage_of on core.cluster ls) plan watched on.script.now on.source.files.now on.file.now on.source.text.now (Err fault) old new silent heard
 tail-fails on plan t core handed ls watched fault r counts more old mid rest new silent heard is h first (ps, rows-are, many, written, counted) tail failed =
     let texts = flat_map (disturbed_row on t core.cluster) ps in
     campaign-broke on plan t core ls ps watched fault old new silent heard is (record { plan_is = h; rows_are = rows-are; many = many }) failed
@@ -460,14 +462,14 @@ tail-fails on plan t core handed ls watched fault r counts more old mid rest new
     (begins-behind mid rest new texts (text_after_rows on.format) written (text-begins tail)))
 
 -- all was written
-pub table-done : (on : Campaign) (plan : CampaignPlan) (t : RowSource) (core : CoreData) (handed : Parts) (ls : List (ℕ × ScriptLine)) (watched denied : Bool) (result : Result Unit Fault)
+pub table-done : (on : Campaign) (plan : CampaignPlan) (t : RowSource) (core : CoreData) (handed : Parts) (ls : List (LinePlace × ScriptLine)) (watched denied : Bool) (result : Result Unit Fault)
     (counts more : RowCountsData) (old mid rest new silent quiet heard : Option (List ℕ)) → IsTable t → IsPlanned on plan t core ls → is_full result ≡ false → Appends old mid (head_with_calm on t core.cluster (calm_row t core))
     → AreCountsOf t.judgements.now [] counts → WritesRows on t core.cluster ls (Ok handed) counts more mid rest → (watched ≡ false → Keeps silent quiet)
     → Appends rest new (text_after_rows on.format)
     → ((rs : List NumberedRow) → AreCountsOf t.judgements.now rs more → AreTableRows t rs → WritesTextOrPart quiet heard (counts_text on t core.cluster rs))
     → ((js : List Judgement) → (rs : List NumberedRow) → AreCountsOf js rs more → denied ≡ is_denied plan.denies_broken plan.denies_never t.judgements.now (rows_of rs))
     → ((text told : List ℕ) → Appends old new text → (watched ≡ false → WritesTextOrPart silent heard told) → Ends watched result denied text told old new silent heard)
-    → WritesPlays (stage_of on core.cluster ls) plan watched on.script.now on.file.now on.bytes.now result old new silent heard
+    → WritesPlays (stage_of on core.cluster ls) plan watched on.script.now on.source.files.now on.file.now on.source.text.now result old new silent heard
 table-done on plan t core handed ls watched denied result counts more old mid rest new silent quiet heard is h unfull first none (ps, rows-are, many, written, counted) kept tail told denies-are ends =
     let c = core.cluster in
     let texts = flat_map (disturbed_row on t c) ps in

@@ -10,7 +10,7 @@ use Rattle.lin_core.specs.Tables.{look_of, look_word}
 use Rattle.lin_core.specs.declared.event.Look.{Look}
 use Rattle.lin_core.specs.declared.event.Look.TheVariants as look
 use Rattle.lin_core.specs.declared.log.LogEntry.{LogEntry}
-use Rattle.lin_bench.specs.Scripts.{without_mark}
+use Rattle.lin_bench.specs.Written.{without_mark}
 use Rattle.lin_tool.specs.PageFields.{field, guarded_text, is_inert, no_less}
 use Rattle.lin_tool.specs.campaign.Jsonl.{head_object, row_object}
 use Rattle.lin_tool.specs.campaign.Page.{CampaignDataAreInert, data_head, object_byte, object_text, page_line, page_lines, page_slot, without_empty_last}

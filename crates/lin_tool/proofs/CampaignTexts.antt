@@ -13,7 +13,7 @@ use Rattle.lin_export.specs.Putting.{PutsAll}
 use Rattle.lin_export.proofs.Puttings.{written-short}
 use Rattle.lin_export.proofs.Rows.{flat-append}
 use Rattle.lin_export.proofs.Slots.{drop-end}
-use Rattle.lin_tool.specs.campaign.Shown.{with_separators}
+use Rattle.lin_tool.specs.Separated.{with_separators}
 use Rattle.lin_tool.proofs.Remaining.{broke-off-behind}
 
 -- an item, and those after it

@@ -5,12 +5,15 @@ use Rattle.std.proofs.lemmas.Grind.{common_steps}
 use Rattle.std.specs.Prelude.{count_by, nat_lt}
 use Rattle.lin_parts.specs.declared.parts.Parts.{Parts}
 use Rattle.lin_bench.specs.Made.{BenchState, made}
-use Rattle.lin_bench.specs.Played.{bench_after, come_to_under, ends_under, first_under, in_turn, is_limit, is_silent, judged_up_to, judgements_under, line_result, with_judgements}
+use Rattle.lin_bench.specs.Played.{bench_after, come_to_under, ends_under, first_under, in_turn, is_limit, judged_up_to, judgements_under, line_result, with_judgements}
+use Rattle.lin_bench.specs.Strict.{silent_lines}
 use Rattle.lin_bench.specs.Plays.{ComesUnder}
 use Rattle.lin_bench.specs.declared.faults.SlotFault.{SlotFault}
+use Rattle.lin_bench.specs.declared.files.ScriptFile.{ScriptFile}
 use Rattle.lin_bench.specs.declared.got.Verdict.{Verdict}
 use Rattle.lin_bench.specs.declared.got.Verdict.TheVariants as verdict
 use Rattle.lin_bench.specs.declared.line.ScriptLine.{ScriptLine}
+use Rattle.lin_bench.specs.declared.place.LinePlace.{LinePlace}
 use Rattle.lin_bench.specs.declared.playing.PlayedUnder.{PlayedUnder}
 use Rattle.lin_bench.proofs.Runs.{judged-whole, turns-failed}
 use Rattle.lin_tool.specs.Playing.{judgements_with_meanings}
@@ -27,7 +30,7 @@ use Rattle.lin_tool.specs.declared.campaign.singles.Single.{Single}
 
 -- ---- each row has a play
 -- where no line makes more slots than are left, all lines were played
-bench-next : (c : Parts) (o cap : ℕ) (b end : BenchState) (l : ℕ × ScriptLine) (ls : List (ℕ × ScriptLine)) (v : Verdict) → (made c o cap b l.1).1 ≡ v
+bench-next : (c : Parts) (o cap : ℕ) (b end : BenchState) (l : LinePlace × ScriptLine) (ls : List (LinePlace × ScriptLine)) (v : Verdict) → (made c o cap b l.1).1 ≡ v
     → (in_turn c o cap (Ok (made c o cap b l.1).0) ls ≡ Ok end → bench_after c o cap (made c o cap b l.1).0 ls ≡ end)
     → in_turn c o cap (line_result l.0 (made c o cap b l.1).0 (made c o cap b l.1).1) ls ≡ Ok end → bench_after c o cap b (l ∷ ls) ≡ end
 bench-next c o cap b end l ls verdict.SlotLimit f more h = let no : Err l.0 ≡ Ok end = turns-failed c o cap l.0 ls ∙ (rw f at h) in absurd (cc)
@@ -35,18 +38,18 @@ bench-next c o cap b end l ls verdict.Nothing f more h = let open_ : is_limit (m
 bench-next c o cap b end l ls (verdict.Met what) f more h = let open_ : is_limit (made c o cap b l.1).1 ≡ false = ap is_limit f in rw open_ (more (rw f at h))
 bench-next c o cap b end l ls (verdict.Unmet what got) f more h = let open_ : is_limit (made c o cap b l.1).1 ≡ false = ap is_limit f in rw open_ (more (rw f at h))
 
-bench-whole : (c : Parts) (o cap : ℕ) (b end : BenchState) (ls : List (ℕ × ScriptLine)) → in_turn c o cap (Ok b) ls ≡ Ok end → bench_after c o cap b ls ≡ end
+bench-whole : (c : Parts) (o cap : ℕ) (b end : BenchState) (ls : List (LinePlace × ScriptLine)) → in_turn c o cap (Ok b) ls ≡ Ok end → bench_after c o cap b ls ≡ end
 bench-whole c o cap b end [] h = cc
 bench-whole c o cap b end (l ∷ ls) h = bench-next c o cap b end l ls (made c o cap b l.1).1 refl (λ k. bench-whole c o cap (made c o cap b l.1).0 end ls k) h
 
 -- the play of these lines, whose core kept this much
-play-by : (strict : Bool) (c : Parts) (o cap : ℕ) (fs : List SlotFault) (ls : List (ℕ × ScriptLine)) (r : Result BenchState ℕ) → come_to_under c o cap fs ls ≡ r
+play-by : (strict : Bool) (c : Parts) (o cap : ℕ) (fs : List SlotFault) (ls : List (LinePlace × ScriptLine)) (r : Result BenchState LinePlace) → come_to_under c o cap fs ls ≡ r
     → (it : PlayedUnder) × ComesUnder strict c o cap fs ls it
 play-by strict c o cap fs ls (Ok b) come =
     let end = bench_after c o cap (first_under fs) ls in
-    let js = judged_up_to strict (is_silent strict ls) c o cap (first_under fs) ls in
+    let js = judged_up_to strict (silent_lines strict ls) c o cap (first_under fs) ls in
     let same : b ≡ end = sym (bench-whole c o cap (first_under fs) b ls come) in
-    let judged : js ≡ judgements_under strict c o cap fs ls = judged-whole strict (is_silent strict ls) c o cap (first_under fs) b ls come in (
+    let judged : js ≡ judgements_under strict c o cap fs ls = judged-whole strict (silent_lines strict ls) c o cap (first_under fs) b ls come in (
       record {
         core = record { cluster = c; opening = o; capacity = cap; log = reverse end.past; spare = 0 };
         judgements = js;
@@ -71,7 +74,7 @@ play-by strict c o cap fs ls (Ok b) come =
     )
 play-by strict c o cap fs ls (Err n) come =
     let end = bench_after c o cap (first_under fs) ls in
-    let js = judged_up_to strict (is_silent strict ls) c o cap (first_under fs) ls in (
+    let js = judged_up_to strict (silent_lines strict ls) c o cap (first_under fs) ls in (
       record {
         core = record { cluster = c; opening = o; capacity = cap; log = reverse end.past; spare = 0 };
         judgements = js;
@@ -170,19 +173,19 @@ counted-rows on ss t n [] some h = refl
 counted-rows on ss t n (p ∷ ps) some h =
     counted-if (p.number == 0) p (rows_with_faults ps) ps (number-not on ss n (places_of t n) p some h.0) (counted-rows on ss t (suc n) ps (omega arith) h.1)
 
-shown-row : (format : RowFormat) (script : List ℕ) (c : Parts) (calm p : RowData) → (p.number == 0) ≡ false
-    → row_in_output format script c calm p ≡ row_as format script c calm.row.lost calm.row.refused p
-shown-row format script c calm p e = ap (λ b. if b then row_as format script c [] [] p else row_as format script c calm.row.lost calm.row.refused p) e
+shown-row : (format : RowFormat) (script : List ℕ) (fs : List ScriptFile) (c : Parts) (calm p : RowData) → (p.number == 0) ≡ false
+    → row_in_output format script fs c calm p ≡ row_as format script fs c calm.row.lost calm.row.refused p
+shown-row format script fs c calm p e = ap (λ b. if b then row_as format script fs c [] [] p else row_as format script fs c calm.row.lost calm.row.refused p) e
 
-shown-rows : (on : PlaySetup) (ss : List Single) (t : Rows) (n : ℕ) (ps : List RowData) (format : RowFormat) (script : List ℕ) (c : Parts) (calm : RowData) → 1 ≤ n → AreRowsOf on ss t n ps
-    → flat_map (row_in_output format script c calm) ps ≡ flat_map (row_as format script c calm.row.lost calm.row.refused) ps
-shown-rows on ss t n [] format script c calm some h = refl
-shown-rows on ss t n (p ∷ ps) format script c calm some h =
-    ap₂ (λ a b. a ++ b) (shown-row format script c calm p (number-not on ss n (places_of t n) p some h.0)) (shown-rows on ss t (suc n) ps format script c calm (omega arith) h.1)
+shown-rows : (on : PlaySetup) (ss : List Single) (t : Rows) (n : ℕ) (ps : List RowData) (format : RowFormat) (script : List ℕ) (fs : List ScriptFile) (c : Parts) (calm : RowData) → 1 ≤ n → AreRowsOf on ss t n ps
+    → flat_map (row_in_output format script fs c calm) ps ≡ flat_map (row_as format script fs c calm.row.lost calm.row.refused) ps
+shown-rows on ss t n [] format script fs c calm some h = refl
+shown-rows on ss t n (p ∷ ps) format script fs c calm some h =
+    ap₂ (λ a b. a ++ b) (shown-row format script fs c calm p (number-not on ss n (places_of t n) p some h.0)) (shown-rows on ss t (suc n) ps format script fs c calm (omega arith) h.1)
 
-shown-calm : (format : RowFormat) (script : List ℕ) (c : Parts) (calm : RowData) → calm.number ≡ 0 → row_in_output format script c calm calm ≡ row_as format script c [] [] calm
-shown-calm format script c calm e =
-    ap (λ n. if n == 0 then row_as format script c [] [] calm else row_as format script c calm.row.lost calm.row.refused calm) e
+shown-calm : (format : RowFormat) (script : List ℕ) (fs : List ScriptFile) (c : Parts) (calm : RowData) → calm.number ≡ 0 → row_in_output format script fs c calm calm ≡ row_as format script fs c [] [] calm
+shown-calm format script fs c calm e =
+    ap (λ n. if n == 0 then row_as format script fs c [] [] calm else row_as format script fs c calm.row.lost calm.row.refused calm) e
 
 listed-calm : (format : RowFormat) (calm : RowData) (ps : List RowData) → calm.number ≡ 0 → plays_in_output format calm (calm ∷ ps) ≡ calm ∷ ps
 listed-calm Text calm ps e = refl
@@ -196,25 +199,25 @@ listed-page on ss t n calm [] some h = refl
 listed-page on ss t n calm (p ∷ ps) some h = ap (λ b. if b then p ∷ ps else calm ∷ p ∷ ps) (number-not on ss n (places_of t n) p some h.0)
 
 -- without row 0
-rest-text : (on : PlaySetup) (ss : List Single) (t : Rows) (n : ℕ) (calm : RowData) (ps : List RowData) (format : RowFormat) (script : List ℕ) (c : Parts) → calm.number ≡ 0 → 1 ≤ n → AreRowsOf on ss t n ps
-    → flat_map (row_in_output format script c calm) (plays_in_output format calm ps)
-    ≡ (if is_page format then row_as format script c [] [] calm else []) ++ flat_map (row_as format script c calm.row.lost calm.row.refused) ps
-rest-text on ss t n calm ps Text script c e some h = shown-rows on ss t n ps Text script c calm some h
-rest-text on ss t n calm ps Csv script c e some h = shown-rows on ss t n ps Csv script c calm some h
-rest-text on ss t n calm ps Jsonl script c e some h = shown-rows on ss t n ps Jsonl script c calm some h
-rest-text on ss t n calm ps Junit script c e some h = shown-rows on ss t n ps Junit script c calm some h
-rest-text on ss t n calm ps Html script c e some h =
-    ap (flat_map (row_in_output Html script c calm)) (listed-page on ss t n calm ps some h)
-    ∙ ap₂ (λ a b. a ++ b) (shown-calm Html script c calm e) (shown-rows on ss t n ps Html script c calm some h)
+rest-text : (on : PlaySetup) (ss : List Single) (t : Rows) (n : ℕ) (calm : RowData) (ps : List RowData) (format : RowFormat) (script : List ℕ) (fs : List ScriptFile) (c : Parts) → calm.number ≡ 0 → 1 ≤ n → AreRowsOf on ss t n ps
+    → flat_map (row_in_output format script fs c calm) (plays_in_output format calm ps)
+    ≡ (if is_page format then row_as format script fs c [] [] calm else []) ++ flat_map (row_as format script fs c calm.row.lost calm.row.refused) ps
+rest-text on ss t n calm ps Text script fs c e some h = shown-rows on ss t n ps Text script fs c calm some h
+rest-text on ss t n calm ps Csv script fs c e some h = shown-rows on ss t n ps Csv script fs c calm some h
+rest-text on ss t n calm ps Jsonl script fs c e some h = shown-rows on ss t n ps Jsonl script fs c calm some h
+rest-text on ss t n calm ps Junit script fs c e some h = shown-rows on ss t n ps Junit script fs c calm some h
+rest-text on ss t n calm ps Html script fs c e some h =
+    ap (flat_map (row_in_output Html script fs c calm)) (listed-page on ss t n calm ps some h)
+    ∙ ap₂ (λ a b. a ++ b) (shown-calm Html script fs c calm e) (shown-rows on ss t n ps Html script fs c calm some h)
 
 -- all rows of a part, which has rows from one up to another, where these are those with faults
 pub record AreAll (on : PlaySetup) (ss : List Single) (t : Rows) (from to : ℕ) (calm : RowData) (ps all : List RowData) : Type 0 where
   pub listed_are : AreRowsFrom on ss from (take (to - from) (drop from (rows t))) all
   pub counted_are : rows_with_faults all ≡ ps
-  pub text : (format : RowFormat) (script : List ℕ) (c : Parts)
-      → flat_map (row_in_output format script c calm) (plays_in_output format calm all)
-      ≡ (if ((from == 0) && nat_lt 0 to) || is_page format then row_as format script c [] [] calm else [])
-      ++ flat_map (row_as format script c calm.row.lost calm.row.refused) ps
+  pub text : (format : RowFormat) (script : List ℕ) (fs : List ScriptFile) (c : Parts)
+      → flat_map (row_in_output format script fs c calm) (plays_in_output format calm all)
+      ≡ (if ((from == 0) && nat_lt 0 to) || is_page format then row_as format script fs c [] [] calm else [])
+      ++ flat_map (row_as format script fs c calm.row.lost calm.row.refused) ps
 
 undisturbed-row : (on : PlaySetup) (ss : List Single) (calm : RowData) → IsRowOf on [] 0 [] calm → IsRowOf on ss 0 [] calm
 undisturbed-row on ss calm h = record {
@@ -235,7 +238,7 @@ all-rows on ss t zero zero calm [] calm-is h long order few = (
   record {
     listed_are = tt;
     counted_are = refl;
-    text = λ format script c. rest-text on ss t 1 calm [] format script c calm-is.number (omega arith) tt;
+    text = λ format script fs c. rest-text on ss t 1 calm [] format script fs c calm-is.number (omega arith) tt;
   },
 )
 all-rows on ss t zero zero calm (p ∷ ps) calm-is h long order few = absurd (omega (arith, long))
@@ -246,11 +249,11 @@ all-rows on ss t zero (suc to) calm ps calm-is h long order few =
       record {
         listed_are = part-listed on ss t 0 (suc to - 0) (calm ∷ ps) (omega (arith, long)) (omega (arith, few)) (first, h);
         counted_are = ap (λ b. if not b then calm ∷ rows_with_faults ps else rows_with_faults ps) zeroth ∙ counted-rows on ss t 1 ps (omega arith) h;
-        text = λ format script c.
-            ap (flat_map (row_in_output format script c calm)) (listed-calm format calm ps calm-is.number)
-            ∙ ap₂ (λ a b. a ++ b) (shown-calm format script c calm calm-is.number) (shown-rows on ss t 1 ps format script c calm (omega arith) h)
+        text = λ format script fs c.
+            ap (flat_map (row_in_output format script fs c calm)) (listed-calm format calm ps calm-is.number)
+            ∙ ap₂ (λ a b. a ++ b) (shown-calm format script fs c calm calm-is.number) (shown-rows on ss t 1 ps format script fs c calm (omega arith) h)
             ∙ ap
-            (λ b. (if b || is_page format then row_as format script c [] [] calm else []) ++ flat_map (row_as format script c calm.row.lost calm.row.refused) ps)
+            (λ b. (if b || is_page format then row_as format script fs c [] [] calm else []) ++ flat_map (row_as format script fs c calm.row.lost calm.row.refused) ps)
             (sym (above-zero to (nat_lt 0 (suc to)) refl));
       },
     )
@@ -261,10 +264,10 @@ all-rows on ss t (suc from) to calm ps calm-is h long order few =
       record {
         listed_are = part-listed on ss t (suc from) (to - suc from) ps (omega (arith, long)) (omega (arith, few, order)) rows-are;
         counted_are = counted-rows on ss t (suc from) ps (omega arith) rows-are;
-        text = λ format script c.
-            rest-text on ss t (suc from) calm ps format script c calm-is.number (omega arith) rows-are
+        text = λ format script fs c.
+            rest-text on ss t (suc from) calm ps format script fs c calm-is.number (omega arith) rows-are
             ∙ ap
-            (λ b. (if (b && nat_lt 0 to) || is_page format then row_as format script c [] [] calm else []) ++ flat_map (row_as format script c calm.row.lost calm.row.refused) ps)
+            (λ b. (if (b && nat_lt 0 to) || is_page format then row_as format script fs c [] [] calm else []) ++ flat_map (row_as format script fs c calm.row.lost calm.row.refused) ps)
             (sym (not-zero (suc from) (omega arith)));
       },
     )

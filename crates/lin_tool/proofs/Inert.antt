@@ -7,6 +7,7 @@ use Rattle.std.specs.Fmt.{decimal, digits, digits_onto, digit_glyph}
 use Rattle.std.proofs.lemmas.Bool.{and_parts}
 use Rattle.std.proofs.lemmas.Grind.{common_steps}
 use Rattle.hex.specs.Hex.{encode_upper, encode_with, upper_digits}
+use Rattle.lin_bench.specs.declared.files.ScriptFile.{ScriptFile}
 use Rattle.lin_frame.specs.Words.{numbers}
 use Rattle.lin_frame.specs.declared.value.Value.{Value}
 use Rattle.lin_frame.specs.declared.value.Value.TheVariants.{Scalar, Bytes}
@@ -280,18 +281,18 @@ log-inert : (log : List LogEntry) → is_inert (text log) ≡ true
 log-inert log = entries-inert [] log
 
 -- ---- all of it
-unmet-inert : (named : Option (Bor (List ℕ))) (c : Parts) (log : List LogEntry) (j : Judgement) → is_inert (unmet_data_line named c log j) ≡ true
-unmet-inert named c log j =
-    let ws = codes "unmet" ∷ decimal j.entries ∷ field (missed_line named c log j) ∷ [] in
-    where-so (is_unmet j.judged) (line ws) [] (line-inert ws (rw (number-inert j.entries, field-inert (missed_line named c log j)) refl)) refl
+unmet-inert : (named : Option (Bor (List ℕ))) (fs : List ScriptFile) (c : Parts) (log : List LogEntry) (j : Judgement) → is_inert (unmet_data_line named fs c log j) ≡ true
+unmet-inert named fs c log j =
+    let ws = codes "unmet" ∷ decimal j.entries ∷ field (missed_line named fs c log j) ∷ [] in
+    where-so (is_unmet j.judged) (line ws) [] (line-inert ws (rw (number-inert j.entries, field-inert (missed_line named fs c log j)) refl)) refl
 
 pub data-inert : DataAreInert
-data-inert named c k file log judgements =
-    let unmet = flat_map (unmet_data_line named c log) judgements in
+data-inert named fs c k file log judgements =
+    let unmet = flat_map (unmet_data_line named fs c log) judgements in
     let before = data_head c file ++ guarded_text (cluster_lines c) in
     let head = before ++ log_head c k in
     more (head ++ text log) unmet
     (more head (text log)
     (more before (log_head c k) (more (data_head c file) (guarded_text (cluster_lines c)) (head-inert c file) (guarded-inert (cluster_lines c))) (log-head-inert c k))
     (log-inert log))
-    (each (unmet_data_line named c log) (unmet-inert named c log) judgements)
+    (each (unmet_data_line named fs c log) (unmet-inert named fs c log) judgements)

@@ -2,9 +2,11 @@ pub mod Texts
 pub mod Warned
 pub mod FieldTexts
 pub mod Shows
-pub mod Plays
+pub mod PlayedScripts
 pub mod Moments
 pub mod Tallies
+pub mod TestCases
+pub mod UnusedNames
 pub mod Reports
 pub mod Inert
 pub mod Leveled

@@ -16,6 +16,7 @@ pub mod PageFields
 pub mod PageMeanings
 pub mod PageTold
 pub mod Placing
+pub mod Separated
 pub mod Playing
 pub mod Reading
 pub mod Replaying

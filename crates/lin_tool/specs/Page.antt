@@ -24,6 +24,7 @@ use Rattle.lin_export.specs.ListedSlots.{slots}
 use Rattle.lin_export.specs.FirstSlots.{first_slots}
 use Rattle.lin_export.specs.WhereTold.{given_coding}
 use Rattle.lin_bench.specs.Played.{is_unmet}
+use Rattle.lin_bench.specs.declared.files.ScriptFile.{ScriptFile}
 use Rattle.lin_bench.specs.declared.got.Judgement.{Judgement}
 use Rattle.lin_tool.specs.PageFields.{field, guarded_text, is_inert}
 use Rattle.lin_tool.specs.PageMeanings.{coded_lines}
@@ -56,10 +57,10 @@ log_head c k =
 
 -- a judgement after so many entries, where it isn't met, with what is said of it; where the script's
 -- file has a name, as `play --where` says it
-abbrev pub unmet_data_line : Option (Bor (List ℕ)) → Parts → List LogEntry → Judgement → List ℕ
-unmet_data_line named c log j =
+abbrev pub unmet_data_line : Option (Bor (List ℕ)) → List ScriptFile → Parts → List LogEntry → Judgement → List ℕ
+unmet_data_line named fs c log j =
     if is_unmet j.judged
-    then line (codes "unmet" ∷ decimal j.entries ∷ field (missed_line named c log j) ∷ []) else []
+    then line (codes "unmet" ∷ decimal j.entries ∷ field (missed_line named fs c log j) ∷ []) else []
 
 -- how many events of a log pass a test, and how many of its steps were refused
 abbrev pub events_so : (Event → Bool) → List LogEntry → ℕ
@@ -99,37 +100,40 @@ summary c log =
     ++ labeled_number (codes ", time_us") (decimal (time c (reverse log)))
     ++ (codes "</p>" ++ 10 ∷ [])
 
-abbrev pub unmet_data : Option (Bor (List ℕ)) → Parts → List LogEntry → List Judgement → List ℕ
-unmet_data named c log judgements = flat_map (unmet_data_line named c log) judgements
+abbrev pub unmet_data : Option (Bor (List ℕ)) → List ScriptFile → Parts → List LogEntry → List Judgement → List ℕ
+unmet_data named fs c log judgements = flat_map (unmet_data_line named fs c log) judgements
 
 -- the data that the page's scripts read
-abbrev pub page_data : Option (Bor (List ℕ)) → Parts → Option CodedData → List ℕ → List LogEntry
+abbrev pub page_data : Option (Bor (List ℕ)) → List ScriptFile → Parts → Option CodedData → List ℕ → List LogEntry
     → List Judgement → List ℕ
-page_data named c k file log judgements =
+page_data named fs c k file log judgements =
     data_head c file ++ guarded_text (cluster_lines c) ++ log_head c k ++ text log
-    ++ unmet_data named c log judgements
+    ++ unmet_data named fs c log judgements
 
 -- the page of a log of a cluster, with what its values mean, the name of its LDF, and the judgements
 -- of its play, whose script has this name
-abbrev pub page : Option (Bor (List ℕ)) → Parts → Option CodedData → List ℕ → List LogEntry
+abbrev pub page : Option (Bor (List ℕ)) → List ScriptFile → Parts → Option CodedData → List ℕ → List LogEntry
     → List Judgement → List ℕ
-page named c k file log judgements =
-    HEAD.now ++ page_data named c k file log judgements ++ (MIDDLE.now ++ summary c log)
+page named fs c k file log judgements =
+    HEAD.now ++ page_data named fs c k file log judgements ++ (MIDDLE.now ++ summary c log)
     ++ first_slots c log ++ TAIL.now
 
 -- the same of a core whose log is shown so
+abbrev pub shown_unmet_data : Shown → CoreData → List ℕ
+shown_unmet_data s core = unmet_data s.script s.files.now core.cluster core.log s.judgements.now
+
 abbrev pub shown_page_data : Shown → List ℕ → CoreData → List ℕ
 shown_page_data s file core =
-    page_data s.script core.cluster (given_coding s.coded) file core.log s.judgements.now
+    page_data s.script s.files.now core.cluster (given_coding s.coded) file core.log s.judgements.now
 
 abbrev pub shown_page : Shown → List ℕ → CoreData → List ℕ
 shown_page s file core =
-    page s.script core.cluster (given_coding s.coded) file core.log s.judgements.now
+    page s.script s.files.now core.cluster (given_coding s.coded) file core.log s.judgements.now
 
 -- Whatever the names, the texts and the lines are, nothing in the data ends them: what stands in
 -- them is never a script's.
 abbrev pub DataAreInert : Type 0
 DataAreInert =
-    (named : Option (Bor (List ℕ))) (c : Parts) (k : Option CodedData) (file : List ℕ)
+    (named : Option (Bor (List ℕ))) (fs : List ScriptFile) (c : Parts) (k : Option CodedData) (file : List ℕ)
     (log : List LogEntry) (judgements : List Judgement)
-    → is_inert (page_data named c k file log judgements) ≡ true
+    → is_inert (page_data named fs c k file log judgements) ≡ true

@@ -49,7 +49,7 @@ abbrev pub StopsReplay : Format → Option CodedData → Parts → ℕ → ℕ
     → Option (List ℕ) → Option (List ℕ) → Option (List ℕ) → Type 0
 StopsReplay format k c opening capacity told old new =
     (log : List LogEntry) × IsLogOf c opening capacity told log
-    × Begins old new (log_in_format format None c k opening capacity log [])
+    × Begins old new (log_in_format format None [] c k opening capacity log [] [])
 
 -- What a replay in this format answers, and what the writer took. (The log's own text takes no
 -- memory: where there isn't enough, nothing of it was written.)
@@ -57,7 +57,7 @@ abbrev pub Replays : Format → Option CodedData → Parts → ℕ → ℕ → R
     → Option (List ℕ) → Option (List ℕ) → Option (List ℕ) → Type 0
 Replays format k c opening capacity (Ok done) told old new =
     (log : List LogEntry) × IsLogOf c opening capacity told log
-    × Appends old new (log_in_format format None c k opening capacity log [])
+    × Appends old new (log_in_format format None [] c k opening capacity log [] [])
 Replays format k c opening capacity (Err (BadLine n)) told old new =
     RefusesScript (script.BadLine n) told old new
 Replays format k c opening capacity (Err ScriptTooLong) told old new =

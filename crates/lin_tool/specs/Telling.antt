@@ -1,5 +1,5 @@
 -- What the program says of a fault, as lines.
-use Rattle.std.specs.Prelude.{ℕ, ◌==◌, List, [], ◌∷◌, ◌++◌, flat_map, if◌then◌else◌, codes}
+use Rattle.std.specs.Prelude.{ℕ, ◌==◌, List, [], ◌∷◌, ◌++◌, flat_map, if◌then◌else◌, codes, Option, Some, None}
 use Rattle.std.specs.Fmt.{decimal}
 use Rattle.lin_parts.specs.declared.place.Location.{Location}
 use Rattle.lin_ldf.specs.declared.fault.LdfFault.{LdfFault}
@@ -13,7 +13,8 @@ use Rattle.lin_tool.specs.declared.fault.Fault.TheVariants.{BadLine, Ldf, Findin
 use Rattle.lin_tool.specs.declared.fault.Fault.TheVariants.{ScriptTooLong, NotHostStep, NoSuchTable}
 use Rattle.lin_tool.specs.declared.fault.Fault.TheVariants.{OutOfMemory, ReadFailed, WriteFailed}
 use Rattle.lin_tool.specs.declared.fault.Fault.TheVariants.{TaskLimit, NoThread, LogFull}
-use Rattle.lin_tool.specs.declared.fault.Fault.TheVariants.{LogDiffers, SlotLimit, BadBenchLine}
+use Rattle.lin_tool.specs.declared.fault.Fault.TheVariants.{LogDiffers, SlotLimit, BadBenchLine, UnusedParameter}
+use Rattle.lin_tool.specs.declared.fault.Fault.TheVariants.{UnreadFile, LongFile, Several}
 use Rattle.lin_tool.specs.declared.fault.Fault.TheVariants.{BadLines, Differs, Unmet, Remarks}
 use Rattle.lin_tool.specs.declared.fault.Fault.TheVariants.{BadFaults, Denied}
 
@@ -56,6 +57,11 @@ ldf_text (ldf.SectionTwice place) = ldf_line place (codes "6 SectionTwice")
 ldf_text (ldf.NameTwice place) = ldf_line place (codes "7 NameTwice")
 ldf_text ldf.OutOfMemory = line (codes "ldf out of memory" ∷ [])
 
+-- the name of a file before the number of a line
+abbrev pub file_text : Option (List ℕ) → List ℕ
+file_text None = []
+file_text (Some name) = name ++ codes ":"
+
 -- the line of a fault, and the lines of findings; of bad lines of bench scripts and of what they
 -- expect all was told while they were played or answered
 abbrev pub fault_text : Fault → List ℕ
@@ -75,8 +81,13 @@ fault_text TaskLimit = line (codes "task limit" ∷ [])
 fault_text NoThread = line (codes "no thread" ∷ [])
 fault_text LogFull = line (codes "log full" ∷ [])
 fault_text (LogDiffers n) = line (codes "log" ∷ decimal n ∷ codes "differs" ∷ [])
-fault_text (SlotLimit n) = line (codes "script" ∷ decimal n ∷ codes "slot limit" ∷ [])
+fault_text (UnusedParameter name) = codes "set " ++ (name ++ codes ": no line uses it\n")
+fault_text (SlotLimit p file) =
+    codes "script " ++ (file_text file ++ (decimal p.line ++ codes " slot limit\n"))
 fault_text (BadBenchLine n told) = []
+fault_text (UnreadFile told) = []
+fault_text (LongFile told) = []
+fault_text (Several status) = []
 fault_text BadLines = []
 fault_text Differs = []
 fault_text (Unmet told) = []

@@ -1,15 +1,16 @@
 //! `linsim campaign`: plays a bench script as it is, and then under faults, and writes what each play
 //! came to.
 
-ghost use Rattle.std.specs.Prelude.{◌≡◌, ◌<◌, ◌+◌, ◌^◌, false, length};
+ghost use Rattle.std.specs.Prelude.{◌≡◌, ◌<◌, ◌≤◌, ◌+◌, ◌^◌, false, length};
 ghost use Rattle.std.specs.Prelude.{IfOk, OnOk};
 ghost use Rattle.std.specs.Io.KnownBytes.{Keeps};
+ghost use Rattle.lin_bench.specs.Files.{source_data};
 ghost use Rattle.lin_text.specs.Written.{WritesText};
 ghost use Rattle.lin_tool.specs.campaign.Rows.{IsPart, rows};
 ghost use Rattle.lin_tool.specs.campaign.Steps.{AreWorstFaults, IsCampaignReady, IsTable, WritesCounts};
 ghost use Rattle.lin_tool.specs.campaign.Steps.{PlaysAndWritesRow, PlaysAndWritesRows, WritesAfter, WritesTable};
 ghost use Rattle.lin_tool.specs.campaign.Steps.{calm_row, head_with_calm, shows_calm, worst_places};
-ghost use Rattle.lin_tool.specs.campaign.Written.{WritesOpened, name_or};
+ghost use Rattle.lin_tool.specs.campaign.Written.{WritesOpened, WritesSource, name_or};
 
 mod csv_rows;
 mod fault_names;
@@ -39,8 +40,9 @@ use crate::campaign::summary::{JudgedScript, RowCounts};
 use crate::fault::Fault;
 use crate::notes::Notes;
 use crate::opening::{Opened, Settings, begin, within_limits};
-use crate::play_command::{Script, bench_lines, judge};
-use lin_bench::{Judgement, NodeLimits, SlotFault, some_unmet};
+use crate::play_command::{Script, bench_lines, check_used, judge};
+use crate::plays::{ScriptInput, included_files, script_bytes};
+use lin_bench::{Judgement, NodeLimits, SlotFault, Source, some_unmet};
 use lin_core::Core;
 use lin_export::ExportFault;
 use lin_log::read_bytes;
@@ -51,14 +53,15 @@ pub use plan::{CampaignPlan, RowFormat};
 pub use rows::{CampaignPart, RandomSets, parts_are_the_whole};
 pub use singles::Kinds;
 use std::alloc::{AllocError, Global};
-use std::fs::{self, Files};
+use std::fs::Files;
 use std::io::{self, Read, Write};
 
 /// What all plays of a campaign have in common, and how their rows are written.
 #[derive(Clone, Copy)]
 pub(crate) struct Campaign<'a, 'c> {
     pub alloc: Global,
-    pub bytes: &'a [u8],
+    /// The script, with its files and parameters.
+    pub source: Source<'a>,
     /// The name of the script.
     pub script: &'a str,
     /// The name of the LDF file.
@@ -336,17 +339,10 @@ pub struct PlannedCampaign<'a> {
     pub plan: &'a CampaignPlan,
 }
 
-/// Reads a bench script, plays it over the cluster that was opened, and then under each set of faults of
-/// the plan's part, and writes a row for each play, in the plan's format. Each row is written completely
-/// when its play is done. Then counts go to `errors`: how many rows break each line. If the plan watches
-/// the rows, `errors` gets the number of rows that are done at each tenth of them.
-///
-/// The notes have the script's name. If the undisturbed play has an expectation that fails, this is
-/// reported as by `play_script`, and nothing is written.
+/// Reads a bench script without files and parameters, and does what `campaign_source` does.
 ///
 /// # Errors
-/// Those of `play_script`; `Denied` if the plan denies what the rows came to. After `WriteFailed`,
-/// `OutOfMemory` and `LogFull` the rows before one were written.
+/// Those of `campaign_source`; `ReadFailed`, `ScriptTooLong`.
 pub fn campaign_script<R: Read, W: Write, E: Write>(
     alloc: Global,
     planned: PlannedCampaign<'_>,
@@ -362,18 +358,50 @@ pub fn campaign_script<R: Read, W: Write, E: Write>(
         (W.contents writer.old) (W.contents writer.new)
         (E.contents errors.old) (E.contents errors.new) }
 {
+    let bytes = read_bytes(alloc, reader)?;
+    let source = Source::of(bytes.as_slice());
+    campaign_source(alloc, planned, source, writer, errors, notes)
+}
+
+/// Plays a bench script over the cluster that was opened, and then under each set of faults of
+/// the plan's part, and writes a row for each play, in the plan's format. Each row is written completely
+/// when its play is done. Then counts go to `errors`: how many rows break each line. If the plan watches
+/// the rows, `errors` gets the number of rows that are done at each tenth of them.
+///
+/// The notes have the script's name. If the undisturbed play has an expectation that fails, this is
+/// reported as by `play_script`, and nothing is written.
+///
+/// # Errors
+/// Those of `play_source`; `Denied` if the plan denies what the rows came to. After `WriteFailed`,
+/// `OutOfMemory` and `LogFull` the rows before one were written.
+pub fn campaign_source<W: Write, E: Write>(
+    alloc: Global,
+    planned: PlannedCampaign<'_>,
+    source: Source<'_>,
+    writer: &mut W,
+    errors: &mut E,
+    notes: &mut Notes<'_>,
+) -> Result<(), Fault>
+    requires table { planned.opened.table < length planned.opened.cluster.tables }
+    requires part { IsPart planned.plan.now.part }
+    requires text { length source.text.now ≤ 16777216 }
+    ensures { WritesSource planned.entry.plan.now (source_data source.entry) planned.entry.opened
+        notes.old.wanted.script result
+        (W.contents writer.old) (W.contents writer.new)
+        (E.contents errors.old) (E.contents errors.new) }
+{
     let PlannedCampaign { opened, plan } = planned;
     let name = name_or(notes.wanted.script, "-");
     let file = name_or(opened.settings.file, "");
-    let bytes = read_bytes(alloc, reader)?;
     let script = Script {
-        bytes: bytes.as_slice(),
+        source,
         name: notes.wanted.script,
         is_strict: opened.settings.is_strict,
         faults: 0,
         missed: 0,
     };
     let lines = bench_lines(alloc, &opened, script, errors, notes)?;
+    check_used(alloc, &opened.cluster, script)?;
     let Opened {
         cluster,
         table,
@@ -381,13 +409,12 @@ pub fn campaign_script<R: Read, W: Write, E: Write>(
         limits,
         settings,
     } = opened;
-    let given = coded.as_ref();
     let campaign = Campaign {
         alloc,
-        bytes: bytes.as_slice(),
+        source,
         script: name,
         file,
-        coded: given,
+        coded: coded.as_ref(),
         limits: limits.as_slice(),
         table,
         capacity: within_limits(settings.capacity),
@@ -401,19 +428,18 @@ pub fn campaign_script<R: Read, W: Write, E: Write>(
     write_campaign(&campaign, plan, calm, writer, errors)
 }
 
-/// Reads the bench script in the file at the path `script`, or from standard input if there is no path,
-/// and writes the rows of its campaign over the cluster of the settings to standard output. Warnings of
-/// the LDF, bad lines, expectations that fail in the undisturbed play, and the counts are reported on
-/// `errors`.
+/// Reads a bench script with the files that it includes, and writes the rows of its campaign over the cluster of
+/// the settings to standard output. Warnings of the LDF, bad lines, expectations that fail in the undisturbed
+/// play, and the counts are reported on `errors`.
 ///
 /// # Errors
-/// Those of `cluster_of_file`, and `NoSuchTable`, after which nothing was written; those of
-/// `campaign_script`.
+/// Those of `cluster_of_file`, and `NoSuchTable`, after which nothing was written; `ReadFailed`,
+/// `ScriptTooLong`; those of `campaign_source`.
 pub fn run_campaign<R: AllocGlobal + Files + Input + Print, E: Write>(
     rt: &R,
     settings: &Settings<'_>,
     plan: &CampaignPlan,
-    script: Option<&str>,
+    script: ScriptInput<'_>,
     errors: &mut E,
     notes: &mut Notes<'_>,
 ) -> Result<(), Fault> {
@@ -424,20 +450,38 @@ pub fn run_campaign<R: AllocGlobal + Files + Input + Print, E: Write>(
     let opened = begin(rt, settings, true, notes)?;
     notes.tell_warnings(errors);
     notes.begin_script();
-    let (alloc, mut writer) = (rt.alloc(), io::writer(rt));
-    let answer = match script {
-        None => {
-            let (planned, reader) = (PlannedCampaign { opened, plan }, &mut rt.reader());
-            campaign_script(alloc, planned, reader, &mut writer, errors, notes)
-        }
-        Some(path) => match fs::open(rt, path) {
-            Ok(mut file) => {
-                let planned = PlannedCampaign { opened, plan };
-                campaign_script(alloc, planned, &mut file, &mut writer, errors, notes)
-            }
-            Err(_) => Err(Fault::ReadFailed),
-        },
-    };
-    notes.add_unread(&answer, script);
+    let planned = PlannedCampaign { opened, plan };
+    let answer = campaign_file(rt, planned, script, errors, notes);
+    notes.add_unread(&answer, script.path);
     answer
+}
+
+/// Reads a bench script with the files that it includes, and does what `campaign_source` does.
+///
+/// # Errors
+/// `ReadFailed`, `ScriptTooLong`; those of `campaign_source`.
+fn campaign_file<R: AllocGlobal + Files + Input + Print, E: Write>(
+    rt: &R,
+    planned: PlannedCampaign<'_>,
+    script: ScriptInput<'_>,
+    errors: &mut E,
+    notes: &mut Notes<'_>,
+) -> Result<(), Fault>
+    requires table { planned.opened.table < length planned.opened.cluster.tables }
+    requires part { IsPart planned.plan.now.part }
+{
+    let bytes = script_bytes(rt, script.path)?;
+    let source = Source {
+        name: script.path.unwrap_or("").as_bytes(),
+        text: bytes.as_slice(),
+        files: &[],
+        given: script.given,
+    };
+    let files = included_files(rt, &planned.opened.cluster, source)?;
+    let source = Source {
+        files: files.as_slice(),
+        ..source
+    };
+    let mut writer = io::writer(rt);
+    campaign_source(rt.alloc(), planned, source, &mut writer, errors, notes)
 }

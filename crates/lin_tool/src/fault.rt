@@ -10,11 +10,11 @@ ghost use Rattle.lin_tool.specs.Statuses.{end_status, exit_status};
 ghost use Rattle.lin_tool.specs.declared.fault.Fault.TheVariants.{OutOfMemory, WriteFailed as NotWritten};
 
 use crate::finding_lines::{Findings, Remarks};
-use lin_bench::PlayFault;
+use lin_bench::{LinePlace, PlayFault};
 use lin_export::ExportFault;
 use lin_ldf::LdfFault;
 use lin_log::{ReplayFault, ScriptFault};
-use lin_text::WriteFailed;
+use lin_text::{Text, WriteFailed};
 use lin_threads::{RunFault, SplitFault};
 use std::alloc::{AllocError, AllocFailed};
 
@@ -58,19 +58,33 @@ pub enum Fault {
     LogDiffers {
         line: u64,
     },
-    /// A bench script's first line that is bad, counted from 1. Why it is was told where the script
-    /// was played, if that could be written.
+    /// A bench script's first line that is bad. Why it is was told where the script was played, if that
+    /// could be written.
     BadBenchLine {
-        line: u64,
+        place: LinePlace,
+        told: Result<(), WriteFailed>,
+    },
+    /// A file that a bench script includes can't be read, as was told where the script was played, if that
+    /// could be written.
+    UnreadFile {
+        told: Result<(), WriteFailed>,
+    },
+    /// With a file that it includes, a bench script is longer than 16,777,216 bytes, as was told where it was
+    /// played, if that could be written.
+    LongFile {
         told: Result<(), WriteFailed>,
     },
     /// Two LDFs differ, as the lines of their differences say.
     Differs,
     /// Lines that were answered were bad, or made more than 1,000,000 slots, as their answers say.
     BadLines,
-    /// By this line, counted from 1, a bench script makes more than 1,000,000 slots.
+    /// No line of a bench script uses the parameter of this name, which was given with it.
+    UnusedParameter(Text),
+    /// By this line a bench script makes more than 1,000,000 slots. If the line is in a file that the script
+    /// includes, the fault has the name of that file.
     SlotLimit {
-        line: u64,
+        place: LinePlace,
+        file: Option<Text>,
     },
     /// A bench script or the lines of a session failed: an expectation did, or each fault under which
     /// the script was played changed no slot. The reasons were reported where it was played, if they
@@ -85,6 +99,11 @@ pub enum Fault {
     },
     /// What the rows of a campaign came to is denied. They were written.
     Denied,
+    /// Several scripts, or a script and its report, came to faults, which were told. The smallest of their exit
+    /// statuses is this one.
+    Several {
+        status: u8,
+    },
 }
 
 impl Fault {
@@ -105,14 +124,37 @@ impl Fault {
             | Fault::NotHostStep { .. }
             | Fault::NoSuchTable
             | Fault::BadBenchLine { .. }
+            | Fault::LongFile { .. }
+            | Fault::UnusedParameter(_)
             | Fault::BadLines
             | Fault::BadFaults { .. }
             | Fault::SlotLimit { .. } => 1,
             Fault::OutOfMemory => 3,
-            Fault::ReadFailed | Fault::WriteFailed => 4,
+            Fault::ReadFailed | Fault::UnreadFile { .. } | Fault::WriteFailed => 4,
             Fault::TaskLimit | Fault::NoThread | Fault::LogFull => 5,
             Fault::LogDiffers { .. } | Fault::Differs | Fault::Unmet { .. } | Fault::Denied => 6,
+            Fault::Several { status } => *status,
         }
+    }
+
+    /// Whether a fault is why a script isn't played.
+    pub(crate) fn is_unplayed(&self) -> bool {
+        matches!(
+            self,
+            Fault::Ldf(_)
+                | Fault::Findings(_)
+                | Fault::Remarks(_)
+                | Fault::LdfTooLong
+                | Fault::NoSuchTable
+                | Fault::BadFaults { .. }
+                | Fault::BadBenchLine { .. }
+                | Fault::UnreadFile { .. }
+                | Fault::LongFile { .. }
+                | Fault::UnusedParameter(_)
+                | Fault::SlotLimit { .. }
+                | Fault::ScriptTooLong
+                | Fault::ReadFailed
+        )
     }
 }
 
@@ -179,7 +221,7 @@ impl From<PlayFault> for Fault {
 
     fn from(fault: PlayFault) -> Fault {
         match fault {
-            PlayFault::SlotLimit { line } => Fault::SlotLimit { line },
+            PlayFault::SlotLimit { place } => Fault::SlotLimit { place, file: None },
             PlayFault::LogFull => Fault::LogFull,
             PlayFault::OutOfMemory => Fault::OutOfMemory,
         }

@@ -3,12 +3,12 @@
 ghost use Rattle.std.specs.Prelude.{◌++◌};
 ghost use Rattle.std.specs.Fmt.{decimal};
 ghost use Rattle.lin_text.specs.Written.{Grows, WritesText};
-ghost use Rattle.lin_tool.specs.Telling.{fault_text, ldf_line, ldf_text};
+ghost use Rattle.lin_tool.specs.Telling.{fault_text, file_text, ldf_line, ldf_text};
 
 use crate::fault::Fault;
 use crate::finding_lines::{put_findings, put_place, put_remarks};
 use lin_ldf::{LdfFault, Location};
-use lin_text::{TextBuffer, TextWriter, WriteFailed};
+use lin_text::{Text, TextBuffer, TextWriter, WriteFailed};
 use std::io::Write;
 
 /// A fault of an LDF text, by its number and name.
@@ -46,6 +46,16 @@ fn put_numbered<W: Write>(out: &mut TextWriter<'_, W>, before: &str, number: u64
     out.put_text(after);
 }
 
+/// The name of a file before the number of one of its lines, if there is one.
+fn put_file<W: Write>(out: &mut TextWriter<'_, W>, file: &Option<Text>)
+    ensures { Grows W.contents out.old out.new (file_text file.now) }
+{
+    if let Some(name) = file {
+        out.put(name.as_slice());
+        out.put_text(":");
+    }
+}
+
 /// The line of a fault, or the lines of findings; nothing of what was told while a bench script was
 /// played, or before.
 pub(crate) fn put_fault<W: Write>(out: &mut TextWriter<'_, W>, fault: &Fault)
@@ -69,13 +79,25 @@ pub(crate) fn put_fault<W: Write>(out: &mut TextWriter<'_, W>, fault: &Fault)
         Fault::NoThread => out.put_text("no thread\n"),
         Fault::LogFull => out.put_text("log full\n"),
         Fault::LogDiffers { line } => put_numbered(out, "log ", *line, " differs\n"),
-        Fault::SlotLimit { line } => put_numbered(out, "script ", *line, " slot limit\n"),
+        Fault::UnusedParameter(name) => {
+            out.put_text("set ");
+            out.put(name.as_slice());
+            out.put_text(": no line uses it\n");
+        }
+        Fault::SlotLimit { place, file } => {
+            out.put_text("script ");
+            put_file(out, file);
+            put_numbered(out, "", place.line, " slot limit\n");
+        }
         Fault::BadBenchLine { .. }
+        | Fault::UnreadFile { .. }
+        | Fault::LongFile { .. }
         | Fault::BadLines
         | Fault::Differs
         | Fault::Unmet { .. }
         | Fault::BadFaults { .. }
-        | Fault::Denied => {}
+        | Fault::Denied
+        | Fault::Several { .. } => {}
     }
 }
 

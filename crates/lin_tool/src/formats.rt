@@ -9,7 +9,7 @@ ghost use Rattle.lin_tool.specs.declared.formats.Format.TheVariants.{Log};
 use crate::junit::write_junit;
 use crate::objects::write_objects;
 use crate::page::write_page;
-use lin_bench::Judgement;
+use lin_bench::{Judgement, ScriptFile, TestName};
 use lin_core::Core;
 use lin_export::{ExportFault, write_csv, write_named, write_pcap, write_vcd};
 use lin_log::write_log;
@@ -52,8 +52,12 @@ pub struct Shown<'a, 's> {
     pub capacity: usize,
     /// The judgements of a play, which objects, a picture and a report have.
     pub judgements: &'a [Judgement],
+    /// The tests of a play, which objects and a report have.
+    pub tests: &'a [TestName],
     /// The name of the play's script, where a picture tells judgements by their places in it.
     pub script: Option<&'s str>,
+    /// The files that the play's script includes.
+    pub files: &'a [ScriptFile],
 }
 
 /// Writes the log of a core as it is to be shown. A log's own text takes no memory, and the other
@@ -75,7 +79,6 @@ pub fn write_shown<W: Write>(
     let cluster = core.cluster();
     let log = core.log();
     let coded = shown.coded;
-    let judgements = shown.judgements;
     match shown.format {
         Format::Log => match write_log(log, writer) {
             Ok(()) => Ok(()),
@@ -87,6 +90,6 @@ pub fn write_shown<W: Write>(
         Format::Pcap => write_pcap(alloc, cluster, log, writer),
         Format::Vcd => write_vcd(alloc, cluster, coded, log, writer),
         Format::Html(file) => write_page(alloc, shown, file, core, writer),
-        Format::Junit(file) => write_junit(alloc, file, cluster, log, judgements, writer),
+        Format::Junit(script) => write_junit(alloc, shown, script, core, writer),
     }
 }

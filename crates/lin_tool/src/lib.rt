@@ -43,6 +43,7 @@ mod page;
 mod parties;
 mod placing;
 mod play_command;
+mod plays;
 mod replay_command;
 mod running;
 mod scripts;
@@ -74,11 +75,13 @@ pub use law::{
     transcripts_are_logs,
 };
 pub use levels::{Levels, NumberRange};
+pub use lin_bench::{GivenParameter, is_name};
 pub use lin_export::write_list;
 pub use lin_sections::Classes;
 pub use living::{answer_lines, bench_in_hand, live};
 pub use notes::{Notes, Wanted};
 pub use opening::{Opened, Settings, opening_table};
-pub use play_command::{DisturbedPlay, play, play_script, play_under_faults};
+pub use play_command::{DisturbedPlay, play_script, play_source};
+pub use plays::{PlayOptions, ScriptInput, play, play_scripts};
 pub use replay_command::{replay, replay_script};
 pub use running::run;

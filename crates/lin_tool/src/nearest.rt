@@ -13,7 +13,7 @@ use strsim::generic_damerau_levenshtein;
 const COMPARED: usize = 64;
 
 /// The words that a line begins with.
-static WORDS: [&str; 25] = [
+static WORDS: [&str; 30] = [
     "send",
     "write",
     "open",
@@ -30,6 +30,11 @@ static WORDS: [&str; 25] = [
     "slots",
     "expect",
     "forget",
+    "test",
+    "set",
+    "repeat",
+    "end",
+    "include",
     "when",
     "state",
     "node",
@@ -200,6 +205,13 @@ pub(crate) fn put_fault_form(
     }
 }
 
+/// Puts the name of the file that can't be read.
+fn put_file(out: &mut String, name: &[u8]) -> Result<(), AllocError> {
+    out.push_str("  while reading ")?;
+    put_shown(out, name)?;
+    out.push_str("\n")
+}
+
 /// Puts a bad line of a bench script, and where it has a name that there isn't, those that there
 /// are.
 pub(crate) fn put_bad_bench_line(
@@ -218,6 +230,7 @@ pub(crate) fn put_bad_bench_line(
         }
         Reason::Step(StepReason::NoTable(name)) => put_tables(alloc, out, cluster, name.as_slice()),
         Reason::NoFrame(name) => put_frames(alloc, out, cluster, name.as_slice()),
+        Reason::Unread(name) => put_file(out, name.as_slice()),
         Reason::NoRefusal(name) => put_refusals(alloc, out, name.as_slice()),
         Reason::Step(StepReason::UnknownStep(word)) => put_words(alloc, out, word.as_slice()),
         Reason::ExpectForm | Reason::UnknownExpectation(_) => {

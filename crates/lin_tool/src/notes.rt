@@ -16,16 +16,19 @@ use crate::fault_lines::{put_fault, write_fault};
 use crate::fault_text::FaultReason;
 use crate::field::is_read_otherwise;
 use crate::finding_lines::put_reported_remarks;
+use crate::formats::Shown;
+use crate::junit::{write_error_suite, write_suite};
 use crate::levels::Levels;
 use crate::locating::{problems_of_fault, problems_of_remarks, put_places};
 use crate::misspelled::count_if_similar;
 use crate::nearest::{put_bad_bench_line, put_fault_form};
-use lin_bench::Reason;
-use lin_core::Log;
+use crate::placing::{FileNames, write_bad_lines};
+use lin_bench::{LinePlace, Reason, Source, file_text};
+use lin_core::{Core, Log};
 use lin_field::Remark;
 use lin_ldf::UnknownWords;
 use lin_parts::Cluster;
-use lin_text::{Many, TextBuffer, TextWriter, WriteFailed, write_out};
+use lin_text::{Many, Text, TextBuffer, TextWriter, WriteFailed, write_out};
 use std::alloc::{AllocError, Global};
 use std::io::Write;
 
@@ -38,6 +41,10 @@ pub struct Wanted<'a> {
     pub file: Option<&'a str>,
     /// Places of a bench script, after the name of this file.
     pub script: Option<&'a str>,
+    /// A report of the play of a bench script, under the name of this file.
+    pub report: Option<&'a str>,
+    /// Whether the report has plays beside the one whose output it is.
+    pub is_report_kept: bool,
 }
 
 /// What was met that is said on standard error. Where memory for what explains runs out, the rest
@@ -54,8 +61,35 @@ pub struct Notes<'a> {
     are_warnings_told: bool,
     unknown: usize,
     places: Vec<u8>,
+    /// The lines about the bad lines of a bench script, for a report.
+    bad_lines: Vec<u8>,
+    /// The suites of a report.
+    suites: Vec<u8>,
     text: String,
     is_cut: bool,
+}
+
+/// Puts the line of a fault that is of a whole file, after its name.
+fn put_named<W: Write>(lines: &mut TextWriter<'_, W>, file: &str, fault: &Fault) {
+    lines.put_text(file);
+    lines.put_text(": ");
+    put_fault(lines, fault);
+}
+
+/// Puts that a line of a script makes more slots than a play may have. If the line is in a file that the script
+/// includes, that file is given.
+fn put_limit<W: Write>(
+    lines: &mut TextWriter<'_, W>,
+    script: &str,
+    file: &Option<Text>,
+    place: LinePlace,
+) {
+    match file {
+        Some(name) => lines.put(name.as_slice()),
+        None => lines.put_text(script),
+    }
+    lines.put_numbered(b':', place.line);
+    lines.put_text(": slot limit\n");
 }
 
 impl<'a> Notes<'a> {
@@ -70,6 +104,8 @@ impl<'a> Notes<'a> {
             are_warnings_told: false,
             unknown: 0,
             places: Vec::new(alloc),
+            bad_lines: Vec::new(alloc),
+            suites: Vec::new(alloc),
             text: String::new(alloc),
             is_cut: false,
         }
@@ -203,23 +239,136 @@ impl<'a> Notes<'a> {
             (Some(file), Fault::LdfTooLong | Fault::ScriptTooLong | Fault::ReadFailed) => {
                 let mut buffer = TextBuffer::empty();
                 let mut lines = TextWriter::new(writer, &mut buffer);
-                lines.put_text(file);
-                lines.put_text(": ");
-                put_fault(&mut lines, fault);
+                put_named(&mut lines, file, fault);
                 lines.finish()
             }
-            (Some(file), Fault::SlotLimit { line }) => {
+            (Some(script), Fault::SlotLimit { place, file }) => {
                 let mut buffer = TextBuffer::empty();
                 let mut lines = TextWriter::new(writer, &mut buffer);
-                lines.put_text(file);
-                lines.put_text(":");
-                lines.put_number(*line);
-                lines.put_text(": slot limit\n");
+                put_limit(&mut lines, script, file, *place);
                 lines.finish()
             }
             (None, Fault::Remarks(remarks)) => self.write_remarks(remarks.0.as_slice(), writer),
             _ => write_fault(fault, writer),
         }
+    }
+
+    /// Keeps the lines about the bad lines of a bench script of this name, for a report.
+    ///
+    /// # Errors
+    /// Out of memory.
+    pub(crate) fn add_bad_lines(
+        &mut self,
+        names: FileNames<'_>,
+        bad: &[(LinePlace, Reason)],
+    ) -> Result<(), AllocError>
+        ensures { self.new.warnings ≡ self.old.warnings }
+    {
+        match write_bad_lines(names, bad, &mut self.bad_lines) {
+            Ok(()) => Ok(()),
+            Err(_) => Err(AllocError),
+        }
+    }
+
+    /// Writes the lines about a bench script of this name that wasn't played because of a fault: those of
+    /// `--where`, or of a fault of the LDF, the schedule table or the option `--fault` what it is of.
+    ///
+    /// # Errors
+    /// `WriteFailed`, where what was written is the beginning of the lines.
+    pub(crate) fn write_unplayed<W: Write>(
+        &self,
+        file: &str,
+        fault: &Fault,
+        writer: &mut W,
+    ) -> Result<(), WriteFailed> {
+        let mut buffer = TextBuffer::empty();
+        let mut lines = TextWriter::new(writer, &mut buffer);
+        match fault {
+            Fault::Ldf(_) | Fault::Findings(_) | Fault::Remarks(_) | Fault::LdfTooLong => {
+                lines.put_text("bad LDF\n");
+            }
+            Fault::BadFaults { .. } => lines.put_text("bad fault\n"),
+            Fault::BadBenchLine { .. } | Fault::UnreadFile { .. } | Fault::LongFile { .. } => {
+                lines.put(self.bad_lines.as_slice());
+            }
+            Fault::SlotLimit {
+                place,
+                file: included,
+            } => put_limit(&mut lines, file, included, *place),
+            Fault::ScriptTooLong | Fault::ReadFailed if self.is_script_read => {
+                put_named(&mut lines, file, fault);
+            }
+            _ => put_fault(&mut lines, fault),
+        }
+        lines.finish()
+    }
+
+    /// Adds the suite of a play to the report, if that is kept.
+    ///
+    /// # Errors
+    /// Out of memory.
+    pub(crate) fn add_suite(
+        &mut self,
+        alloc: Global,
+        shown: &Shown<'_, '_>,
+        core: &Core,
+    ) -> Result<(), AllocError> {
+        let Some(script) = self.wanted.report else {
+            return Ok(());
+        };
+        if !self.wanted.is_report_kept {
+            return Ok(());
+        }
+        match write_suite(alloc, shown, script, core, &mut self.suites) {
+            Ok(()) => Ok(()),
+            Err(_) => Err(AllocError),
+        }
+    }
+
+    /// Adds the suite of a script to the report, if it wasn't played and there is one.
+    ///
+    /// # Errors
+    /// Out of memory.
+    pub(crate) fn add_unplayed(
+        &mut self,
+        alloc: Global,
+        answer: &Result<(), Fault>,
+    ) -> Result<(), AllocError> {
+        if let (Some(file), Err(fault)) = (self.wanted.report, answer)
+            && fault.is_unplayed()
+        {
+            let mut lines = Vec::new(alloc);
+            if self.write_unplayed(file, fault, &mut lines).is_err() {
+                return Err(AllocError);
+            }
+            if write_error_suite(file, lines.as_slice(), &mut self.suites).is_err() {
+                return Err(AllocError);
+            }
+        }
+        Ok(())
+    }
+
+    /// Returns the suites of the report.
+    pub(crate) fn suites(&self) -> &[u8] {
+        self.suites.as_slice()
+    }
+
+    /// Writes what `write` does now, and keeps no explanation of it.
+    pub(crate) fn tell_now<W: Write>(&mut self, fault: Option<&Fault>, writer: &mut W) {
+        let _ = self.write(fault, writer);
+        self.are_warnings_told = true;
+        self.text.clear();
+        self.is_cut = false;
+    }
+
+    /// What is at fault from now on is the script of this name, if it is played.
+    pub(crate) fn begin_next(&mut self, script: &'a str) {
+        self.wanted.script = Some(script);
+        if self.wanted.report.is_some() {
+            self.wanted.report = Some(script);
+        }
+        self.is_script_read = false;
+        self.bad_lines.clear();
     }
 
     /// Where what was to be read couldn't be, adds the file, by its path; without one standard input.
@@ -372,12 +521,12 @@ impl<'a> Notes<'a> {
     pub(crate) fn add_bench_lines(
         &mut self,
         alloc: Global,
-        script: &[u8],
+        script: Source<'_>,
         cluster: &Cluster,
-        bad: &[(u64, Reason)],
+        bad: &[(LinePlace, Reason)],
     ) {
-        for (line, reason) in bad.iter().take(MOST) {
-            self.add_bench_line(alloc, script, *line, cluster, reason);
+        for (place, reason) in bad.iter().take(MOST) {
+            self.add_bench_line(alloc, script, *place, cluster, reason);
         }
     }
 
@@ -385,13 +534,14 @@ impl<'a> Notes<'a> {
     pub(crate) fn add_bench_line(
         &mut self,
         alloc: Global,
-        script: &[u8],
-        line: u64,
+        script: Source<'_>,
+        place: LinePlace,
         cluster: &Cluster,
         reason: &Reason,
     ) {
         if self.is_more_explained() {
-            let put = put_bad_bench_line(alloc, &mut self.text, script, line, cluster, reason);
+            let (text, line) = (file_text(script, place.file), place.line);
+            let put = put_bad_bench_line(alloc, &mut self.text, text, line, cluster, reason);
             self.is_cut |= put.is_err();
         }
     }

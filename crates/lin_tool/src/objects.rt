@@ -1,16 +1,20 @@
 //! The objects of a run, with the failed checks of its script.
 
-ghost use Rattle.std.specs.Prelude.{◌≡◌, [], OnOk, reverse};
-ghost use Rattle.lin_export.specs.Jsonl.{IsObjectTrackOf};
+ghost use Rattle.std.specs.Prelude.{◌≡◌, [], IfOk, List, OnOk, option_map, reverse};
+ghost use Rattle.lin_parts.specs.declared.parts.Parts.{Parts};
+ghost use Rattle.lin_core.specs.declared.log.LogEntry.{LogEntry};
+ghost use Rattle.lin_export.specs.Jsonl.{IsObjectTrackOf, unmet_line, unmet_object};
 ghost use Rattle.lin_export.specs.Putting.{PutsAll};
 ghost use Rattle.lin_text.specs.Written.{WritesText};
 ghost use Rattle.lin_tool.specs.Objects.{AfterTrack, failed_check_object, counts_of, shown_checked, shown_objects};
+ghost use Rattle.lin_tool.specs.Objects.{test_named};
 
 use crate::formats::Shown;
+use crate::junit::shown_name;
 use crate::page::summary::{messages_lost, steps_refused};
 use crate::placing::within;
 use crate::tally::{unmet_in, waiting_in};
-use lin_bench::{Judgement, is_unmet};
+use lin_bench::{Judgement, TestName, file_name, is_unmet};
 use lin_core::Core;
 use lin_export::{Counts, ExportFault, LogRange, ObjectTrack, Opening, Unmet, put_run};
 use lin_live::{found_text, what_text, without_space};
@@ -32,17 +36,68 @@ fn counts_of(core: &Core, judgements: &[Judgement]) -> Counts
     }
 }
 
+/// The name of a test by its number, which is 0 outside of tests. An error means out of memory.
+fn test_named(
+    alloc: Global,
+    tests: &[TestName],
+    number: usize,
+) -> Result<Option<Vec<u8>>, AllocError>
+    ensures { IfOk result (λ name. option_map (λ v. v.items) name ≡ test_named tests.now number) }
+{
+    if number == 0 || tests.len() < number {
+        return Ok(None);
+    }
+    Ok(Some(shown_name(alloc, &tests[number - 1])?))
+}
+
+/// The bytes of a name, if there is one.
+fn bytes_of(name: &Option<Vec<u8>>) -> Option<&[u8]>
+    ensures { option_map (λ n. n.now) result ≡ option_map (λ v. v.items) name.now }
+{
+    match name {
+        Some(name) => Some(name.as_slice()),
+        None => None,
+    }
+}
+
+/// The names in the object of a failed check: that of its file, and those of the script's tests.
+#[derive(Clone, Copy)]
+struct CheckNames<'a> {
+    script: &'a [u8],
+    tests: &'a [TestName],
+}
+
+/// The failed check of a line of a script, with the name of its test, what was expected, and what is so instead.
+fn unmet_of<'a>(
+    script: &'a [u8],
+    line: u64,
+    test: Option<&'a [u8]>,
+    what: &'a [u8],
+    got: &'a [u8],
+) -> Unmet<'a>
+    ensures { (c : Parts) (past : List LogEntry) → unmet_object c past result
+        ≡ unmet_line c past script.now line (option_map (λ n. n.now) test.entry) what.now got.now }
+{
+    Unmet {
+        script,
+        line,
+        test,
+        what,
+        got,
+    }
+}
+
 /// A check, if it failed. An error means out of memory; nothing was put then.
 fn put_check<W: Write>(
     out: &mut TextWriter<'_, W>,
     alloc: Global,
     objects: &ObjectTrack,
+    names: CheckNames<'_>,
     cluster: &Cluster,
-    script: &str,
     judgement: &Judgement,
 ) -> Result<(), AllocError>
     ensures { AfterTrack cluster.now objects.now (λ past. PutsAll W.contents out.old out.new result
-        (failed_check_object cluster.now script.now past judgement.now)) }
+        (failed_check_object cluster.now names.entry.script.now names.entry.tests.now past judgement.now)) }
 {
     let judged = &judgement.judged;
     if !is_unmet(judged) {
@@ -50,12 +105,15 @@ fn put_check<W: Write>(
     }
     let what = what_text(alloc, cluster, judged)?;
     let got = found_text(alloc, cluster, judged)?;
-    let unmet = Unmet {
-        script,
-        line: judgement.line,
-        what: without_space(what.as_slice()),
-        got: without_space(got.as_slice()),
-    };
+    let name = test_named(alloc, names.tests, judgement.place.test)?;
+    let test = bytes_of(&name);
+    let unmet = unmet_of(
+        names.script,
+        judgement.place.line,
+        test,
+        without_space(what.as_slice()),
+        without_space(got.as_slice()),
+    );
     objects.put_unmet(out, unmet);
     Ok(())
 }
@@ -86,7 +144,11 @@ fn put_checked<W: Write>(
             end,
         };
         objects.put_entries(out, cluster, shown.coded, range)?;
-        put_check(out, alloc, objects, cluster, script, one)?;
+        let names = CheckNames {
+            script: file_name(script.as_bytes(), shown.files, one.place.file),
+            tests: shown.tests,
+        };
+        put_check(out, alloc, objects, names, cluster, one)?;
         read = end;
     }
     let rest = LogRange {

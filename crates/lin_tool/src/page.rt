@@ -45,8 +45,7 @@ fn write_data<W: Write>(
     write_cluster(alloc, cluster, writer)?;
     write_log_head(cluster, shown.coded, writer)?;
     write_log(log, writer)?;
-    let judgements = shown.judgements;
-    write_unmet_lines(alloc, shown.script, cluster, log, judgements, writer)
+    write_unmet_lines(alloc, shown, core, writer)
 }
 
 /// Writes what stands between the data and the first slots: the numbers that a reader without

@@ -8,9 +8,12 @@ ghost use Rattle.lin_core.specs.History.{Slot, slot_after_event, slot_after_even
 ghost use Rattle.lin_core.specs.declared.log.LogEntry.{LogEntry};
 ghost use Rattle.lin_text.specs.Written.{Grows, WritesText};
 ghost use Rattle.lin_tool.specs.Placing.{entry_in, finished_on, last_slot_text, moment_of, moment_text, past_at, AtMoment};
-ghost use Rattle.lin_tool.specs.Placing.{line_place, missed_line, placed_bad, placed_missed, placed_unmet};
+ghost use Rattle.lin_tool.specs.Placing.{bad_line_at, line_place, missed_line, placed_bad, placed_missed, placed_unmet, unread_text};
 
-use lin_bench::{Judgement, Reason, is_unmet, put_judged, put_reason};
+use lin_bench::{
+    Judgement, LinePlace, Reason, ScriptFile, file_name, is_unmet, put_judged, put_place_number,
+    put_reason,
+};
 use lin_core::{Event, Log, LogEntry, Reply, Step};
 use lin_parts::Cluster;
 use lin_text::{TextBuffer, TextWriter, WriteFailed};
@@ -145,49 +148,94 @@ impl Moment {
     }
 }
 
-/// A line's number after a file's name.
-fn put_placed<W: Write>(out: &mut TextWriter<'_, W>, file: &str, line: u64)
-    ensures { Grows W.contents out.old out.new (line_place file.now line) }
+/// The names of the files of a bench script.
+#[derive(Clone, Copy)]
+pub(crate) struct FileNames<'a> {
+    /// The name of the script's own file.
+    pub(crate) script: &'a str,
+    /// The files that it includes.
+    pub(crate) files: &'a [ScriptFile],
+}
+
+/// A line's number after its file's name.
+fn put_placed<W: Write>(out: &mut TextWriter<'_, W>, names: FileNames<'_>, place: LinePlace)
+    ensures { Grows W.contents out.old out.new
+        (line_place names.entry.script.now names.entry.files.now place) }
 {
-    out.put_text(file);
+    out.put(file_name(names.script.as_bytes(), names.files, place.file));
     out.put_text(":");
-    out.put_number(line);
+    out.put_number(place.line);
     out.put_text(":");
 }
 
-fn put_bad<W: Write>(out: &mut TextWriter<'_, W>, file: &str, bad: &(u64, Reason))
-    ensures { Grows W.contents out.old out.new (placed_bad file.now bad.now) }
+/// A file that isn't read, and why.
+fn put_unread<W: Write>(out: &mut TextWriter<'_, W>, name: &[u8], reason: &Reason)
+    ensures { Grows W.contents out.old out.new (unread_text name.now reason.now) }
 {
-    put_placed(out, file, bad.0);
-    out.put_text(" bad line: ");
-    put_reason(out, &bad.1);
+    out.put(name);
+    out.put_text(": ");
+    put_reason(out, reason);
     out.put_byte(b'\n');
 }
 
-fn put_all_bad<W: Write>(out: &mut TextWriter<'_, W>, file: &str, bad: &[(u64, Reason)])
-    ensures { Grows W.contents out.old out.new (flat_map (placed_bad file.now) bad.now) }
+/// A line that is bad, and why.
+fn put_bad_line<W: Write>(
+    out: &mut TextWriter<'_, W>,
+    names: FileNames<'_>,
+    place: LinePlace,
+    reason: &Reason,
+)
+    ensures { Grows W.contents out.old out.new
+        (bad_line_at names.entry.script.now names.entry.files.now place reason.now) }
 {
-    for one in bad {
-        put_bad(out, file, one);
+    put_placed(out, names, place);
+    out.put_text(" bad line: ");
+    put_reason(out, reason);
+    out.put_byte(b'\n');
+}
+
+fn put_bad<W: Write>(out: &mut TextWriter<'_, W>, names: FileNames<'_>, bad: &(LinePlace, Reason))
+    ensures { Grows W.contents out.old out.new
+        (placed_bad names.entry.script.now names.entry.files.now bad.now) }
+{
+    let (place, reason) = bad;
+    match reason {
+        Reason::Unread(name) => put_unread(out, name.as_slice(), reason),
+        Reason::LongFile(name) => put_unread(out, name.as_slice(), reason),
+        _ => put_bad_line(out, names, *place, reason),
     }
 }
 
-/// Writes a line for each bad line of a bench script: `FILE:LINE: bad line: REASON`.
+fn put_all_bad<W: Write>(
+    out: &mut TextWriter<'_, W>,
+    names: FileNames<'_>,
+    bad: &[(LinePlace, Reason)],
+)
+    ensures { Grows W.contents out.old out.new
+        (flat_map (placed_bad names.entry.script.now names.entry.files.now) bad.now) }
+{
+    for one in bad {
+        put_bad(out, names, one);
+    }
+}
+
+/// Writes a line for each bad line of a bench script: `FILE:LINE: bad line: REASON`. For a line that includes
+/// a file that isn't read it is `FILE: REASON`, with the name of that file.
 ///
 /// # Errors
 /// `WriteFailed` at the first error of the writer; what was written then is the beginning of the
 /// lines.
 pub(crate) fn write_bad_lines<W: Write>(
-    file: &str,
-    bad: &[(u64, Reason)],
+    names: FileNames<'_>,
+    bad: &[(LinePlace, Reason)],
     writer: &mut W,
 ) -> Result<(), WriteFailed>
     ensures { WritesText (W.contents writer.old) (W.contents writer.new) result
-        (flat_map (placed_bad file.now) bad.now) }
+        (flat_map (placed_bad names.entry.script.now names.entry.files.now) bad.now) }
 {
     let mut buffer = TextBuffer::empty();
     let mut out = TextWriter::new(writer, &mut buffer);
-    put_all_bad(&mut out, file, bad);
+    put_all_bad(&mut out, names, bad);
     out.finish()
 }
 
@@ -218,16 +266,16 @@ fn put_moment<W: Write>(out: &mut TextWriter<'_, W>, moment: Moment)
 /// line's end.
 fn put_missed<W: Write>(
     out: &mut TextWriter<'_, W>,
-    file: &str,
+    names: FileNames<'_>,
     cluster: &Cluster,
     moment: Moment,
     judgement: &Judgement,
 )
     ensures { AtMoment cluster.now judgement.now moment (λ log.
         Grows W.contents out.old out.new
-        (placed_missed file.now cluster.now log judgement.now)) }
+        (placed_missed names.entry.script.now names.entry.files.now cluster.now log judgement.now)) }
 {
-    put_placed(out, file, judgement.line);
+    put_placed(out, names, judgement.place);
     put_judged(out, cluster, &judgement.judged);
     put_moment(out, moment);
 }
@@ -237,19 +285,23 @@ fn put_missed<W: Write>(
 fn put_missed_line<W: Write>(
     out: &mut TextWriter<'_, W>,
     script: Option<&str>,
+    files: &[ScriptFile],
     cluster: &Cluster,
     moment: Moment,
     judgement: &Judgement,
 )
     ensures { AtMoment cluster.now judgement.now moment (λ log.
         Grows W.contents out.old out.new
-        (missed_line script.entry cluster.now log judgement.now)) }
+        (missed_line script.entry files.now cluster.now log judgement.now)) }
 {
     match script {
-        Some(file) => put_missed(out, file, cluster, moment, judgement),
+        Some(script) => {
+            let names = FileNames { script, files };
+            put_missed(out, names, cluster, moment, judgement);
+        }
         None => {
             out.put_text("script ");
-            out.put_number(judgement.line);
+            put_place_number(out, files, judgement.place);
             put_judged(out, cluster, &judgement.judged);
         }
     }
@@ -259,17 +311,18 @@ fn put_missed_line<W: Write>(
 pub(crate) fn missed_line(
     alloc: Global,
     script: Option<&str>,
+    files: &[ScriptFile],
     cluster: &Cluster,
     moment: Moment,
     judgement: &Judgement,
 ) -> Result<Vec<u8>, AllocError>
     ensures { AtMoment cluster.now judgement.now moment (λ log. IfOk result
-        (λ v. v.items ≡ missed_line script.entry cluster.now log judgement.now)) }
+        (λ v. v.items ≡ missed_line script.entry files.now cluster.now log judgement.now)) }
 {
     let mut text = Vec::new(alloc);
     let mut buffer = TextBuffer::empty();
     let mut out = TextWriter::new(&mut text, &mut buffer);
-    put_missed_line(&mut out, script, cluster, moment, judgement);
+    put_missed_line(&mut out, script, files, cluster, moment, judgement);
     match out.finish() {
         Ok(()) => Ok(text),
         Err(_) => Err(AllocError),
@@ -279,17 +332,17 @@ pub(crate) fn missed_line(
 /// The line of a judgement, which was made at this moment of a log, where it isn't met.
 fn put_unmet<W: Write>(
     out: &mut TextWriter<'_, W>,
-    file: &str,
+    names: FileNames<'_>,
     cluster: &Cluster,
     moment: Moment,
     judgement: &Judgement,
 )
     ensures { AtMoment cluster.now judgement.now moment (λ log.
         Grows W.contents out.old out.new
-        (placed_unmet file.now cluster.now log judgement.now)) }
+        (placed_unmet names.entry.script.now names.entry.files.now cluster.now log judgement.now)) }
 {
     if is_unmet(&judgement.judged) {
-        put_missed(out, file, cluster, moment, judgement);
+        put_missed(out, names, cluster, moment, judgement);
         out.put_byte(b'\n');
     }
 }
@@ -306,13 +359,14 @@ pub(crate) fn within(log: &Log, entries: usize) -> usize
 
 fn put_all_unmet<W: Write>(
     out: &mut TextWriter<'_, W>,
-    file: &str,
+    names: FileNames<'_>,
     cluster: &Cluster,
     log: &Log,
     judgements: &[Judgement],
 )
     ensures { Grows W.contents out.old out.new
-        (flat_map (placed_unmet file.now cluster.now log.now.entries) judgements.now) }
+        (flat_map (placed_unmet names.entry.script.now names.entry.files.now cluster.now log.now.entries)
+        judgements.now) }
 {
     let mut read = 0;
     let mut moment = Moment::new();
@@ -320,7 +374,7 @@ fn put_all_unmet<W: Write>(
         let entries = within(log, one.entries);
         moment = moment.at(cluster, log, read, entries);
         read = entries;
-        put_unmet(out, file, cluster, moment, one);
+        put_unmet(out, names, cluster, moment, one);
     }
 }
 
@@ -332,17 +386,18 @@ fn put_all_unmet<W: Write>(
 /// `WriteFailed` at the first error of the writer; what was written then is the beginning of the
 /// lines.
 pub(crate) fn write_placed_unmet<W: Write>(
-    file: &str,
+    names: FileNames<'_>,
     cluster: &Cluster,
     log: &Log,
     judgements: &[Judgement],
     writer: &mut W,
 ) -> Result<(), WriteFailed>
     ensures { WritesText (W.contents writer.old) (W.contents writer.new) result
-        (flat_map (placed_unmet file.now cluster.now log.now.entries) judgements.now) }
+        (flat_map (placed_unmet names.entry.script.now names.entry.files.now cluster.now log.now.entries)
+        judgements.now) }
 {
     let mut buffer = TextBuffer::empty();
     let mut out = TextWriter::new(writer, &mut buffer);
-    put_all_unmet(&mut out, file, cluster, log, judgements);
+    put_all_unmet(&mut out, names, cluster, log, judgements);
     out.finish()
 }

@@ -1,40 +1,44 @@
 //! `linsim play`: makes the slots and steps that a bench script says, writes their log, and judges
 //! what the script expects.
 
-ghost use Rattle.std.specs.Prelude.{◌≡◌, ◌≤◌, ◌<◌, [], length, IfOk};
+ghost use Rattle.std.specs.Prelude.{◌≡◌, ◌≤◌, ◌<◌, [], length, option_map, IfOk};
 ghost use Rattle.lin_text.specs.Written.{WritesText};
 ghost use Rattle.lin_export.specs.WhereTold.{given_coding};
 ghost use Rattle.lin_tool.specs.Placing.{missed_text};
 ghost use Rattle.lin_tool.specs.Playing.{judgements_with_meanings, coding_if_physical};
-ghost use Rattle.lin_tool.specs.Playing.{play_fails, script_counts, script_errors, script_verdict, PlaysOpened};
-ghost use Rattle.lin_tool.specs.Playing.{PlaysOpenedUnder, ReadsScriptLines, ReportsPlay, TakesFaults, TellsBad, WritesShown};
+ghost use Rattle.lin_bench.specs.Files.{source_data};
+ghost use Rattle.std.specs.Option.{option_map_or};
+ghost use Rattle.lin_tool.specs.Playing.{fault_of_bad, goes_before, included_file, last_reason, least_name, limit_fault};
+ghost use Rattle.lin_tool.specs.Playing.{play_fails, script_counts, script_verdict};
+ghost use Rattle.lin_tool.specs.Playing.{unused_parameter, ChecksUsed, PlaysOpened};
+ghost use Rattle.lin_tool.specs.Playing.{PlaysSource, ReadsScriptLines, ReportsPlay, TellsBad, WritesShown};
 
 use crate::fault::Fault;
-use crate::fault_text::{FaultsFault, read_faults, write_bad_fault};
-use crate::formats::{Format, Shown, write_shown};
-use crate::junit::write_error;
+use crate::formats::{Shown, write_shown};
 use crate::notes::Notes;
-use crate::opening::{Opened, Settings, begin, within_limits};
-use crate::placing::{write_bad_lines, write_placed_unmet};
+use crate::opening::{Opened, within_limits};
+use crate::placing::{FileNames, write_bad_lines, write_placed_unmet};
 use crate::tally::{write_missed_faults, write_tally};
 use lin_bench::{
-    Judgement, PlayedUnder, ReadFault, Reason, ScriptLine, SlotFault, bad_lines, play_under, read,
-    some_unmet, told_meanings, write_bad_line, write_unmet,
+    Judgement, LinePlace, PlayedUnder, ReadFault, Reason, ScriptFile, ScriptLine, SlotFault,
+    Source, bad_lines, file_name, play_under, read, some_unmet, test_names, told_meanings,
+    uses_parameter, write_bad_line, write_unmet,
 };
 use lin_core::Core;
 use lin_log::read_bytes;
 use lin_parts::Cluster;
-use lin_text::{Many, WriteFailed};
+use lin_text::{Many, Text, WriteFailed};
 use lin_values::Coded;
 use std::alloc::{AllocError, Global};
-use std::fs::{self, Files};
-use std::io::{self, Read, Write};
+use std::cmp::Ordering;
+use std::io::{Read, Write};
 use std::mem;
 
 /// A bench script, as it is played.
 #[derive(Clone, Copy)]
 pub(crate) struct Script<'a> {
-    pub(crate) bytes: &'a [u8],
+    /// Its text, with its files and parameters.
+    pub(crate) source: Source<'a>,
     /// The name of its file, with which lines begin that tell of the script, where it is given.
     pub(crate) name: Option<&'a str>,
     /// Whether the play is strict, as `lin_bench::play` says.
@@ -45,8 +49,66 @@ pub(crate) struct Script<'a> {
     pub(crate) missed: usize,
 }
 
+/// The names of a script's files, where its own one has this name.
+fn names_of<'a>(source: Source<'a>, script: &'a str) -> FileNames<'a>
+    ensures { (result.script.now ≡ script.now) × (result.files.now ≡ source.entry.files.now) }
+{
+    FileNames {
+        script,
+        files: source.files,
+    }
+}
+
+/// The name of the file with a number, if the script includes it. An error means out of memory.
+fn included_file(
+    alloc: Global,
+    files: &[ScriptFile],
+    number: usize,
+) -> Result<Option<Text>, AllocError>
+    ensures { IfOk result (λ file. file ≡ included_file files.now number) }
+{
+    if number == 0 {
+        return Ok(None);
+    }
+    Ok(Some(Text::copied(alloc, file_name(b"", files, number))?))
+}
+
+/// The fault of a bench script that makes more slots than it may by a line at this place. An error means out of
+/// memory.
+pub(crate) fn limit_fault(
+    alloc: Global,
+    source: Source<'_>,
+    place: LinePlace,
+) -> Result<Fault, AllocError>
+    ensures { IfOk result (λ fault. fault ≡ limit_fault source.entry.files.now place) }
+{
+    let file = included_file(alloc, source.files, place.file)?;
+    Ok(Fault::SlotLimit { place, file })
+}
+
+/// The fault of a bench script with this bad line, which was told.
+fn fault_of_bad(place: LinePlace, reason: &Reason, told: Result<(), WriteFailed>) -> Fault
+    ensures { result ≡ fault_of_bad place reason.now told }
+{
+    match reason {
+        Reason::Unread(_) => Fault::UnreadFile { told },
+        Reason::LongFile(_) => Fault::LongFile { told },
+        _ => Fault::BadBenchLine { place, told },
+    }
+}
+
+/// Why the last of the bad lines of a bench script is bad, or without one the first one.
+fn last_reason<'r>(first: &'r Reason, bad: &'r [(LinePlace, Reason)]) -> &'r Reason
+    ensures { result.now ≡ last_reason first.now bad.now }
+{
+    match bad {
+        [.., last] => &last.1,
+        [] => first,
+    }
+}
+
 /// Writes to `errors` what is wrong with a bench script, of which this line is the first bad one:
-/// where the script has a name, a line for each bad one.
+/// where the script has a name, a line for each bad one. Returns the fault of the script.
 ///
 /// # Errors
 /// `OutOfMemory`, after which nothing was written.
@@ -54,64 +116,137 @@ fn tell_bad<E: Write>(
     alloc: Global,
     opened: &Opened<'_>,
     script: Script<'_>,
-    first: &(u64, Reason),
+    first: &(LinePlace, Reason),
     errors: &mut E,
     notes: &mut Notes<'_>,
-) -> Result<Result<(), WriteFailed>, AllocError>
-    requires { length script.bytes.now ≤ 16777216 }
-    ensures { TellsBad result
-        (script_errors script.entry opened.now first.now) (E.contents errors.old) (E.contents errors.new) }
+) -> Result<Fault, AllocError>
+    requires { length script.source.text.now ≤ 16777216 }
+    ensures { TellsBad result script.entry opened.now first.now
+        (E.contents errors.old) (E.contents errors.new) }
 {
-    let cluster = &opened.cluster;
-    let bytes = script.bytes;
+    let (cluster, source) = (&opened.cluster, script.source);
+    let (place, reason) = first;
     match script.name {
         None => {
-            let (line, reason) = first;
-            let told = write_bad_line(*line, reason, errors);
-            notes.add_bench_line(alloc, bytes, *line, cluster, reason);
-            Ok(told)
+            let told = write_bad_line(source.files, *place, reason, errors);
+            notes.add_bench_line(alloc, source, *place, cluster, reason);
+            Ok(fault_of_bad(*place, reason, told))
         }
         Some(file) => {
-            let bad = bad_lines(
-                alloc,
-                cluster,
-                opened.coded.as_ref(),
-                opened.limits.as_slice(),
-                bytes,
-            )?;
-            let told = write_bad_lines(file, bad.as_slice(), errors);
-            notes.add_bench_lines(alloc, bytes, cluster, bad.as_slice());
-            Ok(told)
+            let coded = opened.coded.as_ref();
+            let bad = bad_lines(alloc, cluster, coded, opened.limits.as_slice(), source)?;
+            let told = write_bad_lines(names_of(source, file), bad.as_slice(), errors);
+            notes.add_bench_lines(alloc, source, cluster, bad.as_slice());
+            let last = last_reason(reason, bad.as_slice());
+            Ok(fault_of_bad(*place, last, told))
         }
     }
 }
 
-/// What the lines of a bench script say, each with its number.
+/// Adds the bad lines of a bench script to the notes, if a report is wanted. An error means out of memory.
+fn note_bad(
+    alloc: Global,
+    opened: &Opened<'_>,
+    script: Script<'_>,
+    notes: &mut Notes<'_>,
+) -> Result<(), AllocError>
+    requires { length script.source.text.now ≤ 16777216 }
+{
+    let Some(file) = notes.wanted.report else {
+        return Ok(());
+    };
+    let (cluster, limits) = (&opened.cluster, opened.limits.as_slice());
+    let bad = bad_lines(alloc, cluster, opened.coded.as_ref(), limits, script.source)?;
+    notes.add_bad_lines(names_of(script.source, file), bad.as_slice())
+}
+
+/// What the lines of a bench script say, each with its place.
 ///
 /// # Errors
 /// `BadBenchLine` for the first line that is bad, after its line, or where the script has a name
-/// those of all bad lines, was written to `errors`; `OutOfMemory`.
+/// those of all bad lines, was written to `errors`; `UnreadFile` and `LongFile` likewise, for the first of these
+/// lines, or where the script has a name for the last one; `OutOfMemory`.
 pub(crate) fn bench_lines<E: Write>(
     alloc: Global,
     opened: &Opened<'_>,
     script: Script<'_>,
     errors: &mut E,
     notes: &mut Notes<'_>,
-) -> Result<Vec<(u64, ScriptLine)>, Fault>
-    requires { length script.bytes.now ≤ 16777216 }
+) -> Result<Vec<(LinePlace, ScriptLine)>, Fault>
+    requires { length script.source.text.now ≤ 16777216 }
     ensures lines { ReadsScriptLines script.entry opened.now (λ v. v.items) result
         (E.contents errors.old) (E.contents errors.new) }
-    ensures few { IfOk result (λ v. length v.items ≤ 16777217) }
+    ensures few { IfOk result (λ v. length v.items ≤ 17777217) }
 {
     let (cluster, limits) = (&opened.cluster, opened.limits.as_slice());
-    match read(alloc, cluster, opened.coded.as_ref(), limits, script.bytes) {
+    match read(alloc, cluster, opened.coded.as_ref(), limits, script.source) {
         Ok(lines) => Ok(lines),
-        Err(ReadFault::BadLine { line, reason }) => {
-            let first = (line, reason);
-            let told = tell_bad(alloc, opened, script, &first, errors, notes)?;
-            Err(Fault::BadBenchLine { line, told })
+        Err(ReadFault::BadLine { place, reason }) => {
+            let first = (place, reason);
+            note_bad(alloc, opened, script, notes)?;
+            Err(tell_bad(alloc, opened, script, &first, errors, notes)?)
         }
         Err(ReadFault::OutOfMemory) => Err(Fault::OutOfMemory),
+    }
+}
+
+/// Whether a text goes before another one in the order of bytes.
+fn goes_before(one: &[u8], other: &[u8]) -> bool
+    ensures { result ≡ goes_before one.now other.now }
+{
+    match one.cmp(other) {
+        Ordering::Less => true,
+        Ordering::Equal | Ordering::Greater => false,
+    }
+}
+
+/// The first one of these names in the order of bytes.
+fn first_name<'a>(least: Option<&'a [u8]>, name: &'a [u8]) -> &'a [u8]
+    ensures { result.now ≡ option_map_or (λ l. least_name l.now name.now) least.entry name.now }
+{
+    match least {
+        Some(least) => {
+            if goes_before(name, least) {
+                name
+            } else {
+                least
+            }
+        }
+        None => name,
+    }
+}
+
+/// The first of the parameters, in the order of bytes, that no line of a script uses. An error means out of
+/// memory.
+fn unused_parameter<'a>(
+    alloc: Global,
+    cluster: &Cluster,
+    script: Script<'a>,
+) -> Result<Option<&'a [u8]>, AllocError>
+    requires { length script.source.text.now ≤ 16777216 }
+    ensures { IfOk result (λ name. option_map (λ n. n.now) name
+        ≡ unused_parameter (source_data script.entry.source)) }
+{
+    let mut first: Option<&'a [u8]> = None;
+    for one in script.source.given {
+        if !uses_parameter(alloc, cluster, script.source, one.name)? {
+            first = Some(first_name(first, one.name));
+        }
+    }
+    Ok(first)
+}
+
+/// Checks that the lines of a script use each of its parameters.
+///
+/// # Errors
+/// `UnusedParameter`, `OutOfMemory`.
+pub(crate) fn check_used(alloc: Global, cluster: &Cluster, script: Script<'_>) -> Result<(), Fault>
+    requires { length script.source.text.now ≤ 16777216 }
+    ensures { ChecksUsed result (unused_parameter (source_data script.entry.source)) }
+{
+    match unused_parameter(alloc, cluster, script)? {
+        Some(name) => Err(Fault::UnusedParameter(Text::copied(alloc, name)?)),
+        None => Ok(()),
     }
 }
 
@@ -121,16 +256,21 @@ pub(crate) fn bench_lines<E: Write>(
 /// `WriteFailed`, where what was written is the beginning of the lines.
 fn tell_unmet<E: Write>(
     core: &Core,
-    named: Option<&str>,
+    script: Script<'_>,
     judgements: &[Judgement],
     errors: &mut E,
 ) -> Result<(), WriteFailed>
     ensures { WritesText (E.contents errors.old) (E.contents errors.new) result
-        (missed_text named.entry core.now.cluster core.now.log judgements.now) }
+        (missed_text script.entry.name script.entry.source.files.now core.now.cluster core.now.log
+        judgements.now) }
 {
-    match named {
-        None => write_unmet(core.cluster(), judgements, errors),
-        Some(file) => { write_placed_unmet(file, core.cluster(), core.log(), judgements, errors) }
+    let (cluster, source) = (core.cluster(), script.source);
+    match script.name {
+        None => write_unmet(cluster, source.files, judgements, errors),
+        Some(file) => {
+            let names = names_of(source, file);
+            write_placed_unmet(names, cluster, core.log(), judgements, errors)
+        }
     }
 }
 
@@ -169,7 +309,7 @@ fn tell<E: Write>(
     ensures { WritesText (E.contents errors.old) (E.contents errors.new) result
         (script_verdict script.entry core.now judgements.now) }
 {
-    tell_unmet(core, script.name, judgements, errors)?;
+    tell_unmet(core, script, judgements, errors)?;
     tell_counts(core, script, judgements, errors)
 }
 
@@ -261,9 +401,9 @@ fn shown(coded: Option<&Coded>, is_physical: bool) -> Option<&Coded>
 /// program: it would be let go of entry by entry.)
 ///
 /// # Errors
-/// `BadBenchLine`, `SlotLimit` and `ScriptTooLong` for a fault of the script; `ReadFailed` where
-/// the reader answers an error. No log was written then. `OutOfMemory`, where none was written, or
-/// in a format other than the log's own text a beginning. `WriteFailed`, where what was written is
+/// `BadBenchLine`, `UnreadFile`, `SlotLimit` and `ScriptTooLong` for a fault of the script, which has no files;
+/// `ReadFailed` where the reader answers an error. No log was written then. `OutOfMemory`, where none was
+/// written, or in a format other than the log's own text a beginning. `WriteFailed`, where what was written is
 /// the beginning of the whole. `Unmet`, after all of it was written, where a judgement isn't met.
 pub fn play_script<R: Read, W: Write, E: Write>(
     alloc: Global,
@@ -283,7 +423,9 @@ pub fn play_script<R: Read, W: Write, E: Write>(
         opened,
         faults: &[],
     };
-    play_under_faults(alloc, play, reader, writer, errors, notes)
+    let bytes = read_bytes(alloc, reader)?;
+    let source = Source::of(bytes.as_slice());
+    play_source(alloc, play, source, writer, errors, notes)
 }
 
 /// A cluster that was opened, and the faults under which a script is played on it.
@@ -293,35 +435,38 @@ pub struct DisturbedPlay<'a> {
     pub faults: &'a [SlotFault],
 }
 
-/// Plays a bench script as `play_script` does, where the steps of its lines are made under faults. If some
-/// of these changed no slot, a line of `errors` says how many.
+/// Plays a bench script as `play_script` does, with its files and parameters, where the steps of its lines are
+/// made under faults. If some of these changed no slot, a line of `errors` says how many.
 ///
 /// # Errors
-/// As of `play_script`; `Unmet` also if there are faults, and none of them changed a slot.
-pub fn play_under_faults<R: Read, W: Write, E: Write>(
+/// As of `play_script`; `LongFile`; `UnusedParameter` for the first parameter, in the order of bytes, that no
+/// line uses, if no line is bad; `Unmet` also if there are faults, and none of them changed a slot.
+pub fn play_source<W: Write, E: Write>(
     alloc: Global,
     play: DisturbedPlay<'_>,
-    reader: &mut R,
+    source: Source<'_>,
     writer: &mut W,
     errors: &mut E,
     notes: &mut Notes<'_>,
 ) -> Result<(), Fault>
-    requires { play.opened.table < length play.opened.cluster.tables }
-    ensures { PlaysOpenedUnder play.entry.faults.now play.entry.opened notes.old.wanted.script result
-        (R.remaining reader.old)
+    requires table { play.opened.table < length play.opened.cluster.tables }
+    requires text { length source.text.now ≤ 16777216 }
+    ensures { PlaysSource play.entry.faults.now (source_data source.entry) play.entry.opened notes.old.wanted.script
+        result
         (W.contents writer.old) (W.contents writer.new)
         (E.contents errors.old) (E.contents errors.new) }
 {
     let DisturbedPlay { opened, faults } = play;
-    let bytes = read_bytes(alloc, reader)?;
     let script = Script {
-        bytes: bytes.as_slice(),
+        source,
         name: notes.wanted.script,
         is_strict: opened.settings.is_strict,
         faults: faults.len(),
         missed: 0,
     };
     let lines = bench_lines(alloc, &opened, script, errors, notes)?;
+    check_used(alloc, &opened.cluster, script)?;
+    let tests = test_names(alloc, lines.as_slice())?;
     let Opened {
         cluster,
         table,
@@ -346,9 +491,9 @@ pub fn play_under_faults<R: Read, W: Write, E: Write>(
         faults,
     )?;
     match limit {
-        Some(line) => {
+        Some(place) => {
             mem::forget(core);
-            return Err(Fault::SlotLimit { line });
+            return Err(limit_fault(alloc, source, place)?);
         }
         None => {}
     }
@@ -359,117 +504,14 @@ pub fn play_under_faults<R: Read, W: Write, E: Write>(
         table,
         capacity,
         judgements: judgements.as_slice(),
+        tests: tests.as_slice(),
         script: script.name,
+        files: source.files,
     };
+    notes.add_suite(alloc, &shown, &core)?;
     let script = Script { missed, ..script };
     let judged = put_played(alloc, &shown, &core, script, writer, errors);
     notes.add_refusals(core.log());
     mem::forget(core);
     judged
-}
-
-/// Writes the report of a script that wasn't played, because of the LDF, the schedule table, the faults or
-/// the script.
-fn tell_unplayed<W: Write>(file: &str, fault: &Fault, writer: &mut W) -> Result<(), WriteFailed> {
-    match fault {
-        Fault::Ldf(_) | Fault::Findings(_) | Fault::Remarks(_) | Fault::LdfTooLong => {
-            write_error(file, None, "bad LDF", writer)
-        }
-        Fault::NoSuchTable => write_error(file, None, "no such table", writer),
-        Fault::BadFaults { .. } => write_error(file, None, "bad fault", writer),
-        Fault::BadBenchLine { line, told: _ } => write_error(file, Some(*line), "bad line", writer),
-        Fault::SlotLimit { line } => write_error(file, Some(*line), "slot limit", writer),
-        Fault::ScriptTooLong => write_error(file, None, "script too long", writer),
-        Fault::ReadFailed => write_error(file, None, "read failed", writer),
-        _ => Ok(()),
-    }
-}
-
-/// Reads the faults under which a script is to be played, if there are any, and writes to `errors` why the
-/// first one that isn't valid isn't.
-///
-/// # Errors
-/// `BadFaults`, `OutOfMemory`.
-fn faults_of<E: Write>(
-    alloc: Global,
-    cluster: &Cluster,
-    faults: Option<&str>,
-    errors: &mut E,
-    notes: &mut Notes<'_>,
-) -> Result<Vec<SlotFault>, Fault>
-    ensures { TakesFaults (λ v. v.items) cluster.now faults.entry result
-        (E.contents errors.old) (E.contents errors.new) }
-{
-    let Some(text) = faults else {
-        return Ok(Vec::new(alloc));
-    };
-    match read_faults(alloc, cluster, text.as_bytes()) {
-        Ok(faults) => Ok(faults),
-        Err(FaultsFault::Bad(bad)) => {
-            notes.add_bad_fault(alloc, cluster, &bad.reason);
-            Err(Fault::BadFaults {
-                told: write_bad_fault(&bad, errors),
-            })
-        }
-        Err(FaultsFault::OutOfMemory) => Err(Fault::OutOfMemory),
-    }
-}
-
-/// Reads the bench script in the file at the path `script`, or without one that on standard input,
-/// plays it over the cluster of the settings, under faults if there are any, and writes the log on
-/// standard output in their format. Warnings of the LDF, and what is said of a bad line, of faults that changed
-/// no slot and of expectations that aren't met, go to `errors`.
-///
-/// # Errors
-/// Those of `cluster_of_file`, `NoSuchTable` and `BadFaults`, after which nothing was written; those of
-/// `play_under_faults`.
-fn play_file<R: AllocGlobal + Files + Input + Print, E: Write>(
-    rt: &R,
-    settings: &Settings<'_>,
-    script: Option<&str>,
-    faults: Option<&str>,
-    errors: &mut E,
-    notes: &mut Notes<'_>,
-) -> Result<(), Fault> {
-    let opened = begin(rt, settings, true, notes)?;
-    notes.tell_warnings(errors);
-    let (alloc, mut writer) = (rt.alloc(), io::writer(rt));
-    let faults = faults_of(alloc, &opened.cluster, faults, errors, notes)?;
-    let faults = faults.as_slice();
-    notes.begin_script();
-    let answer = match script {
-        None => {
-            let (play, reader) = (DisturbedPlay { opened, faults }, &mut rt.reader());
-            play_under_faults(alloc, play, reader, &mut writer, errors, notes)
-        }
-        Some(path) => match fs::open(rt, path) {
-            Ok(mut file) => {
-                let play = DisturbedPlay { opened, faults };
-                play_under_faults(alloc, play, &mut file, &mut writer, errors, notes)
-            }
-            Err(_) => Err(Fault::ReadFailed),
-        },
-    };
-    notes.add_unread(&answer, script);
-    answer
-}
-
-/// Plays a bench script as `play_file` does. If the format is a report, that of a script that wasn't played
-/// has an error.
-///
-/// # Errors
-/// As of `play_file`.
-pub fn play<R: AllocGlobal + Files + Input + Print, E: Write>(
-    rt: &R,
-    settings: &Settings<'_>,
-    script: Option<&str>,
-    faults: Option<&str>,
-    errors: &mut E,
-    notes: &mut Notes<'_>,
-) -> Result<(), Fault> {
-    let answer = play_file(rt, settings, script, faults, errors, notes);
-    if let (Format::Junit(file), Err(fault)) = (settings.format, &answer) {
-        let _ = tell_unplayed(file, fault, &mut io::writer(rt));
-    }
-    answer
 }

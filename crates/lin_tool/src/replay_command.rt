@@ -78,7 +78,9 @@ pub fn replay_script<R: Read, W: Write>(
         table,
         capacity,
         judgements: &[],
+        tests: &[],
         script: None::<&'static str>,
+        files: &[],
     };
     let written = write_shown(alloc, &shown, &core, writer);
     notes.add_refusals(core.log());

@@ -189,7 +189,9 @@ fn run_over<R: AllocGlobal + Input + Print + Eprint + Threads + Wait + Copy + Se
         table,
         capacity,
         judgements: &[],
+        tests: &[],
         script: None::<&'static str>,
+        files: &[],
     };
     let written = put_report(rt.alloc(), &shown, &report, &mut io::writer(rt));
     notes.add_refusals(report.core.log());

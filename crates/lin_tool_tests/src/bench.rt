@@ -2,6 +2,7 @@
 
 mod bad_lines;
 mod limits;
+mod parameters;
 mod runs;
 mod scripts;
 mod unmet;

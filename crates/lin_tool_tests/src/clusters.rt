@@ -1,6 +1,8 @@
 //! Clusters of LDF texts, and logs and bench scripts run on them.
 
-use lin_bench::{PlayFault, Played, ReadFault, ScriptLine, play, read, write_unmet};
+use lin_bench::{
+    LinePlace, PlayFault, Played, ReadFault, ScriptLine, Source, play, read, write_unmet,
+};
 use lin_cluster::check;
 use lin_core::Core;
 use lin_ldf::parse;
@@ -32,11 +34,11 @@ pub fn read_text(
     alloc: Global,
     cluster: &Cluster,
     text: &[u8],
-) -> Result<Result<Vec<(u64, ScriptLine)>, ReadFault>, Fail> {
+) -> Result<Result<Vec<(LinePlace, ScriptLine)>, ReadFault>, Fail> {
     if text.len() > 16_777_216 {
         return Err(Fail::from("too long"));
     }
-    Ok(read(alloc, cluster, None, &[], text))
+    Ok(read(alloc, cluster, None, &[], Source::of(text)))
 }
 
 /// The lines of a text.
@@ -44,7 +46,7 @@ pub fn lines_of(
     alloc: Global,
     cluster: &Cluster,
     text: &[u8],
-) -> Result<Vec<(u64, ScriptLine)>, Fail> {
+) -> Result<Vec<(LinePlace, ScriptLine)>, Fail> {
     match read_text(alloc, cluster, text)? {
         Ok(lines) => Ok(lines),
         Err(ReadFault::OutOfMemory) => Err(Fail::from("OutOfMemory")),
@@ -76,6 +78,7 @@ pub fn unmet_of(alloc: Global, ldf: &[u8], text: &[u8]) -> Result<Vec<u8>, Fail>
     let mut written = Vec::new(alloc);
     write_unmet(
         played.core.cluster(),
+        &[],
         played.judgements.as_slice(),
         &mut written,
     )?;

@@ -3,6 +3,7 @@
 use crate::clusters::{cluster_of, expect_bytes};
 use crate::fakes::{Narrow, Piecewise};
 use crate::samples::{BUILT_IN, LIGHTS};
+use lin_bench::LinePlace;
 use lin_log::run_script;
 use lin_text::Many;
 use lin_tool::{
@@ -347,7 +348,15 @@ fn values_in_words_are_played_where_encodings_are_read(rt: HostRuntime) -> Resul
         expect_bytes(&rt, &told, unmet, "values in words", "what is told");
     }
     let (done, _told) = told_of_play(alloc, WORDS, Encodings::Unread)?;
-    assert!(rt; matches!(done, Err(Fault::BadBenchLine { line: 1, .. })));
+    assert!(rt;
+        matches!(
+            done,
+            Err(Fault::BadBenchLine {
+                place: LinePlace { line: 1, .. },
+                ..
+            })
+        )
+    );
     Ok(())
 }
 
@@ -433,7 +442,9 @@ fn formats_end_where_a_write_fails(rt: HostRuntime) -> Result<(), Fail> {
             table,
             capacity: 16,
             judgements: &[],
+            tests: &[],
             script: None,
+            files: &[],
         };
         let mut whole = Vec::new(alloc);
         write_shown(alloc, &shown, &core, &mut whole)?;

@@ -5,9 +5,10 @@ mod options;
 
 use crate::arguments::commands::command;
 use clap::ArgMatches;
+use clap::parser::ValueSource;
 use lin_tool::{
-    BadKinds, CampaignPart, CampaignPlan, Classes, Encodings, Extras, Format, Kinds, Levels, Lists,
-    RandomSets, Reading, RowFormat, Settings, Wanted, read_levels,
+    BadKinds, CampaignPart, CampaignPlan, Classes, Encodings, Extras, Format, GivenParameter,
+    Kinds, Levels, Lists, RandomSets, Reading, RowFormat, Settings, Wanted, is_name, read_levels,
 };
 use std::alloc::{AllocError, Global};
 
@@ -17,6 +18,10 @@ pub(crate) struct Asked<'a> {
     pub request: Request<'a>,
     pub wanted: Wanted<'a>,
     pub levels: Levels,
+    /// Parameters that are given with a script.
+    pub given: Vec<GivenParameter<'a>>,
+    /// The bench scripts of `play`, by the names that are given.
+    pub scripts: Vec<&'a str>,
 }
 
 /// Why the command line isn't valid.
@@ -30,12 +35,17 @@ pub(crate) enum Invalid<'a> {
     TwoInputs,
     /// The value of `--part` isn't valid.
     Part(&'a str),
+    /// A value of `--set` isn't valid.
+    Parameter(&'a str),
+    /// Several scripts, and this format of the log.
+    SeveralScripts(&'a str),
+    OutOfMemory,
 }
 
 /// The subcommand with its settings.
 #[derive(Clone, Copy)]
 pub(crate) enum Request<'a> {
-    /// `linsim campaign FILE [SCRIPT] [--faults KINDS] [--pairs] [--random N [--seed S] [--rate R]]
+    /// `linsim campaign FILE [SCRIPT] [--set NAME=TEXT].. [--faults KINDS] [--pairs] [--random N [--seed S] [--rate R]]
     /// [--part K/N] [--deny KINDS] [--to FORMAT] [--table T] [--capacity N] [--field]
     /// [--configuration] [--strict]`. `script` is `None` for standard input.
     Campaign {
@@ -70,13 +80,12 @@ pub(crate) enum Request<'a> {
     /// `linsim live FILE [--table T] [--capacity N] [--to log|named|jsonl] [--field] [--physical]
     /// [--configuration]`
     Live(Settings<'a>),
-    /// `linsim play FILE [SCRIPT] [--table T] [--capacity N] [--to FORMAT] [--physical]
-    /// [--configuration] [--where] [--strict] [--fault FAULTS]`. `script` is `None` for standard
-    /// input.
+    /// `linsim play FILE [SCRIPT].. [--set NAME=TEXT].. [--table T] [--capacity N] [--to FORMAT]
+    /// [--junit FILE] [--physical] [--configuration] [--where] [--strict] [--fault FAULTS]`
     Play {
         settings: Settings<'a>,
-        script: Option<&'a str>,
         faults: Option<&'a str>,
+        report: Option<&'a str>,
     },
     /// `linsim replay [FILE] [--table T] [--capacity N] [--to FORMAT] [--physical] [--configuration]`
     Replay(Settings<'a>),
@@ -104,6 +113,33 @@ fn format_of<'a>(word: Option<&str>, file: Option<&'a str>) -> Format<'a> {
     }
 }
 
+/// Returns what standard error has to contain for `play`, and whether a report is wanted.
+fn wanted_of_play<'a>(found: &ArgMatches<'a>) -> Wanted<'a> {
+    let is_several = has_several(found);
+    let is_placed = found.get_flag("where") || is_several;
+    let is_reported = found.get_str("to") == Some("junit");
+    let is_written = found.get_str("junit").is_some();
+    Wanted {
+        explained: found.get_flag("explain"),
+        file: if is_placed {
+            found.get_str("file")
+        } else {
+            None
+        },
+        script: if is_placed {
+            Some(script_of(found))
+        } else {
+            None
+        },
+        report: if is_reported || is_written {
+            Some(script_of(found))
+        } else {
+            None
+        },
+        is_report_kept: is_written || is_several,
+    }
+}
+
 /// Returns what standard error has to contain: `[--explain]` of each subcommand, `[--where]` of
 /// `check` and `play`. A campaign reports problems of its script with their places.
 fn wanted_of<'a>(matches: &ArgMatches<'a>) -> Wanted<'a> {
@@ -118,22 +154,17 @@ fn wanted_of<'a>(matches: &ArgMatches<'a>) -> Wanted<'a> {
         "check" if found.get_flag("where") => Wanted {
             explained,
             file: found.get_str("file"),
-            script: None,
+            ..Wanted::default()
         },
-        "play" if found.get_flag("where") => Wanted {
-            explained,
-            file: found.get_str("file"),
-            script: Some(script_of(found)),
-        },
+        "play" => wanted_of_play(found),
         "campaign" => Wanted {
             explained,
-            file: None,
             script: Some(script_of(found)),
+            ..Wanted::default()
         },
         _ => Wanted {
             explained,
-            file: None,
-            script: None,
+            ..Wanted::default()
         },
     }
 }
@@ -285,6 +316,48 @@ fn plan_of<'a>(found: &ArgMatches<'a>) -> Result<CampaignPlan, Invalid<'a>> {
     })
 }
 
+/// Returns the format of the log, if the command line names one.
+fn given_format<'a>(found: &ArgMatches<'a>) -> Option<&'a str> {
+    match found.value_source("to") {
+        Some(ValueSource::CommandLine) => found.get_str("to"),
+        _ => None,
+    }
+}
+
+/// Whether several scripts are named.
+fn has_several(found: &ArgMatches<'_>) -> bool {
+    match found.get_strs("script") {
+        Some(scripts) => scripts.len() > 1,
+        None => false,
+    }
+}
+
+/// Returns the names of the bench scripts of `play`: their files as they are given.
+///
+/// # Errors
+/// `SeveralScripts`, `OutOfMemory`.
+fn scripts_of<'a>(alloc: Global, matches: &ArgMatches<'a>) -> Result<Vec<&'a str>, Invalid<'a>> {
+    let mut scripts = Vec::new(alloc);
+    let Some(("play", found)) = matches.subcommand() else {
+        return Ok(scripts);
+    };
+    if let Some(format) = given_format(found)
+        && format != "junit"
+        && has_several(found)
+    {
+        return Err(Invalid::SeveralScripts(format));
+    }
+    let Some(names) = found.get_strs("script") else {
+        return Ok(scripts);
+    };
+    for name in names {
+        if scripts.push(*name).is_err() {
+            return Err(Invalid::OutOfMemory);
+        }
+    }
+    Ok(scripts)
+}
+
 /// Returns the name of the bench script: its file as it was given, `-` for standard input.
 fn script_of<'a>(found: &ArgMatches<'a>) -> &'a str {
     found.get_str("script").unwrap_or("-")
@@ -355,8 +428,8 @@ fn request_of<'a>(matches: &ArgMatches<'a>) -> Option<Request<'a>> {
         Some(("live", found)) => Some(Request::Live(settings_of(found))),
         Some(("play", found)) => Some(Request::Play {
             settings: play_settings_of(found),
-            script: script_file_of(found),
             faults: found.get_str("fault"),
+            report: found.get_str("junit"),
         }),
         Some(("replay", found)) if found.get_flag("same") => {
             Some(Request::Compare(settings_of(found)))
@@ -384,11 +457,56 @@ fn levels_of<'a>(alloc: Global, matches: &ArgMatches<'a>) -> Result<Levels, Inva
     }
 }
 
+/// Returns a parameter that is given with a script; `None` if it has no name or no text.
+fn parameter_of(word: &str) -> Option<GivenParameter<'_>> {
+    let (name, text) = word.split_once('=')?;
+    let has_field = text
+        .as_bytes()
+        .iter()
+        .any(|byte| *byte != b' ' && *byte != b'\t');
+    if is_name(name.as_bytes()) && has_field {
+        Some(GivenParameter {
+            name: name.as_bytes(),
+            text: text.as_bytes(),
+        })
+    } else {
+        None
+    }
+}
+
+/// Returns the parameters that are given with a script: `[--set]`. The last one of a name is the first.
+///
+/// # Errors
+/// `Parameter`, `OutOfMemory`.
+fn given_of<'a>(
+    alloc: Global,
+    matches: &ArgMatches<'a>,
+) -> Result<Vec<GivenParameter<'a>>, Invalid<'a>> {
+    let mut given = Vec::new(alloc);
+    let words = match matches.subcommand() {
+        Some(("play", found)) => found.get_strs("set"),
+        Some(("campaign", found)) => found.get_strs("set"),
+        _ => None,
+    };
+    let Some(words) = words else {
+        return Ok(given);
+    };
+    for word in words.iter().rev() {
+        let Some(parameter) = parameter_of(*word) else {
+            return Err(Invalid::Parameter(*word));
+        };
+        if given.push(parameter).is_err() {
+            return Err(Invalid::OutOfMemory);
+        }
+    }
+    Ok(given)
+}
+
 /// Parses the command line, of which the first word is the program's name.
 ///
 /// # Errors
 /// `Clap`: an invalid command line, a requested help or version text, or out of memory. `Kinds`, also
-/// if memory for the kinds runs out. `Part`. `TwoInputs`.
+/// if memory for the kinds runs out. `Part`. `Parameter`. `SeveralScripts`. `TwoInputs`.
 pub(crate) fn read_words<'a>(
     alloc: Global,
     words: &'a [String],
@@ -424,5 +542,7 @@ pub(crate) fn read_words<'a>(
         request,
         wanted: wanted_of(&matches),
         levels: levels_of(alloc, &matches)?,
+        given: given_of(alloc, &matches)?,
+        scripts: scripts_of(alloc, &matches)?,
     }))
 }

@@ -6,7 +6,10 @@ mod arguments;
 
 use crate::arguments::{Asked, Invalid, Request, read_words};
 use clap::error::ErrorKind;
-use lin_tool::{BadKinds, CampaignPlan, Fault, KindsFault, Notes, write_fault};
+use lin_tool::{
+    BadKinds, CampaignPlan, Fault, GivenParameter, KindsFault, Notes, PlayOptions, ScriptInput,
+    write_fault,
+};
 use std::env::Env;
 use std::fs::Files;
 use std::io::{self, IsTerminal, Write};
@@ -41,6 +44,8 @@ fn perform<
 >(
     rt: &R,
     request: Request<'a>,
+    given: &[GivenParameter<'_>],
+    scripts: &[&'a str],
     terminals: Terminals,
     notes: &mut Notes<'a>,
     errors: &mut W,
@@ -54,6 +59,10 @@ fn perform<
             let plan = CampaignPlan {
                 is_watched: terminals.are_rows_watched(),
                 ..plan
+            };
+            let script = ScriptInput {
+                path: script,
+                given,
             };
             lin_tool::run_campaign(rt, &settings, &plan, script, errors, notes)
         }
@@ -78,9 +87,19 @@ fn perform<
         Request::Live(settings) => lin_tool::live(rt, &settings, errors, notes),
         Request::Play {
             settings,
-            script,
             faults,
-        } => lin_tool::play(rt, &settings, script, faults, errors, notes),
+            report,
+        } => {
+            let options = PlayOptions {
+                faults,
+                given,
+                report,
+            };
+            if scripts.len() > 1 {
+                return lin_tool::play_scripts(rt, &settings, scripts, options, errors, notes);
+            }
+            lin_tool::play(rt, &settings, only_file(scripts), options, errors, notes)
+        }
         Request::Replay(settings) => lin_tool::replay(rt, &settings, notes),
         Request::Compare(settings) => lin_tool::compare(rt, &settings, notes),
         Request::Run { settings, slots } => {
@@ -89,14 +108,20 @@ fn perform<
     }
 }
 
+/// The file of the only script; `None` for standard input.
+fn only_file<'a>(scripts: &[&'a str]) -> Option<&'a str> {
+    scripts.first().copied().filter(|path| *path != "-")
+}
+
 /// Whether a script or an LDF text is read from standard input.
-fn is_read(request: Request<'_>) -> bool {
+fn is_read(request: Request<'_>, scripts: &[&str]) -> bool {
     match request {
         Request::Check { file, .. }
         | Request::CheckObject { file, .. }
         | Request::CheckPlain(file) => file == "-",
         Request::Diff { old, new, .. } => old == "-" || new == "-",
-        Request::Play { script, .. } | Request::Campaign { script, .. } => script.is_none(),
+        Request::Play { .. } => scripts.is_empty() || scripts.iter().any(|path| *path == "-"),
+        Request::Campaign { script, .. } => script.is_none(),
         Request::Live(_) | Request::Replay(_) | Request::Compare(_) | Request::Run { .. } => true,
     }
 }
@@ -111,13 +136,24 @@ fn answer<
         request,
         wanted,
         levels,
+        given,
+        scripts,
     } = asked;
-    if wanted.explained && terminals.input && is_read(request) {
+    let scripts = scripts.as_slice();
+    if wanted.explained && terminals.input && is_read(request, scripts) {
         let _ = eprintln!(rt; "linsim: reading from the terminal; end with Ctrl-D");
     }
     let mut notes = Notes::new(rt.alloc(), wanted);
     notes.levels = levels;
-    let done = perform(rt, request, terminals, &mut notes, errors);
+    let done = perform(
+        rt,
+        request,
+        given.as_slice(),
+        scripts,
+        terminals,
+        &mut notes,
+        errors,
+    );
     let _ = notes.write(done.as_ref().err(), errors);
     ExitCode::from(notes.status(&done))
 }
@@ -166,6 +202,20 @@ fn bad_part<R: Eprint>(rt: &R, part: &str) -> ExitCode {
     ExitCode::from(COMMAND_LINE)
 }
 
+/// Prints why the value of `--set` isn't valid, and gives the exit status.
+fn bad_parameter<R: Eprint>(rt: &R, word: &str) -> ExitCode {
+    let _ = eprintln!(rt;
+        "error: --set {word}: expected NAME=TEXT, where NAME is letters, digits and _, and doesn't begin with a digit"
+    );
+    ExitCode::from(COMMAND_LINE)
+}
+
+/// Prints that the log of several scripts can't be written, and gives the exit status.
+fn several_scripts<R: Eprint>(rt: &R, format: &str) -> ExitCode {
+    let _ = eprintln!(rt; "error: --to {format}: several scripts have no log; use --to junit");
+    ExitCode::from(COMMAND_LINE)
+}
+
 /// The exit status where the words of the command line couldn't be read: for lack of memory, or
 /// since one isn't UTF-8.
 fn unread<R: Eprint>(rt: &R, error: &io::Error) -> Result<ExitCode, Fault> {
@@ -192,6 +242,9 @@ fn run<
         Err(Invalid::Kinds(bad)) => unknown_kinds(rt, bad),
         Err(Invalid::TwoInputs) => Ok(two_inputs(rt)),
         Err(Invalid::Part(part)) => Ok(bad_part(rt, part)),
+        Err(Invalid::Parameter(word)) => Ok(bad_parameter(rt, word)),
+        Err(Invalid::SeveralScripts(format)) => Ok(several_scripts(rt, format)),
+        Err(Invalid::OutOfMemory) => Err(Fault::OutOfMemory),
     }
 }
 

@@ -23,12 +23,14 @@ use Rattle.lin_export.specs.Named.{reply_lines}
 use Rattle.lin_bench.specs.Fields.{line_fields}
 use Rattle.lin_values.specs.Coded.{CodedData}
 use Rattle.lin_bench.specs.Lines.{line_form, line_of_fields, read_line}
-use Rattle.lin_bench.specs.Plain.{HasNoMarks, SaysSteps}
-use Rattle.lin_bench.specs.Scripts.{Script, read, read_lines, with_read_line, without_mark}
+use Rattle.lin_bench.specs.Plain.{HasNoMarks, HasPlainNames, SaysSteps}
+use Rattle.lin_bench.specs.Scripts.{Script, read, read_lines, with_read_line}
+use Rattle.lin_bench.specs.Written.{line_place, without_mark}
 use Rattle.lin_bench.specs.Words.{limited_line, line_in_words, read_worded_line, worded, worded_on}
 use Rattle.lin_bench.specs.Made.{BenchState}
 use Rattle.lin_bench.specs.declared.rules.NodeLimits.{NodeLimits}
 use Rattle.lin_bench.specs.declared.line.ScriptLine.{ScriptLine}
+use Rattle.lin_bench.specs.declared.place.LinePlace.{LinePlace}
 use Rattle.lin_bench.specs.declared.reason.Reason.{Reason as ScriptReason}
 use Rattle.lin_live.proofs.Cuts.{pieces-some}
 use Rattle.lin_live.proofs.Growth.{IsForward, Keeps, kept-made, line-forward}
@@ -159,8 +161,8 @@ unfolding read_worded_line line_in_words read_line
 line-asks c limits line said e =
     let u = unlimited limits (read_line c line) said e in line-by c line u.0 (slice_index line 0 == 62) refl u.1
 
-reading-goes : (n : ℕ) (r : Result (Option ScriptLine) ScriptReason) (more : Script) (said : List (ℕ × ScriptLine)) → with_read_line n r more ≡ Ok said
-    → ((o : Option ScriptLine) × (r ≡ Ok o)) × ((rest : List (ℕ × ScriptLine)) × (more ≡ Ok rest))
+reading-goes : (n : LinePlace) (r : Result (Option ScriptLine) ScriptReason) (more : Script) (said : List (LinePlace × ScriptLine)) → with_read_line n r more ≡ Ok said
+    → ((o : Option ScriptLine) × (r ≡ Ok o)) × ((rest : List (LinePlace × ScriptLine)) × (more ≡ Ok rest))
 reading-goes n (Err why) more said e = absurd (cc)
 reading-goes n (Ok None) more said e = ((None, refl), (said, e))
 reading-goes n (Ok (Some l)) (Ok rest) said e = ((Some l, refl), (rest, refl))
@@ -169,10 +171,10 @@ reading-goes n (Ok (Some l)) (Err bad) said e = absurd (cc)
 abbrev IsShort : List ℕ → Type 0
 IsShort p = length (strip_carriage_return p) ≤ most_bytes
 
-all-plain : (c : Parts) (limits : List NodeLimits) (n : ℕ) (ps : List (List ℕ)) (said : List (ℕ × ScriptLine)) → AllByRecursion IsShort ps → read_lines c None limits n ps ≡ Ok said → AllByRecursion IsPlain ps
+all-plain : (c : Parts) (limits : List NodeLimits) (n : ℕ) (ps : List (List ℕ)) (said : List (LinePlace × ScriptLine)) → AllByRecursion IsShort ps → read_lines c None limits n ps ≡ Ok said → AllByRecursion IsPlain ps
 all-plain c limits n [] said k e = tt
 all-plain c limits n (p ∷ ps) said k e =
-    let r = reading-goes n (read_worded_line c None limits (strip_carriage_return p)) (read_lines c None limits (n + 1) ps) said e in
+    let r = reading-goes (line_place n) (read_worded_line c None limits (strip_carriage_return p)) (read_lines c None limits (n + 1) ps) said e in
     ((k.0, line-asks c limits (strip_carriage_return p) r.0.0 r.0.1), all-plain c limits (n + 1) ps r.1.0 k.1 r.1.1)
 
 -- ---- how a transcript begins: with no mark
@@ -294,29 +296,29 @@ begun-same h ls x k b =
 
 -- ---- a transcript
 reads-coded : (c : Parts) (opening capacity : ℕ) (t : List ℕ) (steps : List (PortId × Step)) (k : Option CodedData) (limits : List NodeLimits) → IfSome k (λ k. HasNoMarks c)
-    → (says : SaysSteps c opening capacity t steps) → read c k limits t ≡ Ok says.lines
-reads-coded c opening capacity t steps None limits none says = says.reading limits
-reads-coded c opening capacity t steps (Some k) limits none says = says.coded none k limits
+    → (says : SaysSteps c opening capacity t steps) → read_lines c k limits 1 (slice_split (λ b. b == 10) (without_mark t)) ≡ Ok says.lines
+reads-coded c opening capacity t steps None limits none says = says.plainly limits
+reads-coded c opening capacity t steps (Some k) limits none says = says.plainly_coded none k limits
 
 abbrev Again : HandData → List (List ℕ) → HandData → Type 0
 Again h ls k = (reverse k.bench.past ≡ log_after h ls) × (k.was_bad ≡ false)
 
-again-by : (h : HandData) (ls : List (List ℕ)) → IsTranscript h ls → HasNames (named_language h.cluster) → IfSome h.coded (λ k. HasNoMarks h.cluster)
+again-by : (h : HandData) (ls : List (List ℕ)) → IsTranscript h ls → HasNames (named_language h.cluster) → HasPlainNames h.cluster → IfSome h.coded (λ k. HasNoMarks h.cluster)
     → All FitsEntry (log_after h ls) → AreShort (transcript reply h ls)
     → (b : Begins (transcript reply h ls)) → Again h ls (state_after reply (anew h) (lines (transcript reply h ls)))
 unfolding read
-again-by h ls t a none fits shorts b =
+again-by h ls t a plain_names none fits shorts b =
     let text = transcript reply h ls in
     let k1 : HandData = in_hand_of h.format h.coded h.limits h.is_physical h.cluster h.opening h.capacity empty_run in
-    let says = transcripts-are-bench-scripts h ls h.opening h.capacity t a fits in
+    let says = transcripts-are-bench-scripts h ls h.opening h.capacity t a plain_names fits in
     let plain : read_lines h.cluster None h.limits 1 (pieces_at_lf text) ≡ Ok says.lines =
-    ap (λ (u : List ℕ). read_lines h.cluster None h.limits 1 (pieces_at_lf u)) (sym (begins-unmarked text b)) ∙ says.reading h.limits in
+    ap (λ (u : List ℕ). read_lines h.cluster None h.limits 1 (pieces_at_lf u)) (sym (begins-unmarked text b)) ∙ says.plainly h.limits in
     let reading : read_lines h.cluster h.coded h.limits 1 (pieces_at_lf text) ≡ Ok says.lines =
     ap (λ (u : List ℕ). read_lines h.cluster h.coded h.limits 1 (pieces_at_lf u)) (sym (begins-unmarked text b))
     ∙ reads-coded h.cluster h.opening h.capacity text (steps_of (log_after h ls)) h.coded h.limits none says in
     let some = pieces-some text in
     let played = live-is-play h.format h.coded h.limits h.is_physical h.cluster h.opening h.capacity (pieces_at_lf text) says.lines _
-    (all-plain h.cluster h.limits 1 (pieces_at_lf text) says.lines shorts plain) reading says.steps_alone in
+    (all-plain h.cluster h.limits 1 (pieces_at_lf text) says.lines shorts plain) says.untested reading says.steps_alone in
     let first-line : HasFirst b.0 (lines text) = subst (λ (u : List ℕ). HasFirst b.0 (lines u)) (sym b.2) (lines-first b.0 b.1 b.3) in
     let same = begun-same h (lines text) b.0 b.3.0 first-line ∙ pieces-same k1 refl text (pieces_at_lf text) some.0 some.1 some.2 refl ∙ played in (
       ap (λ (k : HandData). reverse k.bench.past) same ∙ ap reverse (log-again h ls t),
@@ -324,5 +326,5 @@ again-by h ls t a none fits shorts b =
     )
 
 pub transcripts-are-inputs : TranscriptsAreInputs
-transcripts-are-inputs h [] t a none fits shorts = (ap (λ (p : List LogEntry). reverse p) (sym t.begins), refl)
-transcripts-are-inputs h (line ∷ more) t a none fits shorts = again-by h (line ∷ more) t a none fits shorts (transcript-begins h line more t.of_text)
+transcripts-are-inputs h [] t a plain none fits shorts = (ap (λ (p : List LogEntry). reverse p) (sym t.begins), refl)
+transcripts-are-inputs h (line ∷ more) t a plain none fits shorts = again-by h (line ∷ more) t a plain none fits shorts (transcript-begins h line more t.of_text)

@@ -1,6 +1,6 @@
 -- The names that an LDF text declares: words, and no two of a kind alike.
 use Rattle.std.proofs.Common.{◌≡◌, ◌∙◌, ◌<◌, ◌||◌, ◌++◌, ℕ, zero, suc, List, [], ◌∷◌, Bool, true, false, not, refl, sym, ap, subst, arith, Option, Some, None, length, get_or, map}
-use Rattle.std.specs.List.{All}
+use Rattle.std.specs.List.{All, list_all}
 use Rattle.std.specs.Str.{bytes_eq}
 use Rattle.std.proofs.lemmas.Bool.{and_parts}
 use Rattle.std.proofs.lemmas.List.Elements.{All-cons, All-head, All-nil, All-tail}
@@ -25,7 +25,8 @@ use Rattle.lin_ldf.specs.declared.section.SectionWord.TheVariants as words_of
 use Rattle.lin_ldf.specs.declared.section.Sections.{Sections}
 use Rattle.lin_ldf.specs.declared.token.TokenKind.TheVariants.{Word}
 use Rattle.lin_log.specs.Laws.{AreNames, is_name}
-use Rattle.lin_tool.proofs.laws.LdfWords.{IsGood, tokens-good}
+use Rattle.lin_ldf.specs.Bytes.{is_word_byte}
+use Rattle.lin_tool.proofs.laws.LdfWords.{IsGood, is_identifier, tokens-good}
 
 -- the name of what is declared
 abbrev pub name_text : Name → List ℕ
@@ -52,7 +53,7 @@ after-behind ts rest (w, e) good = after-some w rest (subst AllGood e good)
 
 -- ---- a word that wasn't declared before
 pub record IsNew (seen : List (List ℕ)) (name : List ℕ) : Type 0 where
-  pub word : is_name name ≡ true
+  pub word : is_identifier name ≡ true
   pub new : has_name seen name ≡ false
 
 no-name : (b : Bool) → not b ≡ true → b ≡ false
@@ -66,7 +67,7 @@ new-name seen ts n rest (t, e, is, same) good =
     rw same (record { word = g p.0; new = no-name (has_name seen t.text) p.1 })
 
 abbrev pub AllNames : List (List ℕ) → Type 0
-AllNames names = All (λ name. is_name name ≡ true) names
+AllNames names = All (λ name. is_identifier name ≡ true) names
 
 -- names, each new after those before it
 abbrev AllNew : List (List ℕ) → List (List ℕ) → Type 0
@@ -78,7 +79,7 @@ pub record AreNew (seen names : List (List ℕ)) : Type 0 where
   pub new : AllNew seen names
 
 abbrev is_name_so : List ℕ → Type 0
-is_name_so name = is_name name ≡ true
+is_name_so name = is_identifier name ≡ true
 
 none-new : (seen : List (List ℕ)) → AreNew seen []
 none-new seen = record { words = All-nil is_name_so; new = tt }
@@ -253,7 +254,7 @@ unlike-at seen (n ∷ ns) h zero (suc k) a b e = absurd (first-unlike seen n ns 
 unlike-at seen (n ∷ ns) h (suc i) zero a b e = absurd (first-unlike seen n ns h.1 i (omega arith) e)
 unlike-at seen (n ∷ ns) h (suc i) (suc k) a b e = ap suc (unlike-at (seen ++ n ∷ []) ns h.1 i k (omega arith) (omega arith) e)
 
-word-at : (names : List (List ℕ)) → AllNames names → (i : ℕ) → i < length names → is_name (get_or names i []) ≡ true
+pub word-at : (names : List (List ℕ)) → AllNames names → (i : ℕ) → i < length names → is_identifier (get_or names i []) ≡ true
 word-at [] h i less = absurd (omega arith)
 word-at (n ∷ ns) h zero less = All-head is_name_so n ns h
 word-at (n ∷ ns) h (suc i) less = word-at ns (All-tail is_name_so n ns h) i (omega arith)
@@ -262,6 +263,6 @@ word-at (n ∷ ns) h (suc i) less = word-at ns (All-tail is_name_so n ns h) i (o
 pub names-of_new : (names : List (List ℕ)) → AreNew [] names → (n : ℕ) (name_of : ℕ → List ℕ) → n ≡ length names
     → ((k : ℕ) → name_of k ≡ get_or names k []) → AreNames (record { count = n; name = name_of })
 names-of_new names a n name_of long same = record {
-  words = λ k less. rw (same k) (word-at names a.words k (omega arith));
+  words = λ k less. rw (same k) (and_parts (is_name (get_or names k [])) (list_all is_word_byte (get_or names k [])) (word-at names a.words k (omega arith))).0;
   unlike = λ i k less few e. unlike-at [] names a.new i k (omega arith) (omega arith) (sym (same i) ∙ e ∙ same k);
 }

@@ -1,5 +1,5 @@
 -- A text says what it says without its lines that begin with `#`; so a transcript says its log's steps.
-use Rattle.std.proofs.Common.{◌≡◌, ◌∙◌, ℕ, ◌+◌, ◌==◌, ◌-◌, Bool, true, false, not, List, [], ◌∷◌, ◌++◌, refl, sym, ap, append-nil, append_assoc, arith, filter, flat_map, length, slice_index, subst, suc, take, Option, Some, None, Result, Ok, Err, if◌then◌else◌}
+use Rattle.std.proofs.Common.{◌≡◌, ◌∙◌, ℕ, ◌+◌, ◌==◌, ◌-◌, Bool, true, false, not, List, [], ◌∷◌, ◌++◌, refl, sym, ap, append-nil, append_assoc, arith, filter, flat_map, length, slice_index, subst, suc, take, Option, Some, None, Result, Ok, Err, if◌then◌else◌, inr}
 use Rattle.std.specs.List.{All, AllByRecursion}
 use Rattle.std.specs.Str.Lines.{strip_carriage_return}
 use Rattle.std.proofs.lemmas.Grind.{common_steps}
@@ -18,7 +18,7 @@ use Rattle.lin_log.proofs.Texts.{texts-again}
 use Rattle.lin_values.specs.Coded.{CodedData}
 use Rattle.lin_export.specs.Named.{reply_lines}
 use Rattle.lin_bench.proofs.Steps.{named-texts, plain-scripts}
-use Rattle.lin_bench.specs.Plain.{SaysSteps}
+use Rattle.lin_bench.specs.Plain.{HasPlainNames, SaysSteps}
 use Rattle.lin_live.proofs.Cuts.{pieces-clean, pieces-some}
 use Rattle.lin_live.specs.Lines.{HasNoLf, pieces_at_lf}
 use Rattle.lin_live.specs.Told.{HandData, entries_text, is_text, reply, shown_coding}
@@ -150,14 +150,14 @@ transcripts-are-scripts h ls t fits is =
     let names = subst (λ f. AreToldNames f h.cluster) (sym is) tt in
     ap (λ f. without_reason (text_says (told_in f h.cluster) (transcript reply h ls))) (sym is) ∙ ap without_reason (transcript-says h ls t names fits)
 
-says-steps : (f : AnswerFormat) (c : Parts) (opening capacity : ℕ) (t : List ℕ) (steps : List (PortId × Step)) → text_says (told_in f c) t ≡ Ok steps
+says-steps : (f : AnswerFormat) (c : Parts) (opening capacity : ℕ) (t : List ℕ) (steps : List (PortId × Step)) → HasPlainNames c → text_says (told_in f c) t ≡ Ok steps
     → SaysSteps c opening capacity t steps
 unfolding script
-says-steps Log c opening capacity t steps h = plain-scripts c opening capacity t steps (ap without_reason h)
-says-steps Named c opening capacity t steps h = named-texts c opening capacity t steps h
-says-steps Jsonl c opening capacity t steps h = plain-scripts c opening capacity t steps (ap without_reason h)
+says-steps Log c opening capacity t steps names h = plain-scripts c opening capacity t steps (ap without_reason h)
+says-steps Named c opening capacity t steps names h = named-texts c opening capacity t steps (inr names) h
+says-steps Jsonl c opening capacity t steps names h = plain-scripts c opening capacity t steps (ap without_reason h)
 
 pub transcripts-are-bench-scripts : TranscriptsAreBenchScripts
-transcripts-are-bench-scripts h ls opening capacity t a fits =
+transcripts-are-bench-scripts h ls opening capacity t a plain fits =
     let names = told-names h.format h.cluster a in
-    says-steps h.format h.cluster opening capacity (transcript reply h ls) (steps_of (log_after h ls)) (transcript-says h ls t names fits)
+    says-steps h.format h.cluster opening capacity (transcript reply h ls) (steps_of (log_after h ls)) plain (transcript-says h ls t names fits)

@@ -1,8 +1,12 @@
 -- The cluster of an LDF text has names that a bench script reads.
-use Rattle.std.proofs.Common.{◌≡◌, ◌∙◌, ◌+◌, ℕ, zero, suc, List, [], ◌∷◌, refl, sym, ap, arith, length, get_or, map, None}
-use Rattle.std.specs.List.{enumerate_from}
+use Rattle.std.proofs.Common.{◌≡◌, ◌∙◌, ◌+◌, ◌==◌, ◌<◌, ℕ, zero, suc, List, [], ◌∷◌, refl, sym, ap, arith, true, false, codes, length, get_or, map, None}
+use Rattle.std.specs.List.{enumerate_from, list_all, list_any}
+use Rattle.std.specs.Str.{bytes_eq}
+use Rattle.std.proofs.lemmas.Bool.{and_parts}
+use Rattle.std.proofs.lemmas.Grind.{common_steps}
 use Rattle.std.proofs.lemmas.List.{length-map}
 use Rattle.std.proofs.lemmas.List.FromFn.{length-enumerate_from}
+use Rattle.std.proofs.lemmas.Slice.Eq.{bytes_eq-Decides}
 use Rattle.lin_frame.specs.declared.value.Value.TheVariants.{Scalar}
 use Rattle.lin_parts.specs.declared.description.Description.{Description}
 use Rattle.lin_parts.specs.declared.description.Name.{Name}
@@ -12,9 +16,12 @@ use Rattle.lin_parts.specs.declared.parts.Signal.{Signal}
 use Rattle.lin_parts.specs.declared.parts.Table.{Table}
 use Rattle.lin_cluster.specs.Described.{described_signal, described_table, parts_of, responder}
 use Rattle.lin_log.specs.Language.{named_language}
-use Rattle.lin_log.specs.Laws.{HasNames}
+use Rattle.lin_ldf.specs.Bytes.{is_word_byte}
+use Rattle.lin_log.specs.Laws.{HasNames, is_name}
+use Rattle.lin_bench.specs.Plain.{ArePlain, HasPlainNames, IsPlainName}
 use Rattle.lin_tool.specs.laws.NamedScripts.{NamedLogsOfTexts}
-use Rattle.lin_tool.proofs.laws.LdfNames.{DeclaresNames, name_text, names-of_new, signal_text, table_text, text-declares}
+use Rattle.lin_tool.proofs.laws.LdfNames.{AllNames, DeclaresNames, name_text, names-of_new, signal_text, table_text, text-declares, word-at}
+use Rattle.lin_tool.proofs.laws.LdfWords.{is_identifier}
 use Rattle.lin_tool.proofs.laws.NamedLogs.{named-logs}
 
 -- what is made of things has their names, and nothing else has one
@@ -50,7 +57,44 @@ words-of_text d p = record {
       (made-name (described_table d) (λ (t : Table). t.name) table_text (record { name = []; lines = [] }) (λ t. refl) refl d.tables);
 }
 
+-- ---- identifiers have no `$`, and none is `\`
+no-dollar : (w : List ℕ) → list_all is_word_byte w ≡ true → list_any (λ b. b == 36) w ≡ false
+no-dollar [] h = refl
+no-dollar (b ∷ bs) h =
+    let p = and_parts (is_word_byte b) (list_all is_word_byte bs) h in
+    let k = p.0 in
+    let other : (b == 36) ≡ false = grind (arith, common_steps, k) in
+    rw other (no-dollar bs p.1)
+
+no-backslash : (w : List ℕ) → list_all is_word_byte w ≡ true → bytes_eq w (codes "\\") ≡ false
+no-backslash w h = elim (bytes_eq w (codes "\\")) as (λ b. bytes_eq w (codes "\\") ≡ b → b ≡ false) [
+  | true ↦ λ e. (let no : false ≡ true = sym (ap (list_all is_word_byte) ((bytes_eq-Decides w (codes "\\")).0 e)) ∙ h in absurd (cc))
+  | false ↦ λ e. refl
+] refl
+
+plain-name : (w : List ℕ) → is_identifier w ≡ true → IsPlainName w
+plain-name w h =
+    let p = and_parts (is_name w) (list_all is_word_byte w) h in
+    (no-dollar w p.1, no-backslash w p.1)
+
+plain-names : (names : List (List ℕ)) → AllNames names → (n : ℕ) (name_of : ℕ → List ℕ) → n ≡ length names
+    → ((k : ℕ) → name_of k ≡ get_or names k []) → ArePlain (record { count = n; name = name_of })
+plain-names names words n name_of long same =
+    λ k less. rw (same k) (plain-name (get_or names k []) (word-at names words k (omega arith)))
+
+plain-of_text : (d : Description) → DeclaresNames d → HasPlainNames (parts_of d)
+plain-of_text d p = record {
+  nodes = plain-names (d.master.text ∷ map name_text d.slaves) p.of_nodes.words _ _ (node-count d) (node-name d);
+  signals = plain-names (map signal_text d.signals) p.of_signals.words _ _
+      (length-map d.signals (described_signal d) ∙ sym (length-map d.signals signal_text))
+      (made-name (described_signal d) (λ (s : Signal). s.name) signal_text (record { name = []; publisher = 0; subscribers = []; size = 1; initial = Scalar 0 })
+      (λ s. refl) refl d.signals);
+  tables = plain-names (map table_text d.tables) p.of_tables.words _ _
+      (length-map d.tables (described_table d) ∙ sym (length-map d.tables table_text))
+      (made-name (described_table d) (λ (t : Table). t.name) table_text (record { name = []; lines = [] }) (λ t. refl) refl d.tables);
+}
+
 pub named-logs-of_texts : NamedLogsOfTexts
 named-logs-of_texts text d k log opening capacity described fits =
     let p = text-declares text d described in
-    named-logs (parts_of d) k log opening capacity (words-of_text d p) fits
+    named-logs (parts_of d) k log opening capacity (words-of_text d p) (plain-of_text d p) fits

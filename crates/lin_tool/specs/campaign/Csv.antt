@@ -6,7 +6,8 @@ use Rattle.lin_parts.specs.Cluster.{named_table}
 use Rattle.lin_parts.specs.declared.parts.Parts.{Parts}
 use Rattle.lin_export.specs.Csv.{csv_line}
 use Rattle.lin_tool.specs.campaign.FaultNames.{faults_text}
-use Rattle.lin_tool.specs.campaign.Shown.{RowData, with_separators}
+use Rattle.lin_tool.specs.campaign.Shown.{RowData}
+use Rattle.lin_tool.specs.Separated.{with_separators}
 use Rattle.lin_tool.specs.campaign.Text.{frame_of_single, loss_text, refusal_text}
 use Rattle.lin_tool.specs.declared.campaign.row.Row.{Row}
 use Rattle.lin_tool.specs.declared.campaign.row.RowVerdict.{RowVerdict}

@@ -47,7 +47,7 @@ last_of (suc n) = decimal n
 abbrev pub expectation : Parts → List LogEntry → Judgement → List ℕ
 expectation c log j =
     object
-    (decimal_member (codes "line") j.line
+    (decimal_member (codes "line") j.place.own
     ∷ printable_member (codes "what") (what_text c j.judged)
     ∷ member (codes "slot") (last_of (finished_slot_count (past_at log j.entries)))
     ∷ [])
@@ -81,7 +81,7 @@ single_members c (Some s) =
 abbrev pub failure_object : Parts → Judgement → List ℕ
 failure_object c j =
     object
-    (decimal_member (codes "line") j.line
+    (decimal_member (codes "line") j.place.own
     ∷ printable_member (codes "what") (what_text c j.judged)
     ∷ printable_member (codes "got") (option_map_or (λ t. t) (found_text c j.judged) [])
     ∷ [])

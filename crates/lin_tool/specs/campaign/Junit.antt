@@ -4,10 +4,12 @@ use Rattle.std.specs.Fmt.{decimal}
 use Rattle.lin_parts.specs.declared.parts.Parts.{Parts}
 use Rattle.lin_core.specs.declared.log.LogEntry.{LogEntry}
 use Rattle.lin_bench.specs.Played.{is_unmet}
+use Rattle.lin_bench.specs.declared.files.ScriptFile.{ScriptFile}
 use Rattle.lin_bench.specs.declared.got.Judgement.{Judgement}
 use Rattle.lin_tool.specs.Junit.{xml_text}
 use Rattle.lin_tool.specs.Placing.{placed_missed}
-use Rattle.lin_tool.specs.campaign.Shown.{RowData, with_separators}
+use Rattle.lin_tool.specs.Separated.{with_separators}
+use Rattle.lin_tool.specs.campaign.Shown.{RowData}
 use Rattle.lin_tool.specs.campaign.Text.{row_name}
 use Rattle.lin_tool.specs.declared.campaign.row.RowVerdict.{RowVerdict}
 use Rattle.lin_tool.specs.declared.campaign.row.RowVerdict.TheVariants.{Tolerated, Broken, Limit}
@@ -22,10 +24,10 @@ abbrev pub report_end : List ℕ
 report_end = codes "</testsuite>\n</testsuites>\n"
 
 -- the lines of `play --where`, without the end of the last one
-abbrev pub failure_lines : List ℕ → Parts → List LogEntry → List Judgement → List ℕ
-failure_lines script c log js =
+abbrev pub failure_lines : List ℕ → List ScriptFile → Parts → List LogEntry → List Judgement → List ℕ
+failure_lines script fs c log js =
     with_separators [] (10 ∷ [])
-    (map (λ j. xml_text (placed_missed script c log j))
+    (map (λ j. xml_text (placed_missed script fs c log j))
     (filter (λ (j : Judgement). is_unmet j.judged) js))
 
 abbrev pub failure : List ℕ → List ℕ → List ℕ
@@ -34,25 +36,25 @@ failure message lines =
     ++ (message ++ (codes "\">" ++ (lines ++ codes "</failure>\n</testcase>\n")))
 
 -- the failure of a row with failed expectations
-abbrev pub broken_failure : List ℕ → Parts → RowData → List ℕ
-broken_failure script c p =
+abbrev pub broken_failure : List ℕ → List ScriptFile → Parts → RowData → List ℕ
+broken_failure script fs c p =
     failure (decimal (length p.row.lines) ++ codes " unmet")
-    (failure_lines script c p.log p.judgements)
+    (failure_lines script fs c p.log p.judgements)
 
-abbrev pub case_end : List ℕ → Parts → RowData → RowVerdict → List ℕ
-case_end script c p Tolerated = codes "/>\n"
-case_end script c p Broken = broken_failure script c p
-case_end script c p (Limit n) =
+abbrev pub case_end : List ℕ → List ScriptFile → Parts → RowData → RowVerdict → List ℕ
+case_end script fs c p Tolerated = codes "/>\n"
+case_end script fs c p Broken = broken_failure script fs c p
+case_end script fs c p (Limit n) =
     failure (codes "slot limit")
     (xml_text script ++ (codes ":" ++ (decimal n ++ codes ": slot limit")))
 
-abbrev pub case_text : List ℕ → Parts → RowData → List ℕ
-case_text script c p =
+abbrev pub case_text : List ℕ → List ScriptFile → Parts → RowData → List ℕ
+case_text script fs c p =
     codes "<testcase classname=\""
     ++ (xml_text script
     ++ (codes "\" name=\""
-    ++ (xml_text (row_name c p) ++ (codes "\"" ++ case_end script c p p.row.verdict))))
+    ++ (xml_text (row_name c p) ++ (codes "\"" ++ case_end script fs c p p.row.verdict))))
 
 -- row 0 has none
-abbrev pub row_case : List ℕ → Parts → RowData → List ℕ
-row_case script c p = if p.number == 0 then [] else case_text script c p
+abbrev pub row_case : List ℕ → List ScriptFile → Parts → RowData → List ℕ
+row_case script fs c p = if p.number == 0 then [] else case_text script fs c p

@@ -1,9 +1,8 @@
 -- What a play came to under faults.
-use Rattle.std.specs.Prelude.{ℕ, ◌==◌, ◌&&◌, Bool, false, not, if◌then◌else◌, List, [], ◌∷◌, ◌++◌}
+use Rattle.std.specs.Prelude.{ℕ, ◌==◌, ◌&&◌, Bool, not, if◌then◌else◌, List, [], ◌∷◌, ◌++◌}
 use Rattle.std.specs.Prelude.{drop, flat_map, reverse, take, Option, Some, None}
 use Rattle.std.specs.List.{filter_map, list_any}
-use Rattle.std.specs.Option.{option_map_or}
-use Rattle.lin_core.specs.History.{events, time}
+use Rattle.lin_core.specs.History.{events, is_in, time}
 use Rattle.lin_core.specs.Tables.{cause_number, refusal_number}
 use Rattle.lin_core.specs.declared.event.Event.{Event}
 use Rattle.lin_core.specs.declared.event.Event.TheVariants.{Lost}
@@ -12,6 +11,7 @@ use Rattle.lin_core.specs.declared.reply.Reply.{Reply}
 use Rattle.lin_core.specs.declared.reply.Reply.TheVariants.{Done, Refused}
 use Rattle.lin_bench.specs.Played.{is_unmet}
 use Rattle.lin_bench.specs.declared.got.Judgement.{Judgement}
+use Rattle.lin_bench.specs.declared.place.LinePlace.{LinePlace}
 use Rattle.lin_bench.specs.declared.playing.LineEnd.{LineEnd}
 use Rattle.lin_bench.specs.declared.playing.PlayedUnder.{PlayedUnder}
 use Rattle.lin_tool.specs.Page.{events_so, is_seen}
@@ -23,20 +23,15 @@ use Rattle.lin_tool.specs.declared.campaign.row.RowVerdict.{RowVerdict}
 use Rattle.lin_tool.specs.declared.campaign.row.RowVerdict.TheVariants.{Tolerated, Broken, Limit}
 
 -- ---- the lines with a judgement that isn't met
--- whether the line before is this one
-abbrev pub is_again : Option ℕ → ℕ → Bool
-is_again before n = option_map_or (λ m. m == n) before false
-
--- the judgements on a line stand side by side, and the line is listed once; before these judgements
--- this line is listed, if one is
-abbrev pub unmet_after : Option ℕ → List Judgement → List ℕ
+-- a line is listed once, also if it is read several times; these lines are listed before
+abbrev pub unmet_after : List ℕ → List Judgement → List ℕ
 unmet_after before [] = []
 unmet_after before (j ∷ js) =
-    if is_unmet j.judged && not (is_again before j.line)
-    then j.line ∷ unmet_after (Some j.line) js else unmet_after before js
+    if is_unmet j.judged && not (is_in before j.place.own)
+    then j.place.own ∷ unmet_after (before ++ j.place.own ∷ []) js else unmet_after before js
 
 abbrev pub unmet_lines : List Judgement → List ℕ
-unmet_lines js = unmet_after None js
+unmet_lines js = unmet_after [] js
 
 -- ---- the messages that were lost
 abbrev pub loss_in : Event → Option LostMessage
@@ -77,14 +72,14 @@ refused_after before n (e ∷ es) =
 abbrev pub refused_from : List LogEntry → ℕ → List LineEnd → List RefusedStep
 refused_from log from [] = []
 refused_from log from (end ∷ ends) =
-    refused_after [] end.line (drop from (take end.entries log)) ++ refused_from log end.entries ends
+    refused_after [] end.place.own (drop from (take end.entries log)) ++ refused_from log end.entries ends
 
 abbrev pub refused_steps : List LogEntry → List LineEnd → List RefusedStep
 refused_steps log ends = refused_from log 0 ends
 
 -- ---- the row
-abbrev pub verdict_of : Option ℕ → List ℕ → RowVerdict
-verdict_of (Some n) lines = Limit n
+abbrev pub verdict_of : Option LinePlace → List ℕ → RowVerdict
+verdict_of (Some p) lines = Limit p.own
 verdict_of None [] = Tolerated
 verdict_of None (n ∷ ns) = Broken
 

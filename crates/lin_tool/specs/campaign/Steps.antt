@@ -9,10 +9,12 @@ use Rattle.lin_parts.specs.declared.parts.Parts.{Parts}
 use Rattle.lin_core.specs.Core.{CoreData}
 use Rattle.lin_bench.specs.Played.{some_unmet}
 use Rattle.lin_bench.specs.Plays.{OverfillsUnder}
+use Rattle.lin_bench.specs.Files.{source_data}
 use Rattle.lin_bench.specs.Scripts.{read}
 use Rattle.lin_bench.specs.declared.faults.SlotFault.{SlotFault}
 use Rattle.lin_bench.specs.declared.got.Judgement.{Judgement}
 use Rattle.lin_bench.specs.declared.line.ScriptLine.{ScriptLine}
+use Rattle.lin_bench.specs.declared.place.LinePlace.{LinePlace}
 use Rattle.lin_export.specs.WhereTold.{given_coding}
 use Rattle.lin_tool.specs.Formats.{Begins}
 use Rattle.lin_tool.specs.Playing.{WritesTextOrPart}
@@ -42,14 +44,14 @@ use Rattle.lin_tool.specs.declared.fault.Fault.TheVariants.{LogFull, OutOfMemory
 abbrev pub IsCampaignReady : Campaign → Parts → Type 0
 IsCampaignReady on c =
     (on.table < length c.tables) × (1 ≤ on.capacity) × (on.capacity ≤ 1024)
-    × (length on.bytes.now ≤ 16777216)
+    × (length on.source.text.now ≤ 16777216)
 
 -- the script of a campaign says these lines
-abbrev pub SaysLines : Campaign → Parts → List (ℕ × ScriptLine) → Type 0
-SaysLines on c ls = read c (given_coding on.coded) on.limits.now on.bytes.now ≡ Ok ls
+abbrev pub SaysLines : Campaign → Parts → List (LinePlace × ScriptLine) → Type 0
+SaysLines on c ls = read c (given_coding on.coded) on.limits.now (source_data on.source) ≡ Ok ls
 
 -- what the plays of these lines have in common
-abbrev pub stage_of : Campaign → Parts → List (ℕ × ScriptLine) → PlaySetup
+abbrev pub stage_of : Campaign → Parts → List (LinePlace × ScriptLine) → PlaySetup
 stage_of on c ls = record {
   strict = on.is_strict;
   cluster = c;
@@ -119,23 +121,23 @@ calm_row t core = record {
 
 abbrev pub head_of : Campaign → RowSource → Parts → RowData → List ℕ
 head_of on t c calm =
-    text_before_rows on.format (t.part.number == 1) on.script.now on.file.now on.bytes.now (cases_of t)
+    text_before_rows on.format (t.part.number == 1) on.script.now on.file.now on.source.text.now (cases_of t)
     t.rows.now c calm
 
 -- what stands before the rows with faults
 abbrev pub head_with_calm : Campaign → RowSource → Parts → RowData → List ℕ
 head_with_calm on t c calm =
     head_of on t c calm
-    ++ (if shows_calm on.format t then row_as on.format on.script.now c [] [] calm else [])
+    ++ (if shows_calm on.format t then row_as on.format on.script.now on.source.files.now c [] [] calm else [])
 
 -- a row with faults
 abbrev pub disturbed_row : Campaign → RowSource → Parts → RowData → List ℕ
-disturbed_row on t c p = row_as on.format on.script.now c t.calm.now.lost t.calm.now.refused p
+disturbed_row on t c p = row_as on.format on.script.now on.source.files.now c t.calm.now.lost t.calm.now.refused p
 
 -- a row; what the undisturbed play, if it is given, lost and refused isn't repeated
 abbrev pub row_without : Campaign → ShownRow → Option (Bor Row) → List ℕ
 row_without on shown calm =
-    row_as on.format on.script.now shown.core.now.cluster (known_losses calm) (known_refusals calm)
+    row_as on.format on.script.now on.source.files.now shown.core.now.cluster (known_losses calm) (known_refusals calm)
     (row_data shown)
 
 -- the object of the campaign, of which this row is the undisturbed play
@@ -173,7 +175,7 @@ IsDenial plan counts judgements answer =
 -- ---- what is answered
 -- why only a beginning was written: the log of some row would have more entries than a log takes, memory
 -- ran out, or the writer failed
-abbrev pub BreaksOff : Campaign → RowSource → Parts → List (ℕ × ScriptLine) → Fault → Type 0
+abbrev pub BreaksOff : Campaign → RowSource → Parts → List (LinePlace × ScriptLine) → Fault → Type 0
 BreaksOff on t c ls LogFull =
     (n : ℕ) × (n < length (rows t.rows.now))
     × OverfillsUnder c on.table on.capacity (faults_at t.singles.now (places_of t.rows.now n)) ls
@@ -188,7 +190,7 @@ CountsMore ps old new =
     → AreCountsOf js (counted ++ map numbered_row ps) new
 
 -- row n was played, written and counted, or a beginning of it was written
-abbrev pub WritesRow : Campaign → RowSource → Parts → List (ℕ × ScriptLine) → ℕ → Result Parts Fault
+abbrev pub WritesRow : Campaign → RowSource → Parts → List (LinePlace × ScriptLine) → ℕ → Result Parts Fault
     → RowCountsData → RowCountsData → Option (List ℕ) → Option (List ℕ) → Type 0
 WritesRow on t c ls n (Ok handed) counts more old new =
     (p : RowData) × IsRowOf (stage_of on c ls) t.singles.now n (places_of t.rows.now n) p
@@ -198,7 +200,7 @@ WritesRow on t c ls n (Err fault) counts more old new =
     × Begins old new (disturbed_row on t c p) × BreaksOff on t c ls fault
 
 -- likewise all rows of the part but row 0
-abbrev pub WritesRows : Campaign → RowSource → Parts → List (ℕ × ScriptLine) → Result Parts Fault
+abbrev pub WritesRows : Campaign → RowSource → Parts → List (LinePlace × ScriptLine) → Result Parts Fault
     → RowCountsData → RowCountsData → Option (List ℕ) → Option (List ℕ) → Type 0
 WritesRows on t c ls (Ok handed) counts more old new =
     (ps : List RowData) × AreRowsOf (stage_of on c ls) t.singles.now t.rows.now (first_disturbed (first_part_row t)) ps
@@ -213,12 +215,12 @@ WritesRows on t c ls (Err fault) counts more old new =
 abbrev pub PlaysAndWritesRow : Campaign → RowSource → Parts → ℕ → Result Parts Fault → RowCountsData → RowCountsData
     → Option (List ℕ) → Option (List ℕ) → Type 0
 PlaysAndWritesRow on t c n result counts more old new =
-    (ls : List (ℕ × ScriptLine)) → SaysLines on c ls → WritesRow on t c ls n result counts more old new
+    (ls : List (LinePlace × ScriptLine)) → SaysLines on c ls → WritesRow on t c ls n result counts more old new
 
 abbrev pub PlaysAndWritesRows : Campaign → RowSource → Parts → Result Parts Fault → RowCountsData → RowCountsData
     → Option (List ℕ) → Option (List ℕ) → Type 0
 PlaysAndWritesRows on t c result counts more old new =
-    (ls : List (ℕ × ScriptLine)) → SaysLines on c ls → WritesRows on t c ls result counts more old new
+    (ls : List (LinePlace × ScriptLine)) → SaysLines on c ls → WritesRows on t c ls result counts more old new
 
 -- a play that is row 0 of a campaign
 abbrev pub row_of_play : Play → RowData
@@ -232,14 +234,14 @@ row_of_play p = record {
 }
 
 -- the script's lines were played undisturbed, and each judgement is met
-pub record IsCampaignBegun (on : Campaign) (plan : CampaignPlan) (calm : Play) (ls : List (ℕ × ScriptLine)) : Type 0 where
+pub record IsCampaignBegun (on : Campaign) (plan : CampaignPlan) (calm : Play) (ls : List (LinePlace × ScriptLine)) : Type 0 where
   pub says : SaysLines on calm.core.cluster ls
   pub undisturbed : IsRowOf (stage_of on calm.core.cluster ls) [] 0 [] (row_of_play calm)
   pub met : some_unmet calm.judgements ≡ false
   pub format : on.format ≡ plan.format
 
 -- likewise, and the table has what the plan wants of that play
-pub record IsPlanned (on : Campaign) (plan : CampaignPlan) (t : RowSource) (core : CoreData) (ls : List (ℕ × ScriptLine)) : Type 0 where
+pub record IsPlanned (on : Campaign) (plan : CampaignPlan) (t : RowSource) (core : CoreData) (ls : List (LinePlace × ScriptLine)) : Type 0 where
   pub says : SaysLines on core.cluster ls
   pub undisturbed : IsRowOf (stage_of on core.cluster ls) [] 0 [] (calm_row t core)
   pub met : some_unmet t.judgements.now ≡ false
@@ -254,14 +256,14 @@ pub record IsPlanned (on : Campaign) (plan : CampaignPlan) (t : RowSource) (core
 abbrev pub WritesTable : Campaign → CampaignPlan → RowSource → CoreData → Result Unit Fault → Option (List ℕ)
     → Option (List ℕ) → Option (List ℕ) → Option (List ℕ) → Type 0
 WritesTable on plan t core result old new silent heard =
-    (ls : List (ℕ × ScriptLine)) → IsPlanned on plan t core ls
-    → WritesPlays (stage_of on core.cluster ls) plan t.is_watched on.script.now on.file.now on.bytes.now
+    (ls : List (LinePlace × ScriptLine)) → IsPlanned on plan t core ls
+    → WritesPlays (stage_of on core.cluster ls) plan t.is_watched on.script.now on.source.files.now on.file.now on.source.text.now
     result old new silent heard
 
 -- likewise, where the undisturbed play is this
 abbrev pub WritesAfter : Campaign → CampaignPlan → Play → Result Unit Fault → Option (List ℕ)
     → Option (List ℕ) → Option (List ℕ) → Option (List ℕ) → Type 0
 WritesAfter on plan calm result old new silent heard =
-    (ls : List (ℕ × ScriptLine)) → IsCampaignBegun on plan calm ls
-    → WritesPlays (stage_of on calm.core.cluster ls) plan plan.is_watched on.script.now on.file.now
-    on.bytes.now result old new silent heard
+    (ls : List (LinePlace × ScriptLine)) → IsCampaignBegun on plan calm ls
+    → WritesPlays (stage_of on calm.core.cluster ls) plan plan.is_watched on.script.now on.source.files.now on.file.now
+    on.source.text.now result old new silent heard

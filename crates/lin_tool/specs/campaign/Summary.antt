@@ -43,10 +43,10 @@ abbrev pub breaks : ℕ → Row → Bool
 breaks n r = is_in (broken_lines r) n
 
 abbrev pub has_judgement : List Judgement → ℕ → Bool
-has_judgement js n = list_any (λ (j : Judgement). j.line == n) js
+has_judgement js n = list_any (λ (j : Judgement). j.place.own == n) js
 
 abbrev pub judged_lines : List Judgement → List ℕ
-judged_lines js = map (λ (j : Judgement). j.line) js
+judged_lines js = map (λ (j : Judgement). j.place.own) js
 
 -- a number that is above these
 abbrev pub bound_of : List ℕ → ℕ
@@ -66,7 +66,7 @@ counted_lines js rows =
 abbrev pub expectation : Parts → List Judgement → ℕ → List ℕ
 expectation c js n =
     option_map_or (λ (j : Judgement). codes ":" ++ spaced_word (what_text c j.judged))
-    (find (λ (j : Judgement). j.line == n) js) []
+    (find (λ (j : Judgement). j.place.own == n) js) []
 
 abbrev pub broken_mark : ℕ → ℕ → List ℕ
 broken_mark zero all = codes " (never broken)"
@@ -164,7 +164,7 @@ line_at counts n = slice_index_or counts n (record { judgement = None; broken = 
 -- the place of the first judgement on line n, where these begin at place i
 abbrev pub place_from : ℕ → ℕ → List Judgement → Option ℕ
 place_from i n [] = None
-place_from i n (j ∷ js) = if j.line == n then Some i else place_from (i + 1) n js
+place_from i n (j ∷ js) = if j.place.own == n then Some i else place_from (i + 1) n js
 
 -- a count of line n: the place of its judgement among those of the undisturbed play, and how many of
 -- these rows break it
@@ -263,7 +263,7 @@ some_not_tolerated rows = list_any (λ (r : Row). not (is_tolerated r.verdict)) 
 -- no row breaks some line with a judgement of the undisturbed play
 abbrev pub some_never_broken : List Judgement → List Row → Bool
 some_never_broken js rows =
-    list_any (λ (j : Judgement). list_all (λ r. not (breaks j.line r)) rows) js
+    list_any (λ (j : Judgement). list_all (λ r. not (breaks j.place.own r)) rows) js
 
 abbrev pub is_denied : Bool → Bool → List Judgement → List Row → Bool
 is_denied broken never js rows =

@@ -9,7 +9,8 @@ use Rattle.lin_parts.specs.Cluster.{named_table, node_of}
 use Rattle.lin_parts.specs.declared.parts.Parts.{Parts}
 use Rattle.lin_tool.specs.campaign.FaultNames.{faults_text}
 use Rattle.lin_tool.specs.campaign.Row.{is_same_loss, is_same_refusal}
-use Rattle.lin_tool.specs.campaign.Shown.{RowData, with_separators}
+use Rattle.lin_tool.specs.campaign.Shown.{RowData}
+use Rattle.lin_tool.specs.Separated.{with_separators}
 use Rattle.lin_tool.specs.campaign.Slots.{frame_or_entry_name}
 use Rattle.lin_tool.specs.declared.campaign.row.LostMessage.{LostMessage}
 use Rattle.lin_tool.specs.declared.campaign.row.RefusedStep.{RefusedStep}

@@ -5,20 +5,21 @@ use Rattle.std.specs.Prelude.{Result, Ok, Err}
 use Rattle.std.specs.Borrow.{Bor}
 use Rattle.std.specs.Io.KnownBytes.{Appends, Keeps}
 use Rattle.lin_parts.specs.declared.parts.Parts.{Parts}
-use Rattle.lin_log.specs.declared.fault.ScriptFault.TheVariants as script
 use Rattle.lin_text.specs.Written.{WritesText}
 use Rattle.lin_values.specs.Coded.{CodedData}
+use Rattle.lin_bench.specs.Files.{SourceData}
+use Rattle.lin_bench.specs.Scripts.{read}
 use Rattle.lin_bench.specs.Played.{Run, some_unmet}
 use Rattle.lin_bench.specs.Plays.{ComesUnder, OverfillsUnder}
+use Rattle.lin_bench.specs.declared.files.ScriptFile.{ScriptFile}
 use Rattle.lin_bench.specs.declared.line.ScriptLine.{ScriptLine}
+use Rattle.lin_bench.specs.declared.place.LinePlace.{LinePlace}
 use Rattle.lin_bench.specs.declared.playing.PlayedUnder.{PlayedUnder}
-use Rattle.lin_bench.specs.declared.reason.Reason.{Reason}
 use Rattle.lin_bench.specs.declared.rules.NodeLimits.{NodeLimits}
 use Rattle.lin_tool.specs.Formats.{Begins}
 use Rattle.lin_tool.specs.Opening.{room_for}
-use Rattle.lin_tool.specs.Placing.{bad_text}
-use Rattle.lin_tool.specs.Playing.{ComesTo, Says, WritesTextOrPart, judgements_with_meanings, unmet_with_counts}
-use Rattle.lin_tool.specs.Replaying.{RefusesScript}
+use Rattle.lin_tool.specs.Playing.{ComesTo, IsReadScript, IsUnread, RefusesReading, WritesTextOrPart}
+use Rattle.lin_tool.specs.Playing.{judgements_with_meanings, limit_fault, unmet_with_counts, unused_parameter}
 use Rattle.lin_tool.specs.campaign.Csv.{row_text as csv_text}
 use Rattle.lin_tool.specs.campaign.Jsonl.{head_object, row_object}
 use Rattle.lin_tool.specs.campaign.Junit.{report_end, report_head, row_case}
@@ -32,8 +33,8 @@ use Rattle.lin_tool.specs.campaign.Text.{row_text}
 use Rattle.lin_tool.specs.declared.campaign.csv_rows.TheConstants.{HEAD}
 use Rattle.lin_tool.specs.declared.campaign.pieces.TheConstants.{HEAD as PAGE, TAIL as PAGE_END}
 use Rattle.lin_tool.specs.declared.fault.Fault.{Fault}
-use Rattle.lin_tool.specs.declared.fault.Fault.TheVariants.{BadBenchLine, Denied, LogFull, OutOfMemory}
-use Rattle.lin_tool.specs.declared.fault.Fault.TheVariants.{ReadFailed, ScriptTooLong, SlotLimit, Unmet, WriteFailed}
+use Rattle.lin_tool.specs.declared.fault.Fault.TheVariants.{BadBenchLine, Denied, LogFull, OutOfMemory, UnusedParameter}
+use Rattle.lin_tool.specs.declared.fault.Fault.TheVariants.{LongFile, SlotLimit, Unmet, UnreadFile, WriteFailed}
 use Rattle.lin_tool.specs.declared.campaign.plan.CampaignPlan.{CampaignPlan}
 use Rattle.lin_tool.specs.declared.campaign.plan.RowFormat.{RowFormat}
 use Rattle.lin_tool.specs.declared.campaign.plan.RowFormat.TheVariants.{Text, Csv, Jsonl, Junit, Html}
@@ -51,7 +52,7 @@ pub record PlaySetup : Type 0 where
   pub coded : Option CodedData
   pub opening : ℕ
   pub capacity : ℕ
-  pub lines : List (ℕ × ScriptLine)
+  pub lines : List (LinePlace × ScriptLine)
 
 -- the play of row n, which has the single faults at these places
 pub record IsRowOf (on : PlaySetup) (ss : List Single) (n : ℕ) (places : List ℕ) (p : RowData)
@@ -75,22 +76,22 @@ AreRowsFrom on ss n more ps = ⊥
 
 -- ---- texts
 -- a row, without these messages among those that were lost, and without these refused steps
-abbrev pub row_as : RowFormat → List ℕ → Parts → List LostMessage → List RefusedStep → RowData → List ℕ
-row_as Text script c lost refused p = row_text c lost refused p
-row_as Csv script c lost refused p = csv_text c p
-row_as Jsonl script c lost refused p = row_object c p
-row_as Html script c lost refused p = object_text (row_object c p)
-row_as Junit script c lost refused p = row_case script c p
+abbrev pub row_as : RowFormat → List ℕ → List ScriptFile → Parts → List LostMessage → List RefusedStep → RowData → List ℕ
+row_as Text script fs c lost refused p = row_text c lost refused p
+row_as Csv script fs c lost refused p = csv_text c p
+row_as Jsonl script fs c lost refused p = row_object c p
+row_as Html script fs c lost refused p = object_text (row_object c p)
+row_as Junit script fs c lost refused p = row_case script fs c p
 
 -- a row; what the undisturbed play lost and refused isn't repeated in another one
-abbrev pub row_in_output : RowFormat → List ℕ → Parts → RowData → RowData → List ℕ
-row_in_output format script c calm p =
-    if p.number == 0 then row_as format script c [] [] p
-    else row_as format script c calm.row.lost calm.row.refused p
+abbrev pub row_in_output : RowFormat → List ℕ → List ScriptFile → Parts → RowData → RowData → List ℕ
+row_in_output format script fs c calm p =
+    if p.number == 0 then row_as format script fs c [] [] p
+    else row_as format script fs c calm.row.lost calm.row.refused p
 
 -- all rows of a part, of which the first has number `from`: of a page also the undisturbed play
-abbrev pub rows_in_output : RowFormat → List ℕ → Parts → RowData → List RowData → List ℕ
-rows_in_output format script c calm ps = flat_map (row_in_output format script c calm) ps
+abbrev pub rows_in_output : RowFormat → List ℕ → List ScriptFile → Parts → RowData → List RowData → List ℕ
+rows_in_output format script fs c calm ps = flat_map (row_in_output format script fs c calm) ps
 
 -- what stands before the rows, and after them. Of the parts of a table, and of objects, the first
 -- alone has it
@@ -138,11 +139,11 @@ plays_in_output format calm ps = ps
 abbrev pub rows_with_faults : List RowData → List RowData
 rows_with_faults ps = filter (λ (p : RowData). not (p.number == 0)) ps
 
-abbrev pub campaign_output : {on : PlaySetup} {plan : CampaignPlan} → List ℕ → List ℕ → List ℕ → PlaysOfCampaign on plan → List ℕ
-campaign_output {on} {plan} script file bytes it =
+abbrev pub campaign_output : {on : PlaySetup} {plan : CampaignPlan} → List ℕ → List ScriptFile → List ℕ → List ℕ → PlaysOfCampaign on plan → List ℕ
+campaign_output {on} {plan} script fs file bytes it =
     text_before_rows plan.format (plan.part.number == 1) script file bytes (length (rows_with_faults it.played))
     it.table on.cluster it.calm
-    ++ (rows_in_output plan.format script on.cluster it.calm (plays_in_output plan.format it.calm it.played)
+    ++ (rows_in_output plan.format script fs on.cluster it.calm (plays_in_output plan.format it.calm it.played)
     ++ text_after_rows plan.format)
 
 abbrev pub numbered_row : RowData → NumberedRow
@@ -190,11 +191,11 @@ is_full (Err LogFull) = true
 is_full result = false
 
 -- the lines of a script that is read, and what is written of their plays
-abbrev pub WritesPlays : PlaySetup → CampaignPlan → Bool → List ℕ → List ℕ → List ℕ → Result Unit Fault
+abbrev pub WritesPlays : PlaySetup → CampaignPlan → Bool → List ℕ → List ScriptFile → List ℕ → List ℕ → Result Unit Fault
     → Option (List ℕ) → Option (List ℕ) → Option (List ℕ) → Option (List ℕ) → Type 0
-WritesPlays on plan watched script file bytes result old new silent heard =
+WritesPlays on plan watched script fs file bytes result old new silent heard =
     (it : PlaysOfCampaign on plan) × (is_full result ≡ true → SomeRowOverfills it)
-    × Ends watched result (denies it) (campaign_output script file bytes it) (counts script it) old new
+    × Ends watched result (denies it) (campaign_output script fs file bytes it) (counts script it) old new
     silent heard
 
 -- ---- the answer
@@ -203,11 +204,11 @@ name_or None other = other
 name_or (Some name) other = name.now
 
 -- a script was read, and this is written of its plays
-abbrev pub WritesPlaysOfScript : CampaignPlan → Option CodedData → List NodeLimits → Option (Bor (List ℕ))
-    → Option (Bor (List ℕ)) → Bool → Parts → ℕ → ℕ → Result Unit Fault → Option (List ℕ)
+abbrev pub WritesPlaysOfScript : CampaignPlan → Option CodedData → List NodeLimits → SourceData → Option (Bor (List ℕ))
+    → Option (Bor (List ℕ)) → Bool → Parts → ℕ → ℕ → Result Unit Fault
     → Option (List ℕ) → Option (List ℕ) → Option (List ℕ) → Option (List ℕ) → Type 0
-WritesPlaysOfScript plan k limits file named strict c opening capacity result told old new silent heard =
-    (ls : List (ℕ × ScriptLine)) × (it : Says c k limits told (Ok ls))
+WritesPlaysOfScript plan k limits s file named strict c opening capacity result old new silent heard =
+    (ls : List (LinePlace × ScriptLine)) × (read c k limits s ≡ Ok ls)
     × WritesPlays (record {
       strict = strict;
       cluster = c;
@@ -216,61 +217,56 @@ WritesPlaysOfScript plan k limits file named strict c opening capacity result to
       capacity = capacity;
       lines = ls;
     })
-    plan plan.is_watched (name_or named (codes "-")) (name_or file []) it.bytes result old new silent heard
+    plan plan.is_watched (name_or named (codes "-")) s.files (name_or file []) s.text result old new silent heard
 
 -- What a campaign answers, what the writer took (from old to new), and what the writer of errors took
 -- (from silent to heard). If the undisturbed play has a judgement that isn't met, or the script can't be
 -- played, the writer gets nothing.
-abbrev pub WritesCampaign : CampaignPlan → Option CodedData → List NodeLimits → Option (Bor (List ℕ))
-    → Option (Bor (List ℕ)) → Bool → Parts → ℕ → ℕ → Result Unit Fault → Option (List ℕ)
+abbrev pub WritesCampaign : CampaignPlan → Option CodedData → List NodeLimits → SourceData → Option (Bor (List ℕ))
+    → Option (Bor (List ℕ)) → Bool → Parts → ℕ → ℕ → Result Unit Fault
     → Option (List ℕ) → Option (List ℕ) → Option (List ℕ) → Option (List ℕ) → Type 0
-WritesCampaign plan k limits file named strict c opening capacity
-    (Err (BadBenchLine n outcome)) told old new silent heard =
-    (why : Reason) × (it : Says c k limits told (Err (n, why))) × Keeps old new
-    × WritesText silent heard outcome (bad_text named c k limits it.bytes n why)
-WritesCampaign plan k limits file named strict c opening capacity
-    (Err (SlotLimit n)) told old new silent heard =
-    ComesTo [] strict k limits c opening capacity told (Err n) × Keeps old new × Keeps silent heard
-WritesCampaign plan k limits file named strict c opening capacity
-    (Err (Unmet outcome)) told old new silent heard =
-    (run : Run) × ComesTo [] strict k limits c opening capacity told (Ok run)
+WritesCampaign plan k limits s file named strict c opening capacity (Err (BadBenchLine n outcome)) old new silent heard =
+    IsUnread named c k limits s (BadBenchLine n outcome) silent heard × Keeps old new
+WritesCampaign plan k limits s file named strict c opening capacity (Err (UnreadFile outcome)) old new silent heard =
+    IsUnread named c k limits s (UnreadFile outcome) silent heard × Keeps old new
+WritesCampaign plan k limits s file named strict c opening capacity (Err (LongFile outcome)) old new silent heard =
+    IsUnread named c k limits s (LongFile outcome) silent heard × Keeps old new
+WritesCampaign plan k limits s file named strict c opening capacity (Err (UnusedParameter name)) old new silent heard =
+    (ls : List (LinePlace × ScriptLine)) × (read c k limits s ≡ Ok ls)
+    × (unused_parameter s ≡ Some name) × Keeps old new × Keeps silent heard
+WritesCampaign plan k limits s file named strict c opening capacity (Err (SlotLimit n at)) old new silent heard =
+    ComesTo [] strict k limits s c opening capacity (Err n) × (SlotLimit n at ≡ limit_fault s.files n)
+    × Keeps old new × Keeps silent heard
+WritesCampaign plan k limits s file named strict c opening capacity (Err (Unmet outcome)) old new silent heard =
+    (run : Run) × ComesTo [] strict k limits s c opening capacity (Ok run)
     × (some_unmet (judgements_with_meanings k run.judgements) ≡ true) × Keeps old new
     × WritesText silent heard outcome
-    (unmet_with_counts named strict 0 0 c (reverse run.bench.past) (judgements_with_meanings k run.judgements))
-WritesCampaign plan k limits file named strict c opening capacity
-    (Err ScriptTooLong) told old new silent heard =
-    RefusesScript script.TooLong told old new × Keeps silent heard
-WritesCampaign plan k limits file named strict c opening capacity
-    (Err ReadFailed) told old new silent heard =
-    Keeps old new × Keeps silent heard
-WritesCampaign plan k limits file named strict c opening capacity
-    (Err OutOfMemory) told old new silent heard =
+    (unmet_with_counts named s.files strict 0 0 c (reverse run.bench.past) (judgements_with_meanings k run.judgements))
+WritesCampaign plan k limits s file named strict c opening capacity (Err OutOfMemory) old new silent heard =
     (Keeps old new × Keeps silent heard)
-    ⊎ WritesPlaysOfScript plan k limits file named strict c opening capacity (Err OutOfMemory)
-    told old new silent heard
-WritesCampaign plan k limits file named strict c opening capacity
-    (Err LogFull) told old new silent heard =
-    ((ls : List (ℕ × ScriptLine)) × Says c k limits told (Ok ls) × OverfillsUnder c opening capacity [] ls
+    ⊎ WritesPlaysOfScript plan k limits s file named strict c opening capacity (Err OutOfMemory) old new silent heard
+WritesCampaign plan k limits s file named strict c opening capacity (Err LogFull) old new silent heard =
+    ((ls : List (LinePlace × ScriptLine)) × (read c k limits s ≡ Ok ls) × OverfillsUnder c opening capacity [] ls
     × Keeps old new × Keeps silent heard)
-    ⊎ WritesPlaysOfScript plan k limits file named strict c opening capacity (Err LogFull)
-    told old new silent heard
-WritesCampaign plan k limits file named strict c opening capacity
-    (Err WriteFailed) told old new silent heard =
-    WritesPlaysOfScript plan k limits file named strict c opening capacity (Err WriteFailed)
-    told old new silent heard
-WritesCampaign plan k limits file named strict c opening capacity
-    (Err Denied) told old new silent heard =
-    WritesPlaysOfScript plan k limits file named strict c opening capacity (Err Denied)
-    told old new silent heard
-WritesCampaign plan k limits file named strict c opening capacity
-    (Ok done) told old new silent heard =
-    WritesPlaysOfScript plan k limits file named strict c opening capacity (Ok done)
-    told old new silent heard
-WritesCampaign plan k limits file named strict c opening capacity (Err _) told old new silent heard = ⊥
+    ⊎ WritesPlaysOfScript plan k limits s file named strict c opening capacity (Err LogFull) old new silent heard
+WritesCampaign plan k limits s file named strict c opening capacity (Err WriteFailed) old new silent heard =
+    WritesPlaysOfScript plan k limits s file named strict c opening capacity (Err WriteFailed) old new silent heard
+WritesCampaign plan k limits s file named strict c opening capacity (Err Denied) old new silent heard =
+    WritesPlaysOfScript plan k limits s file named strict c opening capacity (Err Denied) old new silent heard
+WritesCampaign plan k limits s file named strict c opening capacity (Ok done) old new silent heard =
+    WritesPlaysOfScript plan k limits s file named strict c opening capacity (Ok done) old new silent heard
+WritesCampaign plan k limits s file named strict c opening capacity (Err _) old new silent heard = ⊥
 
 -- the same with what was opened
+abbrev pub WritesSource : CampaignPlan → SourceData → Opened → Option (Bor (List ℕ)) → Result Unit Fault
+    → Option (List ℕ) → Option (List ℕ) → Option (List ℕ) → Option (List ℕ) → Type 0
+WritesSource plan s o named result old new silent heard =
+    WritesCampaign plan o.coded o.limits s o.settings.file named o.settings.is_strict o.cluster o.table
+    (room_for o.settings.capacity) result old new silent heard
+
+-- without files and parameters: a script that a reader gives
 abbrev pub WritesOpened : CampaignPlan → Opened → Option (Bor (List ℕ)) → Result Unit Fault → Option (List ℕ)
     → Option (List ℕ) → Option (List ℕ) → Option (List ℕ) → Option (List ℕ) → Type 0
 WritesOpened plan o named result told old new silent heard =
-    WritesCampaign plan o.coded o.limits o.settings.file named o.settings.is_strict o.cluster o.table
-    (room_for o.settings.capacity) result told old new silent heard
+    RefusesReading result told old new silent heard
+    ⊎ ((s : SourceData) × IsReadScript told s × WritesSource plan s o named result old new silent heard)

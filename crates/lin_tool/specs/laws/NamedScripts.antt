@@ -11,12 +11,12 @@ use Rattle.lin_log.specs.Language.{named_language}
 use Rattle.lin_log.specs.Laws.{FitsEntry, HasNames}
 use Rattle.lin_values.specs.Coded.{CodedData}
 use Rattle.lin_export.specs.Named.{named_log}
-use Rattle.lin_bench.specs.Plain.{SaysSteps}
+use Rattle.lin_bench.specs.Plain.{HasPlainNames, SaysSteps}
 
 -- a log with names says the log's steps as a bench script, whether it tells what values mean or not
 abbrev pub NamedLogs : Type 0
 NamedLogs = (c : Parts) (k : Option CodedData) (log : List LogEntry) (opening capacity : ℕ)
-    → HasNames (named_language c) → All FitsEntry log
+    → HasNames (named_language c) → HasPlainNames c → All FitsEntry log
     → SaysSteps c opening capacity (named_log c k log) (steps_of log)
 
 -- the same of each cluster that an LDF text describes: its names are identifiers (ISO 17987-2; LIN

@@ -8,7 +8,7 @@ use Rattle.lin_core.specs.declared.log.LogEntry.{LogEntry}
 use Rattle.lin_log.specs.Language.{named_language}
 use Rattle.lin_log.specs.Laws.{FitsEntry, HasNames}
 use Rattle.lin_log.specs.Script.{script}
-use Rattle.lin_bench.specs.Plain.{HasNoMarks, SaysSteps}
+use Rattle.lin_bench.specs.Plain.{HasNoMarks, HasPlainNames, SaysSteps}
 use Rattle.lin_live.specs.Answers.{KeepsLog, answers}
 use Rattle.lin_live.specs.Lines.{HasNoLf, but_last, lines, pieces_at_lf, after_last_lf}
 use Rattle.lin_live.specs.Play.{in_hand_of, empty_run}
@@ -51,11 +51,12 @@ TranscriptsAreScripts = (h : HandData) (ls : List (List ℕ)) → IsTranscript h
     → All FitsEntry (log_after h ls) → h.format ≡ Log
     → script (transcript reply h ls) ≡ Ok (steps_of (log_after h ls))
 
--- where names are words, each transcript is a bench script of its run: it has no bad line, makes no slots
--- of its own, and expects nothing
+-- where names are words without `$` and `\`, each transcript is a bench script of its run: it has no bad
+-- line, makes no slots of its own, and expects nothing
 abbrev pub TranscriptsAreBenchScripts : Type 0
 TranscriptsAreBenchScripts = (h : HandData) (ls : List (List ℕ)) (opening capacity : ℕ)
-    → IsTranscript h ls → HasNames (named_language h.cluster) → All FitsEntry (log_after h ls)
+    → IsTranscript h ls → HasNames (named_language h.cluster) → HasPlainNames h.cluster
+    → All FitsEntry (log_after h ls)
     → SaysSteps h.cluster opening capacity (transcript reply h ls) (steps_of (log_after h ls))
 
 -- a bench in hand that begins, with the same cluster, meanings and settings and without rules
@@ -70,11 +71,12 @@ abbrev pub AreShort : List ℕ → Type 0
 AreShort bytes =
     AllByRecursion (λ p. length (strip_carriage_return p) ≤ most_bytes) (pieces_at_lf bytes)
 
--- where names are words, and where what signals mean is known, none is called as a mark, each transcript is
--- an input again: answered in hand, its lines come to the same log, and none of them is bad
+-- where names are words without `$` and `\`, and where what signals mean is known, none is called as a mark,
+-- each transcript is an input again: answered in hand, its lines come to the same log, and none of them is bad
 abbrev pub TranscriptsAreInputs : Type 0
 TranscriptsAreInputs = (h : HandData) (ls : List (List ℕ))
-    → IsTranscript h ls → HasNames (named_language h.cluster) → IfSome h.coded (λ k. HasNoMarks h.cluster)
+    → IsTranscript h ls → HasNames (named_language h.cluster) → HasPlainNames h.cluster
+    → IfSome h.coded (λ k. HasNoMarks h.cluster)
     → All FitsEntry (log_after h ls) → AreShort (transcript reply h ls)
     → (log_after (anew h) (lines (transcript reply h ls)) ≡ log_after h ls)
     × ((state_after reply (anew h) (lines (transcript reply h ls))).was_bad ≡ false)

@@ -71,7 +71,7 @@ fn put_expectation<W: Write>(
         PutsAll W.contents out.old out.new result (expectation cluster.now log judgement.now)) }
 {
     let what = what_text(alloc, cluster, &judgement.judged)?;
-    put_line_number(out, judgement.line);
+    put_line_number(out, judgement.place.own);
     put_member(
         out,
         Member::Printable("what", without_space(what.as_slice())),
@@ -171,7 +171,7 @@ fn put_failed<W: Write>(
 {
     let what = what_text(alloc, cluster, &judgement.judged)?;
     let got = found_text(alloc, cluster, &judgement.judged)?;
-    put_line_number(out, judgement.line);
+    put_line_number(out, judgement.place.own);
     put_member(
         out,
         Member::Printable("what", without_space(what.as_slice())),

@@ -14,7 +14,7 @@ use crate::campaign::row::RowVerdict;
 use crate::campaign::shown::ShownRow;
 use crate::campaign::text::put_name;
 use crate::junit::put_escaped;
-use crate::placing::{Moment, missed_line, within};
+use crate::placing::{FileNames, Moment, missed_line, within};
 use lin_bench::{Judgement, is_unmet};
 use lin_core::Log;
 use lin_parts::Cluster;
@@ -54,13 +54,13 @@ fn case_name(alloc: Global, cluster: &Cluster, shown: &ShownRow<'_>) -> Result<V
 fn put_failed<W: Write>(
     out: &mut TextWriter<'_, W>,
     alloc: Global,
-    script: &str,
+    names: FileNames<'_>,
     cluster: &Cluster,
     log: &Log,
     judgements: &[Judgement],
 ) -> Result<(), AllocError>
     ensures { PutsAll W.contents out.old out.new result
-        (failure_lines script.now cluster.now log.now.entries judgements.now) }
+        (failure_lines names.entry.script.now names.entry.files.now cluster.now log.now.entries judgements.now) }
 {
     let mut read = 0;
     let mut moment = Moment::new();
@@ -70,7 +70,7 @@ fn put_failed<W: Write>(
         moment = moment.at(cluster, log, read, entries);
         read = entries;
         if is_unmet(&one.judged) {
-            let missed = missed_line(alloc, Some(script), cluster, moment, one)?;
+            let missed = missed_line(alloc, Some(names.script), names.files, cluster, moment, one)?;
             out.put(mark);
             put_escaped(out, missed.as_slice());
             mark = b"\n";
@@ -83,18 +83,18 @@ fn put_failed<W: Write>(
 fn put_broken<W: Write>(
     out: &mut TextWriter<'_, W>,
     alloc: Global,
-    script: &str,
+    names: FileNames<'_>,
     shown: &ShownRow<'_>,
 ) -> Result<(), AllocError>
     ensures { PutsAll W.contents out.old out.new result
-        (broken_failure script.now shown.now.core.now.cluster (row_data shown.now)) }
+        (broken_failure names.entry.script.now names.entry.files.now shown.now.core.now.cluster (row_data shown.now)) }
 {
     out.put_text(">\n<failure message=\"");
     out.put_number(shown.row.lines.as_slice().len() as u64);
     out.put_text(" unmet\">");
     let cluster = shown.core.cluster();
     let log = shown.core.log();
-    put_failed(out, alloc, script, cluster, log, shown.judgements)?;
+    put_failed(out, alloc, names, cluster, log, shown.judgements)?;
     out.put_text("</failure>\n</testcase>\n");
     Ok(())
 }
@@ -114,11 +114,11 @@ fn put_limit<W: Write>(out: &mut TextWriter<'_, W>, script: &str, line: u64)
 fn put_end<W: Write>(
     out: &mut TextWriter<'_, W>,
     alloc: Global,
-    script: &str,
+    names: FileNames<'_>,
     shown: &ShownRow<'_>,
 ) -> Result<(), AllocError>
     ensures { PutsAll W.contents out.old out.new result
-        (case_end script.now shown.now.core.now.cluster (row_data shown.now)
+        (case_end names.entry.script.now names.entry.files.now shown.now.core.now.cluster (row_data shown.now)
         shown.now.row.now.verdict) }
 {
     match shown.row.verdict {
@@ -126,9 +126,9 @@ fn put_end<W: Write>(
             out.put_text("/>\n");
             Ok(())
         }
-        RowVerdict::Broken => put_broken(out, alloc, script, shown),
+        RowVerdict::Broken => put_broken(out, alloc, names, shown),
         RowVerdict::Limit(line) => {
-            put_limit(out, script, line);
+            put_limit(out, names.script, line);
             Ok(())
         }
     }
@@ -138,33 +138,33 @@ fn put_end<W: Write>(
 fn put_case<W: Write>(
     out: &mut TextWriter<'_, W>,
     alloc: Global,
-    script: &str,
+    names: FileNames<'_>,
     shown: &ShownRow<'_>,
 ) -> Result<(), AllocError>
     ensures { PutsAll W.contents out.old out.new result
-        (case_text script.now shown.now.core.now.cluster (row_data shown.now)) }
+        (case_text names.entry.script.now names.entry.files.now shown.now.core.now.cluster (row_data shown.now)) }
 {
     let name = case_name(alloc, shown.core.cluster(), shown)?;
     out.put_text("<testcase classname=\"");
-    put_escaped(out, script.as_bytes());
+    put_escaped(out, names.script.as_bytes());
     out.put_text("\" name=\"");
     put_escaped(out, name.as_slice());
     out.put_byte(b'"');
-    put_end(out, alloc, script, shown)
+    put_end(out, alloc, names, shown)
 }
 
 /// The case of a row; nothing for row 0. An error means out of memory.
 pub(crate) fn put_row<W: Write>(
     out: &mut TextWriter<'_, W>,
     alloc: Global,
-    script: &str,
+    names: FileNames<'_>,
     shown: &ShownRow<'_>,
 ) -> Result<(), AllocError>
     ensures { PutsAll W.contents out.old out.new result
-        (row_case script.now shown.now.core.now.cluster (row_data shown.now)) }
+        (row_case names.entry.script.now names.entry.files.now shown.now.core.now.cluster (row_data shown.now)) }
 {
     if shown.number == 0 {
         return Ok(());
     }
-    put_case(out, alloc, script, shown)
+    put_case(out, alloc, names, shown)
 }

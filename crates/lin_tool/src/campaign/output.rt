@@ -1,6 +1,6 @@
 //! What is written of a campaign in each format: what is before the rows, a row, and what is after them.
 
-ghost use Rattle.std.specs.Prelude.{◌≤◌};
+ghost use Rattle.std.specs.Prelude.{◌≡◌, ◌≤◌};
 ghost use Rattle.std.specs.Io.KnownBytes.{Keeps};
 ghost use Rattle.lin_export.specs.Putting.{PutsAll};
 ghost use Rattle.lin_text.specs.Written.{Grows, WritesText};
@@ -16,6 +16,7 @@ use crate::campaign::row_source::RowSource;
 use crate::campaign::rows::Rows;
 use crate::campaign::shown::ShownRow;
 use crate::campaign::{Campaign, csv_rows, jsonl_rows, junit, page, pieces, text};
+use crate::placing::FileNames;
 use lin_export::ExportFault;
 use lin_text::{TextBuffer, TextWriter, WriteFailed};
 use std::alloc::AllocError;
@@ -96,7 +97,7 @@ impl Campaign<'_, '_> {
             }
             RowFormat::Html => {
                 out.put_text(pieces::HEAD);
-                page::put_head(out, self.file, self.bytes, shown.core);
+                page::put_head(out, self.file, self.source.text, shown.core);
                 self.put_object(out, table.rows, shown, true)
             }
         }
@@ -124,6 +125,16 @@ impl Campaign<'_, '_> {
         Ok(())
     }
 
+    /// The names of the script's files.
+    fn names(&self) -> FileNames<'_>
+        ensures { (result.script.now ≡ self.now.script.now) × (result.files.now ≡ self.now.source.files.now) }
+    {
+        FileNames {
+            script: self.script,
+            files: self.source.files,
+        }
+    }
+
     /// A row. What the undisturbed play lost and refused isn't repeated. An error means out of memory.
     fn put_row<W: Write>(
         &self,
@@ -146,7 +157,7 @@ impl Campaign<'_, '_> {
             }
             RowFormat::Jsonl => jsonl_rows::put_line(out, self.alloc, shown, false),
             RowFormat::Html => jsonl_rows::put_line(out, self.alloc, shown, true),
-            RowFormat::Junit => junit::put_row(out, self.alloc, self.script, shown),
+            RowFormat::Junit => junit::put_row(out, self.alloc, self.names(), shown),
         }
     }
 

@@ -1,8 +1,9 @@
 //! The plays of a campaign's script: without faults, and under them.
 
-ghost use Rattle.std.specs.Prelude.{◌≡◌, ℕ, IfErr, IfOk, List};
+ghost use Rattle.std.specs.Prelude.{◌≡◌, IfErr, IfOk, List};
 ghost use Rattle.lin_bench.specs.Plays.{ComesUnder};
 ghost use Rattle.lin_bench.specs.declared.line.ScriptLine.{ScriptLine};
+ghost use Rattle.lin_bench.specs.declared.place.LinePlace.{LinePlace};
 ghost use Rattle.lin_export.specs.WhereTold.{given_coding};
 ghost use Rattle.lin_tool.specs.campaign.Played.{IsMemoryFault, IsPlayOf, IsUnfinished, PlaysRow, PlaysUndisturbed};
 ghost use Rattle.lin_tool.specs.campaign.Steps.{IsCampaignReady, SaysLines};
@@ -11,8 +12,8 @@ use crate::campaign::row::row_of;
 use crate::campaign::{Campaign, Play};
 use crate::fault::Fault;
 use crate::notes::Notes;
-use crate::play_command::in_words;
-use lin_bench::{PlayedUnder, ReadFault, ScriptLine, SlotFault, play_under, read};
+use crate::play_command::{in_words, limit_fault};
+use lin_bench::{LinePlace, PlayedUnder, ReadFault, ScriptLine, SlotFault, play_under, read};
 use lin_parts::Cluster;
 
 impl Campaign<'_, '_> {
@@ -22,14 +23,17 @@ impl Campaign<'_, '_> {
     /// `LogFull`, `OutOfMemory`.
     pub(crate) fn play(&self, cluster: Cluster, faults: &[SlotFault]) -> Result<Play, Fault>
         requires ready { IsCampaignReady self.now cluster }
-        ensures plays { (ls : List (ℕ × ScriptLine)) → SaysLines self.now cluster ls
+        ensures plays { (ls : List (LinePlace × ScriptLine)) → SaysLines self.now cluster ls
             → PlaysRow self.now cluster faults.now ls result }
         ensures same { IfOk result (λ play. play.core.cluster ≡ cluster) }
     {
-        let lines = match read(self.alloc, &cluster, self.coded, self.limits, self.bytes) {
+        let lines = match read(self.alloc, &cluster, self.coded, self.limits, self.source) {
             Ok(lines) => lines,
-            Err(ReadFault::BadLine { line, .. }) => {
-                return Err(Fault::BadBenchLine { line, told: Ok(()) });
+            Err(ReadFault::BadLine { place, .. }) => {
+                return Err(Fault::BadBenchLine {
+                    place,
+                    told: Ok(()),
+                });
             }
             Err(ReadFault::OutOfMemory) => return Err(Fault::OutOfMemory),
         };
@@ -44,7 +48,7 @@ impl Campaign<'_, '_> {
     pub(crate) fn undisturbed(
         &self,
         cluster: Cluster,
-        lines: Vec<(u64, ScriptLine)>,
+        lines: Vec<(LinePlace, ScriptLine)>,
         notes: &mut Notes<'_>,
     ) -> Result<Play, Fault>
         requires ready { IsCampaignReady self.now cluster }
@@ -53,7 +57,7 @@ impl Campaign<'_, '_> {
         let played = self.played(cluster, lines, &[])?;
         notes.add_refusals(played.core.log());
         match played.limit {
-            Some(line) => Err(Fault::SlotLimit { line }),
+            Some(place) => Err(limit_fault(self.alloc, self.source, place)?),
             None => self.judged(played),
         }
     }
@@ -65,7 +69,7 @@ impl Campaign<'_, '_> {
     fn played(
         &self,
         cluster: Cluster,
-        lines: Vec<(u64, ScriptLine)>,
+        lines: Vec<(LinePlace, ScriptLine)>,
         faults: &[SlotFault],
     ) -> Result<PlayedUnder, Fault>
         requires ready { IsCampaignReady self.now cluster }

@@ -3,14 +3,14 @@
 ghost use Rattle.std.specs.Prelude.{◌≡◌, ◌≤◌, ◌++◌, [], IfOk, OnOk, drop, length, take};
 ghost use Rattle.std.specs.List.{filter_map, list_any};
 ghost use Rattle.std.specs.Option.{option_to_list};
-ghost use Rattle.lin_core.specs.History.{reply_events};
-ghost use Rattle.lin_tool.specs.campaign.Row.{is_again, has_refusal, is_same_loss, is_same_refusal, loss_in, lost_messages};
+ghost use Rattle.lin_core.specs.History.{is_in, reply_events};
+ghost use Rattle.lin_tool.specs.campaign.Row.{has_refusal, is_same_loss, is_same_refusal, loss_in, lost_messages};
 ghost use Rattle.lin_tool.specs.campaign.Row.{new_refusal, refusal_on, refused_after, refused_steps};
 ghost use Rattle.lin_tool.specs.campaign.Row.{row_of, unmet_lines, verdict_of};
 
 use crate::page::summary::slots_finished;
 use crate::tally::waiting_in;
-use lin_bench::{Judgement, LineEnd, PlayedUnder, is_unmet};
+use lin_bench::{Judgement, LineEnd, LinePlace, PlayedUnder, is_unmet};
 use lin_core::{Cause, Event, Listed, Log, Refusal, Reply};
 use lin_text::Many;
 use std::alloc::{AllocError, Global};
@@ -47,7 +47,7 @@ pub(crate) struct Row {
     pub(crate) verdict: RowVerdict,
     /// How many faults changed no step.
     pub(crate) missed: usize,
-    /// The lines with a failed expectation, each once, by rising number.
+    /// The lines with a failed expectation, each once, in the order of their first failures.
     pub(crate) lines: Many<u64>,
     /// The messages that were lost, in order.
     pub(crate) lost: Many<LostMessage>,
@@ -89,26 +89,22 @@ pub(crate) fn has_refused(refused: &[RefusedStep], step: &RefusedStep) -> bool
     refused.iter().any(|other| is_same_refusal(other, step))
 }
 
-/// Whether the line before is this one.
-fn is_again(before: Option<u64>, line: u64) -> bool
-    ensures { result ≡ is_again before line }
+/// Whether a line is one of these.
+fn is_listed(lines: &[u64], line: u64) -> bool
+    ensures { result ≡ is_in lines.now line }
 {
-    match before {
-        Some(last) => last == line,
-        None => false,
-    }
+    lines.iter().any(|other| *other == line)
 }
 
-/// Returns the lines with a failed expectation, each once, by rising number.
+/// Returns the lines with a failed expectation, each once, in the order of their first failures.
 fn unmet_lines(alloc: Global, judgements: &[Judgement]) -> Result<Vec<u64>, AllocError>
     ensures { IfOk result (λ v. v.items ≡ unmet_lines judgements.now) }
 {
     let mut lines = Vec::new(alloc);
-    let mut before = None;
     for one in judgements {
-        if is_unmet(&one.judged) && !is_again(before, one.line) {
-            lines.push(one.line)?;
-            before = Some(one.line);
+        let line = one.place.own;
+        if is_unmet(&one.judged) && !is_listed(lines.as_slice(), line) {
+            lines.push(line)?;
         }
     }
     Ok(lines)
@@ -226,17 +222,17 @@ fn all_refused(alloc: Global, log: &Log, ends: &[LineEnd]) -> Result<Vec<Refused
     let mut refused = Vec::new(alloc);
     let mut from = 0;
     for end in ends {
-        add_refused(&mut refused, log, end.line, from, end.entries)?;
+        add_refused(&mut refused, log, end.place.own, from, end.entries)?;
         from = end.entries;
     }
     Ok(refused)
 }
 
-fn verdict_of(limit: Option<u64>, lines: &[u64]) -> RowVerdict
+fn verdict_of(limit: Option<LinePlace>, lines: &[u64]) -> RowVerdict
     ensures { result ≡ verdict_of limit lines.now }
 {
     match (limit, lines) {
-        (Some(line), _) => RowVerdict::Limit(line),
+        (Some(place), _) => RowVerdict::Limit(place.own),
         (None, []) => RowVerdict::Tolerated,
         (None, _) => RowVerdict::Broken,
     }

@@ -300,7 +300,7 @@ impl RowCounts {
         let mut lines = Vec::new(alloc);
         for place in 0..judgements.len() {
             let one = &judgements[place];
-            add_judgement(&mut lines, one.line, place)?;
+            add_judgement(&mut lines, one.place.own, place)?;
         }
         Ok(RowCounts {
             lines,
@@ -341,10 +341,12 @@ impl RowCounts {
 
     /// Whether no row breaks some line with one of these judgements, by the counts.
     fn some_uncounted(&self, judgements: &[Judgement]) -> bool
-        ensures { result ≡ list_any (λ one. (line_at self.now.lines one.line).broken == 0)
+        ensures { result ≡ list_any (λ one. (line_at self.now.lines one.place.own).broken == 0)
             judgements.now }
     {
-        judgements.iter().any(|one| self.is_never_broken(one.line))
+        judgements
+            .iter()
+            .any(|one| self.is_never_broken(one.place.own))
     }
 
     /// Whether no row breaks some line with one of these judgements.

@@ -2,13 +2,14 @@
 
 ghost use Rattle.lin_export.specs.Putting.{PutsAll};
 ghost use Rattle.lin_text.specs.Written.{WritesText};
-ghost use Rattle.lin_tool.specs.Page.{unmet_data, unmet_data_line};
+ghost use Rattle.lin_tool.specs.Page.{shown_unmet_data, unmet_data_line};
 ghost use Rattle.lin_tool.specs.Placing.{AtMoment};
 
+use crate::formats::Shown;
 use crate::page::field::put_field;
 use crate::placing::{Moment, missed_line, within};
 use lin_bench::{Judgement, is_unmet};
-use lin_core::Log;
+use lin_core::Core;
 use lin_export::ExportFault;
 use lin_log::put_number;
 use lin_parts::Cluster;
@@ -21,19 +22,19 @@ use std::io::Write;
 fn put_unmet_line<W: Write>(
     out: &mut TextWriter<'_, W>,
     alloc: Global,
-    script: Option<&str>,
+    shown: &Shown<'_, '_>,
     cluster: &Cluster,
     moment: Moment,
     judgement: &Judgement,
 ) -> Result<(), AllocError>
     ensures { AtMoment cluster.now judgement.now moment (λ log.
         PutsAll W.contents out.old out.new result
-        (unmet_data_line script.entry cluster.now log judgement.now)) }
+        (unmet_data_line shown.now.script shown.now.files.now cluster.now log judgement.now)) }
 {
     if !is_unmet(&judgement.judged) {
         return Ok(());
     }
-    let text = missed_line(alloc, script, cluster, moment, judgement)?;
+    let text = missed_line(alloc, shown.script, shown.files, cluster, moment, judgement)?;
     out.put_text("unmet");
     put_number(out, judgement.entries);
     out.put_byte(b' ');
@@ -45,21 +46,20 @@ fn put_unmet_line<W: Write>(
 fn put_unmet_lines<W: Write>(
     out: &mut TextWriter<'_, W>,
     alloc: Global,
-    script: Option<&str>,
-    cluster: &Cluster,
-    log: &Log,
-    judgements: &[Judgement],
+    shown: &Shown<'_, '_>,
+    core: &Core,
 ) -> Result<(), AllocError>
-    ensures { PutsAll W.contents out.old out.new result
-        (unmet_data script.entry cluster.now log.now.entries judgements.now) }
+    ensures { PutsAll W.contents out.old out.new result (shown_unmet_data shown.now core.now) }
 {
+    let cluster = core.cluster();
+    let log = core.log();
     let mut read = 0;
     let mut moment = Moment::new();
-    for one in judgements {
+    for one in shown.judgements {
         let entries = within(log, one.entries);
         moment = moment.at(cluster, log, read, entries);
         read = entries;
-        put_unmet_line(out, alloc, script, cluster, moment, one)?;
+        put_unmet_line(out, alloc, shown, cluster, moment, one)?;
     }
     Ok(())
 }
@@ -70,18 +70,16 @@ fn put_unmet_lines<W: Write>(
 /// `OutOfMemory`, `WriteFailed`; what was written then is the beginning of the lines.
 pub(crate) fn write_unmet_lines<W: Write>(
     alloc: Global,
-    script: Option<&str>,
-    cluster: &Cluster,
-    log: &Log,
-    judgements: &[Judgement],
+    shown: &Shown<'_, '_>,
+    core: &Core,
     writer: &mut W,
 ) -> Result<(), ExportFault>
     ensures { WritesText (W.contents writer.old) (W.contents writer.new) result
-        (unmet_data script.entry cluster.now log.now.entries judgements.now) }
+        (shown_unmet_data shown.now core.now) }
 {
     let mut buffer = TextBuffer::empty();
     let mut out = TextWriter::new(writer, &mut buffer);
-    let put = put_unmet_lines(&mut out, alloc, script, cluster, log, judgements);
+    let put = put_unmet_lines(&mut out, alloc, shown, core);
     out.finish()?;
     put?;
     Ok(())

@@ -12,9 +12,9 @@ fn bad_line(alloc: Global, text: &[u8]) -> Result<Vec<u8>, Fail> {
     match read_text(alloc, &cluster, text)? {
         Ok(_) => Err(Fail::from("no bad line")),
         Err(ReadFault::OutOfMemory) => Err(Fail::from("OutOfMemory")),
-        Err(ReadFault::BadLine { line, reason }) => {
+        Err(ReadFault::BadLine { place, reason }) => {
             let mut written = Vec::new(alloc);
-            write_bad_line(line, &reason, &mut written)?;
+            write_bad_line(&[], place, &reason, &mut written)?;
             Ok(written)
         }
     }
@@ -33,6 +33,10 @@ const BAD_LINES: &[(&str, &str)] = &[
     (
         "send dcu WinMot",
         "script 1 bad line: usage: send NODE NODE BYTES\n",
+    ),
+    (
+        "slots 1\n\ttest # \n",
+        "script 2 bad line: usage: test NAME\n",
     ),
     ("h:door open", "script 1 bad line: unknown node door\n"),
     (

@@ -58,7 +58,7 @@ fn texts_of_16_mebibytes(rt: HostRuntime) -> Result<(), Fail> {
         assert!(rt;
             matches!(
                 lines.as_slice().first(),
-                Some((number, ScriptLine::Step(PortId::Bus, Step::Open))) if *number == line
+                Some((place, ScriptLine::Step(PortId::Bus, Step::Open))) if place.line == line
             )
         );
     }

@@ -4,7 +4,7 @@ use crate::clusters::{cluster_of, read_text};
 use crate::samples::{BUILT_IN, DOOR_ZONE, WINDOW};
 use lin_bench::{
     Carried, Condition, Disturbance, Every, Expected, Extent, Look, Part, Pattern, Rule,
-    RuleAnswer, ScriptLine, Since, Slots, When, read,
+    RuleAnswer, ScriptLine, Since, Slots, Source, When, read,
 };
 use lin_core::{Cause, Direction, PortId, Refusal, Step};
 use lin_frame::Value;
@@ -28,7 +28,7 @@ fn only_line(alloc: Global, ldf: &[u8], text: &[u8]) -> Result<ScriptLine, Fail>
 fn window(rt: HostRuntime) -> Result<(), Fail> {
     let alloc = rt.alloc();
     let cluster = cluster_of(alloc, DOOR_ZONE)?;
-    let Ok(lines) = read(alloc, &cluster, None, &[], WINDOW) else {
+    let Ok(lines) = read(alloc, &cluster, None, &[], Source::of(WINDOW)) else {
         return Err(Fail::from("not read"));
     };
     assert!(rt; lines.len() == 29);
@@ -37,7 +37,7 @@ fn window(rt: HostRuntime) -> Result<(), Fail> {
         28, 29, 30, 31, 32,
     ];
     for (index, place) in places.iter().enumerate() {
-        assert!(rt; lines.as_slice().get(index).map(|line| line.0) == Some(*place));
+        assert!(rt; lines.as_slice().get(index).map(|line| line.0.line) == Some(*place));
     }
     Ok(())
 }
@@ -189,6 +189,9 @@ fn name_of(line: &ScriptLine) -> &'static str {
         ) => "two messages or more",
         ScriptLine::Expect(Expected::Table(2)) => "running table",
         ScriptLine::Forget => "forget",
+        ScriptLine::Test(name) if name.as_slice() == b"write X = 5 degC".as_slice() => {
+            "a test with a name like a line"
+        }
         ScriptLine::Rule(rule) => name_of_rule(rule),
         ScriptLine::Until(
             Slots {
@@ -262,6 +265,10 @@ const ON_BUILT_IN: Lines<'static> = &[
     ),
     (b"expect messages door 0 2..1000000", "two messages or more"),
     (b"forget # what was before", "forget"),
+    (
+        b"test\twrite  X = 5 degC # of no signal",
+        "a test with a name like a line",
+    ),
     (
         b"slots 20 until message door cem 7E",
         "slots until a message",

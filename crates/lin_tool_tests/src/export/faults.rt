@@ -98,7 +98,9 @@ fn write_form<W: Write>(
                 table: 0,
                 capacity: 16,
                 judgements: &[],
+                tests: &[],
                 script: None,
+                files: &[],
             };
             write_shown(alloc, &shown, core, writer)
         }

@@ -4,8 +4,9 @@ use crate::arguments::options::{
     ANSWER_FORMATS, FORMATS, PLAY_FORMATS, allowed, capacity, compared_field, configuration,
     denied, denied_results, explain, explained_file, fault_kinds, faults, field, file, format,
     linted, listed_frames, listed_maps, listed_signals, listed_slots, listed_timing, meanings,
-    message_bytes, new_file, object, old_file, only, pairs, part, physical, places, plain, random,
-    rate, row_format, same, script, script_places, seed, slots, strict, strict_rows, table,
+    message_bytes, new_file, object, old_file, only, pairs, parameters, part, physical, places,
+    plain, random, rate, report, row_format, same, script, script_places, scripts, seed, slots,
+    strict, strict_rows, table,
 };
 use clap::Command;
 use std::alloc::{AllocError, Global};
@@ -20,7 +21,7 @@ const RUN_NOTE: &str =
     "The script is read from standard input and has only send, write and close steps, each by its host's own port. The\nhosts execute them while the slots run, so their positions in the log differ from run to run. Every log can be\nreplayed.\n\nExample: linsim run door.ldf --slots 100 < hosts.script > door.log";
 
 const PLAY_NOTE: &str =
-    "Lines of a bench script:\n  the steps of replay's scripts, by name or number\n  slot, slot hurt BYTES, slot leave NODE.., slots N, slots N ms, slots idle\n  slots N until FORM, slots N while FORM, slots N leave NODE..\n  expect FORM, forget\n  when NODE PATTERN answer BYTES, when NODE PATTERN silent, when NODE PATTERN off, state NODE NAME,\n  timeouts N ms, timeouts ldf, every N ms STEP, on FORM do STEP, node NODE off, response_errors on,\n  services on\n\nValues are numbers, or physical values and texts after = or ~: write Temp = 5 degC.\n\nThe log is written first, then one line on standard error for each expectation that failed. The format junit is a\ntest report instead of the log.\n\nExample: linsim play door.ldf door.bench --where > door.log";
+    "Lines of a bench script:\n  the steps of replay's scripts, by name or number\n  slot, slot hurt BYTES, slot leave NODE.., slots N, slots N ms, slots idle\n  slots N until FORM, slots N while FORM, slots N leave NODE..\n  expect FORM, forget\n  test NAME, include FILE, set NAME TEXT, repeat N, end\n  when NODE PATTERN answer BYTES, when NODE PATTERN silent, when NODE PATTERN off, state NODE NAME,\n  timeouts N ms, timeouts ldf, every N ms STEP, on FORM do STEP, node NODE off, response_errors on,\n  services on\n\nValues are numbers, or physical values and texts after = or ~: write Temp = 5 degC.\n\nThe log is written first, then one line on standard error for each expectation that failed. The format junit is a\ntest report instead of the log. Several scripts are played in order, as with --where. Then only\n--to junit writes to standard output.\n\nExample: linsim play door.ldf door.bench --where > door.log";
 
 const CAMPAIGN_NOTE: &str =
     "The script is played as it is, and once under each single fault: damage corrupts the only response of a slot, absent\nomits the response of a node in a slot, gone omits its responses from that slot on. Each play is one row of the output.\n\nAfter the rows, standard error has one line for each line of the script with an expectation: how many rows break it.\nlinsim play --fault FAULTS writes the complete log of a row.\n\nExample: linsim campaign door.ldf door.bench --faults damage,absent,gone";
@@ -102,11 +103,13 @@ fn play<'a>(alloc: Global) -> Result<Command<'a>, AllocError> {
         .about("Run a bench script and check its expectations")
         .after_help(PLAY_NOTE)
         .arg(file(alloc, "LDF file").required(true))?
-        .arg(script(alloc))?
+        .arg(scripts(alloc))?
         .arg(table(alloc))?
         .arg(capacity(alloc))?
         .arg(faults(alloc))?
+        .arg(parameters(alloc))?
         .arg(format(alloc, PLAY_FORMATS.as_slice()))?
+        .arg(report(alloc))?
         .arg(field(alloc))?
         .arg(meanings(alloc))?
         .arg(configuration(alloc))?
@@ -121,6 +124,7 @@ fn campaign<'a>(alloc: Global) -> Result<Command<'a>, AllocError> {
         .after_help(CAMPAIGN_NOTE)
         .arg(file(alloc, "LDF file").required(true))?
         .arg(script(alloc))?
+        .arg(parameters(alloc))?
         .arg(fault_kinds(alloc))?
         .arg(pairs(alloc))?
         .arg(random(alloc))?

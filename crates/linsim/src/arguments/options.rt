@@ -13,6 +13,21 @@ pub(crate) fn script<'a>(alloc: Global) -> Arg<'a> {
     )
 }
 
+pub(crate) fn scripts<'a>(alloc: Global) -> Arg<'a> {
+    Arg::new(alloc, "script")
+        .value_name("SCRIPT")
+        .action(ArgAction::Append)
+        .num_args(1..)
+        .help("Bench scripts, or - for standard input [default: standard input]")
+}
+
+pub(crate) fn report<'a>(alloc: Global) -> Arg<'a> {
+    Arg::new(alloc, "junit")
+        .long("junit")
+        .value_name("FILE")
+        .help("Also write the JUnit report to FILE")
+}
+
 pub(crate) fn table<'a>(alloc: Global) -> Arg<'a> {
     Arg::new(alloc, "table").long("table").value_name("T").help(
         "Name of the schedule table to start with [default: the first one]",
@@ -248,6 +263,14 @@ pub(crate) fn slots<'a>(alloc: Global) -> Arg<'a> {
         .value_parser(value_parser!(u32).range(1..=1_000_000))
         .required(true)
         .help("Number of slots to run, 1 to 1000000")
+}
+
+pub(crate) fn parameters<'a>(alloc: Global) -> Arg<'a> {
+    Arg::new(alloc, "set")
+        .long("set")
+        .value_name("NAME=TEXT")
+        .action(ArgAction::Append)
+        .help("Set the parameter NAME of the script to TEXT; its lines don't change it")
 }
 
 pub(crate) fn faults<'a>(alloc: Global) -> Arg<'a> {

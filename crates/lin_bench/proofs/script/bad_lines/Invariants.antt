@@ -1,13 +1,16 @@
-use Rattle.std.proofs.Common.{◌≡◌, ◌+◌, ◌≤◌, ◌++◌, length, option_map}
-use Rattle.lin_log.specs.Judged.{left_length, lines_left}
-use Rattle.lin_bench.specs.Scripts.{bad_from, bad_lines}
+use Rattle.std.specs.Prelude.{◌≡◌, ◌++◌, length, map, option_map, reverse}
+use Rattle.lin_bench.specs.Files.{source_data}
+use Rattle.lin_bench.specs.Listed.{listed_in}
+use Rattle.lin_bench.specs.Resolving.{items_left}
+use Rattle.lin_bench.specs.Scripts.{bad_items, bad_lines, is_listed, once_after}
+use Rattle.lin_bench.specs.declared.place.LinePlace.{LinePlace}
 use Rattle.lin_bench.proofs.script.bad_lines.Given as goal
 
-abbrev pub invariant-loop-left : goal.invariant-loop-left
-invariant-loop-left l = record {
-  same : l.bad.items ++ bad_from l.cluster (option_map (λ k. k.now) l.coded) l.limits l.number (lines_left l.left) ≡ bad_lines l.cluster (option_map (λ k. k.now) l.coded) l.limits l.text;
-  few : l.number + left_length l.left ≤ 16777218;
+abbrev pub invariant-loop-bad : goal.invariant-loop-bad
+invariant-loop-bad l = record {
+  same : l.bad.items ++ once_after (reverse (map (λ b. b.0) l.bad.items)) (bad_items l.cluster (option_map (λ k. k.now) l.coded) l.limits (items_left l.script)) ≡ bad_lines l.cluster (option_map (λ k. k.now) l.coded) l.limits (source_data l.source);
+  flags : (p : LinePlace) → listed_in l.listed p ≡ is_listed (reverse (map (λ b. b.0) l.bad.items)) p;
 }
 
-abbrev pub decreases-loop-left : goal.decreases-loop-left
-decreases-loop-left l = left_length l.left
+abbrev pub decreases-loop-bad : goal.decreases-loop-bad
+decreases-loop-bad l = length (items_left l.script)

@@ -8,4 +8,4 @@ loop-one-init g c = grows-nothing c.args.out.now
 
 pub loop-one-preserved : goal.loop-one-preserved
 loop-one-preserved g c =
-    grows-next (unmet_text c.args.cluster.now) c.args.judgements.now c.loop-one.one-index c.one-item.result c.one-item.is (omega arith) c.loop-one.invariant c.put_unmet.ensures
+    grows-next (unmet_text c.args.cluster.now c.args.files.now) c.args.judgements.now c.loop-one.one-index c.one-item.result c.one-item.is (omega arith) c.loop-one.invariant c.put_unmet.ensures

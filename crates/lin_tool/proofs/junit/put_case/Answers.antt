@@ -12,13 +12,13 @@ use Rattle.lin_tool.proofs.junit.put_case.Goals as goal
 
 pub returns-in_err-missed : goal.returns-in_err-missed
 returns-in_err-missed g c = λ log told.
-    puts-some (case_text c.args.file.now c.args.cluster.now log c.args.judgement.now) c.from_residual-in_err-missed.ensures.0 refl (grows-nothing c.args.out.now)
+    puts-some (case_text c.args.names.script.now c.args.names.files.now c.args.cluster.now log c.args.judgement.now) c.from_residual-in_err-missed.ensures.0 refl (grows-nothing c.args.out.now)
 
 pub returns : goal.returns
 returns g c = λ log told.
     let x = c.args.cluster.now in
     let j = c.args.judgement.now in
-    let missed = placed_missed c.args.file.now x log j in
+    let missed = placed_missed c.args.names.script.now c.args.names.files.now x log j in
     elim c.if-is_unmet.branch [
       | then-is_unmet+in_ok-found+in_ok-missed w ↦
           let found = found-unmet x j.judged (sym c.is_unmet.ensures ∙ w.if-is_unmet.true) in

@@ -8,5 +8,5 @@ returns g c = λ text is.
     grows-more c.put_text.ensures
     (grows-more (rw c.as_bytes.ensures.value at c.put_escaped.ensures)
     (grows-more c.put_text-2.ensures
-    (grows-more c.put_number.ensures
+    (grows-more c.put_case_place.ensures
     (grows-more c.put_text-3.ensures (grows-more (same-growth (ap xml_text is) c.put_escaped-2.ensures) c.put_text-4.ensures)))))

@@ -9,8 +9,8 @@ use Rattle.lin_tool.proofs.objects.put_checked.Given as goal
 abbrev pub invariant-loop-one : goal.invariant-loop-one
 invariant-loop-one g l = record {
   put : PutsUpTo g.W.Write.contents l.initial.out l.out
-      (checked_objects l.cluster (given_coding l.shown.coded) l.script l.log.entries 0 l.shown.judgements.now)
-      (checked_objects l.cluster (given_coding l.shown.coded) l.script l.log.entries l.read (drop l.one-index l.shown.judgements.now));
+      (checked_objects l.cluster (given_coding l.shown.coded) l.script l.shown.files.now l.shown.tests.now l.log.entries 0 l.shown.judgements.now)
+      (checked_objects l.cluster (given_coding l.shown.coded) l.script l.shown.files.now l.shown.tests.now l.log.entries l.read (drop l.one-index l.shown.judgements.now));
   track : IsObjectTrackOf l.cluster (reverse (take l.read l.log.entries)) l.objects;
   few : l.read ≤ length l.log.entries;
 }

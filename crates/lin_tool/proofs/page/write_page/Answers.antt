@@ -16,7 +16,7 @@ returns-in_err-write_out g c =
     written-short TAIL.now failed refl
     (written-short (first_slots x log) failed refl
     (written-short (MIDDLE.now ++ summary x log) failed refl
-    (written-short (page_data shown.script x (given_coding shown.coded) c.args.file.now log shown.judgements.now) failed refl
+    (written-short (page_data shown.script shown.files.now x (given_coding shown.coded) c.args.file.now log shown.judgements.now) failed refl
     (rw c.as_bytes.ensures.value at c.write_out.ensures))))
 
 pub returns-in_err-write_data : goal.returns-in_err-write_data

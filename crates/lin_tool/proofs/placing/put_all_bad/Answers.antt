@@ -8,4 +8,4 @@ loop-one-init g c = grows-nothing c.args.out.now
 
 pub loop-one-preserved : goal.loop-one-preserved
 loop-one-preserved g c =
-    grows-next (placed_bad c.args.file.now) c.args.bad.now c.loop-one.one-index c.one-item.result c.one-item.is (omega arith) c.loop-one.invariant c.put_bad.ensures
+    grows-next (placed_bad c.args.names.script.now c.args.names.files.now) c.args.bad.now c.loop-one.one-index c.one-item.result c.one-item.is (omega arith) c.loop-one.invariant c.put_bad.ensures

@@ -18,7 +18,7 @@ loop-one-preserved g c =
     let told = c.at-moment.ensures.told ∙ ap (moment_of c.args.cluster.now) c.within-entries.ensures.same in
     record {
       put =
-          grows-next (placed_unmet c.args.file.now c.args.cluster.now log) c.args.judgements.now c.loop-one.one-index c.one-item.result c.one-item.is (omega arith) c.loop-one.invariant.put
+          grows-next (placed_unmet c.args.names.script.now c.args.names.files.now c.args.cluster.now log) c.args.judgements.now c.loop-one.one-index c.one-item.result c.one-item.is (omega arith) c.loop-one.invariant.put
           (c.put_unmet.ensures log told);
       told = c.at-moment.ensures.told;
       time = c.at-moment.ensures.time;

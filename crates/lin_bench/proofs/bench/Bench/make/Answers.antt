@@ -17,8 +17,8 @@ returns-in_err-make-in-Step c =
     let e = c.in_err-make-in-Step.ensures in
     rw (p.1, p.2, c.in-Step.is, ← c.self.view_is) (step-fails _ (bench_data c.self.inside) c.in-Step.by c.in-Step.step e.0, e.1)
 
-pub returns-in_ok-make-in-Step : goal.returns-in_ok-make-in-Step
-returns-in_ok-make-in-Step c =
+pub returns-in-Step : goal.returns-in-Step
+returns-in-Step c =
     rw (c.in-Step.is, ← c.self.view_is)
     (step-made (bench_data c.self.inside) _ c.in-Step.by c.in-Step.step c.in_ok-make-in-Step.ensures
     (taken-grown _ _ _ (steps-grown _ _ _ c.make.result c.make.ensures) c.self.invariant) refl)

@@ -29,7 +29,7 @@ returns-in_err-flush g c =
     written-whole ExportFault _ g.W.Write.contents _ _ _ _ _ _ _ c.new-out.ensures (grows-nothing _) (rw c.in_ok-put.was at c.put_row-put.ensures)
     (rw c.in_ok-finish.was at c.finish.ensures) in
     let there : WritesText {E = ExportFault} (g.W.Write.contents c.args.writer.now) (g.W.Write.contents c.writer-2-1.given.0) (Ok tt)
-    (row_as c.args.self.now.format c.args.self.now.script.now c.args.shown.now.core.now.cluster (known_losses c.args.calm) (known_refusals c.args.calm) (row_data c.args.shown.now)) = search rules in
+    (row_as c.args.self.now.format c.args.self.now.script.now c.args.self.now.source.files.now c.args.shown.now.core.now.cluster (known_losses c.args.calm) (known_refusals c.args.calm) (row_data c.args.shown.now)) = search rules in
     writes-unflushed c.from_residual-in_err-flush.ensures.0 there c.flush.ensures
 
 pub returns : goal.returns
@@ -39,5 +39,5 @@ returns g c =
     written-whole ExportFault _ g.W.Write.contents _ _ _ _ _ _ _ c.new-out.ensures (grows-nothing _) (rw c.in_ok-put.was at c.put_row-put.ensures)
     (rw c.in_ok-finish.was at c.finish.ensures) in
     let there : WritesText {E = ExportFault} (g.W.Write.contents c.args.writer.now) (g.W.Write.contents c.writer-2-1.given.0) (Ok tt)
-    (row_as c.args.self.now.format c.args.self.now.script.now c.args.shown.now.core.now.cluster (known_losses c.args.calm) (known_refusals c.args.calm) (row_data c.args.shown.now)) = search rules in
+    (row_as c.args.self.now.format c.args.self.now.script.now c.args.self.now.source.files.now c.args.shown.now.core.now.cluster (known_losses c.args.calm) (known_refusals c.args.calm) (row_data c.args.shown.now)) = search rules in
     writes-kept there c.flush.ensures

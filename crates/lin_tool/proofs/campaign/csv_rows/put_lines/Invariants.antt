@@ -2,7 +2,7 @@ use Rattle.std.proofs.Common.{drop, map}
 use Rattle.std.specs.Prelude.{codes}
 use Rattle.std.specs.Fmt.{decimal}
 use Rattle.lin_tool.specs.campaign.Csv.{items}
-use Rattle.lin_tool.specs.campaign.Shown.{with_separators}
+use Rattle.lin_tool.specs.Separated.{with_separators}
 use Rattle.lin_tool.proofs.Remaining.{PutsUpTo}
 use Rattle.lin_tool.proofs.campaign.csv_rows.put_lines.Given as goal
 

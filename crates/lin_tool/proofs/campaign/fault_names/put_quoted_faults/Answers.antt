@@ -3,7 +3,7 @@ use Rattle.std.specs.Prelude.{codes}
 use Rattle.lin_bench.specs.declared.faults.SlotFault.{SlotFault}
 use Rattle.lin_export.specs.Json.{quoted_text}
 use Rattle.lin_tool.specs.campaign.FaultNames.{fault_text}
-use Rattle.lin_tool.specs.campaign.Shown.{with_separators}
+use Rattle.lin_tool.specs.Separated.{with_separators}
 use Rattle.lin_tool.proofs.CampaignTexts.{at-item, commas, marked-end, marked-next}
 use Rattle.lin_tool.proofs.Remaining.{none-put, put-more, put-whole, same-rest}
 use Rattle.lin_tool.proofs.campaign.fault_names.put_quoted_faults.Goals as goal

@@ -5,7 +5,7 @@ use Rattle.lin_bench.specs.declared.got.Judgement.{Judgement}
 use Rattle.lin_export.proofs.Puttings.{puts-all}
 use Rattle.lin_tool.specs.campaign.Jsonl.{failure_objects, failure_object}
 use Rattle.lin_export.proofs.Slots.{drop-next}
-use Rattle.lin_tool.specs.campaign.Shown.{with_separators}
+use Rattle.lin_tool.specs.Separated.{with_separators}
 use Rattle.lin_tool.proofs.CampaignTexts.{commas, kept-end, kept-next, kept-not}
 use Rattle.lin_tool.proofs.Remaining.{broke-off, none-put, put-all, put-more, put-whole, same-rest}
 use Rattle.lin_tool.proofs.campaign.jsonl_rows.put_all_failed.Goals.{then-is_unmet+in_ok-put_failed, else-is_unmet}

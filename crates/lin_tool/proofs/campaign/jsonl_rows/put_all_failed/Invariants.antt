@@ -2,7 +2,7 @@ use Rattle.std.proofs.Common.{drop}
 use Rattle.std.specs.Prelude.{codes}
 use Rattle.lin_export.specs.Json.{with_commas}
 use Rattle.lin_tool.specs.campaign.Jsonl.{failure_objects}
-use Rattle.lin_tool.specs.campaign.Shown.{with_separators}
+use Rattle.lin_tool.specs.Separated.{with_separators}
 use Rattle.lin_tool.proofs.Remaining.{PutsUpTo}
 use Rattle.lin_tool.proofs.campaign.jsonl_rows.put_all_failed.Given as goal
 

@@ -20,7 +20,7 @@ returns g c = λ log told.
     let what = c.without_space.ensures ∙ ap (drop 1) (c.as_slice.ensures.value ∙ c.in_ok-what.ensures) in
     let last = c.slots.ensures ∙ ap (λ (m : Moment). m.slots) told in
     puts-all refl
-    (grows-values (decimal_member (codes "line") j.line) c.put_line_number.ensures
+    (grows-values (decimal_member (codes "line") j.place.own) c.put_line_number.ensures
     (puts-more (puts-one (printable_member (codes "what") text) (same-growth (ap (λ t. after_comma (printable_member (codes "what") t)) what) c.put_member.ensures))
     (puts-one _ (grows-member (codes "slot") c.put_key.ensures (same-growth (ap last_of last) c.put_last.ensures))))
     c.put_byte.ensures)

@@ -4,7 +4,7 @@ use Rattle.lin_export.proofs.Puttings.{puts-all}
 use Rattle.lin_tool.specs.Placing.{moment_of}
 use Rattle.lin_tool.specs.campaign.Jsonl.{expectation}
 use Rattle.lin_export.proofs.Slots.{drop-next}
-use Rattle.lin_tool.specs.campaign.Shown.{with_separators}
+use Rattle.lin_tool.specs.Separated.{with_separators}
 use Rattle.lin_tool.proofs.CampaignTexts.{commas, marked-end, marked-next}
 use Rattle.lin_tool.proofs.Remaining.{broke-off, none-put, put-all, put-more, put-whole, same-rest}
 use Rattle.lin_tool.proofs.campaign.jsonl_rows.put_expectations.Goals as goal

@@ -3,7 +3,7 @@ use Rattle.std.specs.Prelude.{codes}
 use Rattle.lin_export.specs.Json.{with_commas}
 use Rattle.lin_tool.specs.Placing.{moment_of, past_at}
 use Rattle.lin_tool.specs.campaign.Jsonl.{expectation}
-use Rattle.lin_tool.specs.campaign.Shown.{with_separators}
+use Rattle.lin_tool.specs.Separated.{with_separators}
 use Rattle.lin_tool.proofs.Remaining.{PutsUpTo}
 use Rattle.lin_tool.proofs.campaign.jsonl_rows.put_expectations.Given as goal
 

@@ -28,7 +28,7 @@ returns g c =
     let what = c.without_space.ensures ∙ ap (drop 1) (c.as_slice.ensures.value ∙ c.in_ok-what.ensures) in
     let got = c.without_space-2.ensures ∙ ap (drop 1) (c.as_slice-2.ensures.value ∙ c.in_ok-got.ensures) ∙ behind-space (found_text c.args.cluster.now j.judged) in
     puts-all refl
-    (grows-values (decimal_member (codes "line") j.line) c.put_line_number.ensures
+    (grows-values (decimal_member (codes "line") j.place.own) c.put_line_number.ensures
     (puts-more (puts-one (printable_member (codes "what") text) (same-growth (ap (λ t. after_comma (printable_member (codes "what") t)) what) c.put_member.ensures))
     (puts-one (printable_member (codes "got") found) (same-growth (ap (λ t. after_comma (printable_member (codes "got") t)) got) c.put_member-2.ensures)))
     c.put_byte.ensures)

@@ -1,7 +1,7 @@
 use Rattle.std.proofs.Common.{◌+◌, arith, drop, map, sym}
 use Rattle.std.specs.Prelude.{codes}
 use Rattle.lin_tool.specs.campaign.Jsonl.{loss_object}
-use Rattle.lin_tool.specs.campaign.Shown.{with_separators}
+use Rattle.lin_tool.specs.Separated.{with_separators}
 use Rattle.lin_tool.proofs.CampaignTexts.{at-item, commas, marked-end, marked-next}
 use Rattle.lin_tool.proofs.Remaining.{none-put, put-more, put-whole, same-rest}
 use Rattle.lin_tool.proofs.campaign.jsonl_rows.put_losses.Goals as goal

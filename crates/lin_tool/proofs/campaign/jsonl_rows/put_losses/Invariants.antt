@@ -2,7 +2,7 @@ use Rattle.std.proofs.Common.{drop, map}
 use Rattle.std.specs.Prelude.{codes}
 use Rattle.lin_export.specs.Json.{with_commas}
 use Rattle.lin_tool.specs.campaign.Jsonl.{loss_object}
-use Rattle.lin_tool.specs.campaign.Shown.{with_separators}
+use Rattle.lin_tool.specs.Separated.{with_separators}
 use Rattle.lin_tool.proofs.Remaining.{PutsUpTo}
 use Rattle.lin_tool.proofs.campaign.jsonl_rows.put_losses.Given as goal
 

@@ -9,7 +9,7 @@ use Rattle.lin_tool.proofs.campaign.junit.put_case.Goals as goal
 
 pub returns-in_err-name : goal.returns-in_err-name
 returns-in_err-name g c =
-    puts-some (case_text c.args.script.now c.args.shown.now.core.now.cluster (row_data c.args.shown.now)) c.from_residual.ensures.0 refl (grows-nothing c.args.out.now)
+    puts-some (case_text c.args.names.script.now c.args.names.files.now c.args.shown.now.core.now.cluster (row_data c.args.shown.now)) c.from_residual.ensures.0 refl (grows-nothing c.args.out.now)
 
 pub returns : goal.returns
 returns g c =

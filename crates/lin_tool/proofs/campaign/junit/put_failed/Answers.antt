@@ -6,7 +6,7 @@ use Rattle.lin_export.proofs.Puttings.{puts-all}
 use Rattle.lin_tool.specs.Junit.{xml_text}
 use Rattle.lin_tool.specs.Placing.{moment_of, placed_missed}
 use Rattle.lin_export.proofs.Slots.{drop-next}
-use Rattle.lin_tool.specs.campaign.Shown.{with_separators}
+use Rattle.lin_tool.specs.Separated.{with_separators}
 use Rattle.lin_tool.proofs.CampaignTexts.{kept-end, kept-next, kept-not}
 use Rattle.lin_tool.proofs.Remaining.{left-out, none-put, put-more, put-whole, same-rest}
 use Rattle.lin_tool.proofs.campaign.junit.put_failed.Goals.{then-is_unmet+in_ok-missed, else-is_unmet}
@@ -27,7 +27,7 @@ returns-in_err-missed g c = left-out _ c.from_residual.ensures.0 c.loop-one.inva
 pub loop-one-preserved : goal.loop-one-preserved
 loop-one-preserved g c =
     let log = c.args.log.now.entries in
-    let f = λ (j : Judgement). xml_text (placed_missed c.args.script.now c.args.cluster.now log j) in
+    let f = λ (j : Judgement). xml_text (placed_missed c.args.names.script.now c.args.names.files.now c.args.cluster.now log j) in
     let p = λ (j : Judgement). is_unmet j.judged in
     let js = c.args.judgements.now in
     let i = c.loop-one.one-index in
@@ -58,5 +58,5 @@ returns g c =
     puts-all refl
     (put-whole
     (same-rest
-    (kept-end (λ (j : Judgement). xml_text (placed_missed c.args.script.now c.args.cluster.now c.args.log.now.entries j)) (λ (j : Judgement). is_unmet j.judged) c.loop-one.mark.now (10 ∷ []) c.args.judgements.now c.loop-one.one-index (omega arith))
+    (kept-end (λ (j : Judgement). xml_text (placed_missed c.args.names.script.now c.args.names.files.now c.args.cluster.now c.args.log.now.entries j)) (λ (j : Judgement). is_unmet j.judged) c.loop-one.mark.now (10 ∷ []) c.args.judgements.now c.loop-one.one-index (omega arith))
     c.loop-one.invariant.put))

@@ -1,7 +1,7 @@
 use Rattle.std.proofs.Common.{drop, map}
 use Rattle.std.specs.Prelude.{codes}
 use Rattle.lin_tool.specs.campaign.Row.{is_same_loss}
-use Rattle.lin_tool.specs.campaign.Shown.{with_separators}
+use Rattle.lin_tool.specs.Separated.{with_separators}
 use Rattle.lin_tool.specs.campaign.Text.{loss_text, losses_text, without}
 use Rattle.lin_tool.proofs.Remaining.{PutsUpTo}
 use Rattle.lin_tool.proofs.campaign.text.put_losses.Given as goal

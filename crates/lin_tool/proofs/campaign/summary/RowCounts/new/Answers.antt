@@ -9,7 +9,7 @@ loop-place-preserved c = record {
   same = λ n. first-next-at n c.loop-place.place c.args.judgements.now c.index-judgements-place.result _ _ (omega arith)
       (subst
       (λ l. line_at c.add_judgement.new.lines.items n ≡ (if n == l then first_at c.loop-place.place (line_at c.loop-place.lines.items n) else line_at c.loop-place.lines.items n))
-      (ap (λ (j : Judgement). j.line) c.index-judgements-place.is) (c.in_ok-add_judgement.ensures.same n)) (c.loop-place.invariant.same n);
+      (ap (λ (j : Judgement). j.place.own) c.index-judgements-place.is) (c.in_ok-add_judgement.ensures.same n)) (c.loop-place.invariant.same n);
   counts = λ rows. c.add_judgement.ensures.counts rows (c.loop-place.invariant.counts rows);
 }
 

@@ -8,5 +8,5 @@ use Rattle.lin_tool.proofs.campaign.summary.RowCounts.some_never_broken.Goals as
 pub returns : goal.returns
 returns c = λ js rows h.
     c.some_uncounted.ensures
-    ∙ any-same (λ (j : Judgement). (line_at c.args.self.now.lines j.line).broken == 0) (λ (j : Judgement). list_all (λ r. not (breaks j.line r)) (rows_of rows)) c.args.judgements.now
-    (λ j. ap (λ k. k == 0) (h.lines j.line).broken ∙ none-counted (breaks j.line) (rows_of rows))
+    ∙ any-same (λ (j : Judgement). (line_at c.args.self.now.lines j.place.own).broken == 0) (λ (j : Judgement). list_all (λ r. not (breaks j.place.own r)) (rows_of rows)) c.args.judgements.now
+    (λ j. ap (λ k. k == 0) (h.lines j.place.own).broken ∙ none-counted (breaks j.place.own) (rows_of rows))

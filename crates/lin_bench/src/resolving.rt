@@ -1,0 +1,912 @@
+//! The lines of a bench script, with long lines, parameters and repetition resolved while it is read.
+
+ghost use Rattle.std.specs.Prelude.{◌≡◌, ◌≤◌, ◌<◌, ◌+◌, ◌-◌, ◌++◌, ℕ, [], Err, IfOk, List, OnOk, length, map, take};
+ghost use Rattle.std.specs.Bool.{OnTrue};
+ghost use Rattle.std.specs.List.{list_any};
+ghost use Rattle.lin_log.specs.Judged.{left_length};
+ghost use Rattle.lin_bench.specs.Fields.{field_texts, line_fields, maybe_text};
+ghost use Rattle.lin_bench.specs.Read.{Fails, Gives};
+ghost use Rattle.lin_bench.specs.declared.reason.Reason.TheVariants.{LongFile, Unread};
+ghost use Rattle.lin_bench.specs.Files.{source_data};
+ghost use Rattle.lin_bench.specs.Resolved.{Act as Done, act_of, act_of_fields, bad_act, begun, end_act, ended, file_uses, has_name, include_act, included, is_used, place_in, unless_open};
+ghost use Rattle.lin_bench.specs.Resolved.Act.{IncludeFile};
+ghost use Rattle.lin_bench.specs.Resolved.{items, missing_file, missing_in, names_parameter, repeat_act, resolved_text, set_act, sets_name};
+ghost use Rattle.lin_bench.specs.Resolved.{text_uses, text_within, uses_in};
+ghost use Rattle.lin_bench.specs.Written.{goes_on, is_said, part_fields, written_fields, written_lines};
+ghost use Rattle.lin_bench.specs.Resolving.{act_done, alone, DoesAct, DoesLine, GivesAct, GivesItem, GivesItemOrEnd, IsAtEnd, IsWhole, KeepsLeft, LeavesFile, NotDone as NotDoneAs};
+ghost use Rattle.lin_bench.specs.Resolving.{TakesLine, TakesUnended, bad_unless, file_opened, following, item_of, items_left, open_file_of, steps_left, text_of_line, written_of};
+ghost use Rattle.lin_bench.specs.declared.resolving.Undone.TheVariants.{OutOfMemory as NotDone};
+
+use crate::fault::LineFault;
+use crate::fields::{count_field, fields};
+use crate::files::{FileText, MOST_BYTES, ScriptFile, Source, file_name, find_file, included_name};
+use crate::parameters::{Parameter, Parameters, has_name, names_parameter, set_parameter};
+use crate::place::LinePlace;
+use crate::reason::Reason;
+use crate::rule_lines::is_name;
+use crate::said_values::joined;
+use crate::script::without_mark;
+use lin_log::{first_field, first_line, is_over, without_return};
+use lin_parts::Cluster;
+use lin_text::{Many, Text};
+use std::alloc::{AllocError, Global};
+use std::mem;
+
+/// How many lines are read beside those that a script has.
+const MORE_LINES: usize = 1_000_000;
+
+/// How many files may be open beside the script's own one, each included by the one before it.
+const DEEPEST: usize = 16;
+
+/// A line that has fields, with the lines that follow in place of `\`: the number of the first one, and
+/// their text.
+#[derive(Clone, Copy)]
+struct WrittenLine<'a> {
+    number: u64,
+    text: &'a [u8],
+}
+
+/// Whether a line says something: it has a field, and isn't a reply of a log.
+fn is_said(cluster: &Cluster, line: &[u8]) -> bool
+    ensures { result ≡ is_said line.now }
+{
+    !matches!(line, [b'>', ..]) && !is_over(cluster, line)
+}
+
+/// Whether the last field of a line is `\`.
+fn goes_on(cluster: &Cluster, line: &[u8]) -> bool
+    ensures { result ≡ goes_on line.now }
+{
+    let mut last: &[u8] = b"";
+    let mut left = line;
+    while let Some((field, rest)) = first_field(cluster, left) {
+        last = field;
+        left = rest;
+    }
+    last == b"\\".as_slice()
+}
+
+/// The text that follows a line in place of `\`, if it goes on.
+fn following<'a>(cluster: &Cluster, line: &[u8], rest: Option<&'a [u8]>) -> Option<&'a [u8]>
+    ensures { maybe_text result ≡ following line.now (maybe_text rest.entry) }
+{
+    if goes_on(cluster, without_return(line)) {
+        rest
+    } else {
+        None
+    }
+}
+
+/// The text before what is left of it after an LF; all of it if nothing is left.
+fn text_before<'a>(text: &'a [u8], rest: Option<&[u8]>) -> &'a [u8]
+    requires { left_length rest ≤ length text.now }
+    ensures { result.now ≡ take (length text.now - left_length rest.entry) text.now }
+{
+    let after = match rest {
+        Some(rest) => rest.len() + 1,
+        None => 0,
+    };
+    &text[..text.len() - after]
+}
+
+/// The first line of a text with those that follow in place of `\`, how many lines these are, and the text
+/// after them.
+fn whole_line<'a>(cluster: &Cluster, text: &'a [u8]) -> (&'a [u8], u64, Option<&'a [u8]>)
+    ensures whole { IsWhole text.now result.0.now result.1 result.2 }
+    ensures some { 1 ≤ result.1 }
+    ensures few { result.1 + left_length result.2 ≤ length text.now + 1 }
+{
+    let (first, after) = first_line(text);
+    let mut line = first;
+    let mut rest = after;
+    let mut count = 1;
+    while let Some(more) = following(cluster, line, rest) {
+        let (next, after) = first_line(more);
+        line = next;
+        rest = after;
+        count += 1;
+    }
+    (text_before(text, rest), count, rest)
+}
+
+/// The lines of a text that have fields. An error means out of memory.
+fn written_lines<'a>(
+    alloc: Global,
+    cluster: &Cluster,
+    text: &'a [u8],
+) -> Result<Vec<WrittenLine<'a>>, AllocError>
+    ensures { IfOk result (λ v. map written_of v.items ≡ written_lines text.now) }
+{
+    let mut lines = Vec::new(alloc);
+    let mut left = Some(without_mark(text));
+    let mut number = 1;
+    while let Some(text) = left {
+        let (line, rest) = first_line(text);
+        if is_said(cluster, without_return(line)) {
+            let (text, count, rest) = whole_line(cluster, text);
+            lines.push(WrittenLine { number, text })?;
+            number += count;
+            left = rest;
+        } else {
+            number += 1;
+            left = rest;
+        }
+    }
+    Ok(lines)
+}
+
+impl<'a> WrittenLine<'a> {
+    /// The line alone, if no other one follows in place of `\`.
+    fn alone(self) -> Option<&'a [u8]>
+        ensures { maybe_text result ≡ alone (written_of self.entry).parts }
+    {
+        let (line, rest) = first_line(self.text);
+        match rest {
+            None => Some(without_return(line)),
+            Some(_) => None,
+        }
+    }
+
+    /// The fields, without `\` at the ends of lines. An error means out of memory.
+    fn fields(self, alloc: Global, cluster: &Cluster) -> Result<Vec<&'a [u8]>, AllocError>
+        ensures { IfOk result (λ v. field_texts v.items ≡ written_fields (written_of self.entry)) }
+    {
+        let mut all = Vec::new(alloc);
+        let mut left = Some(self.text);
+        while let Some(text) = left {
+            let (part, rest) = first_line(text);
+            add_part(&mut all, cluster, without_return(part))?;
+            left = rest;
+        }
+        Ok(all)
+    }
+}
+
+/// Adds the fields of one line, without `\` at its end. An error means out of memory.
+fn add_part<'a>(
+    all: &mut Vec<&'a [u8]>,
+    cluster: &Cluster,
+    part: &'a [u8],
+) -> Result<(), AllocError>
+    ensures { OnOk result
+        (field_texts all.new.items ≡ field_texts all.old.items ++ part_fields part.now) }
+{
+    let goes_on = goes_on(cluster, part);
+    let mut left = part;
+    while let Some((field, rest)) = first_field(cluster, left) {
+        all.push(field)?;
+        left = rest;
+    }
+    if goes_on {
+        let _ = all.pop();
+    }
+    Ok(())
+}
+
+/// What a line does while the script is read.
+#[derive(Drop)]
+enum Act {
+    /// It is for the play.
+    Say,
+    Set(Parameter),
+    /// The lines up to `end` are read so many times.
+    Repeat(u32),
+    End,
+    /// The lines of a file with this name are here.
+    Include(Text),
+}
+
+/// Why a line does nothing: it is bad, as another line, as one that begins a block or as one that ends a block.
+#[derive(Drop)]
+enum Undone {
+    Line(Reason),
+    Repeat(Reason),
+    End(Reason),
+    OutOfMemory,
+}
+
+impl From<AllocError> for Undone {
+    ghost from_gives = { λ _ e. e ≡ NotDone };
+
+    fn from(_: AllocError) -> Undone {
+        Undone::OutOfMemory
+    }
+}
+
+/// A parameter, by the fields after `set`.
+fn set(alloc: Global, fields: &[&[u8]]) -> Result<Act, Undone>
+    ensures { (text : List ℕ) → DoesAct result text (set_act (field_texts fields.now)) }
+{
+    let [name, text @ ..] = fields else {
+        return Err(Undone::Line(Reason::SetForm));
+    };
+    if text.is_empty() {
+        return Err(Undone::Line(Reason::SetForm));
+    }
+    if !is_name(*name) {
+        return Err(Undone::Line(Reason::NoName(Text::copied(alloc, *name)?)));
+    }
+    let text = joined(alloc, text)?;
+    Ok(Act::Set(Parameter {
+        name: Text::copied(alloc, *name)?,
+        text: Text::copied(alloc, text.as_slice())?,
+    }))
+}
+
+/// A block, by the fields after `repeat`.
+fn repeat(alloc: Global, fields: &[&[u8]]) -> Result<Act, Undone>
+    ensures { (text : List ℕ) → DoesAct result text (repeat_act (field_texts fields.now)) }
+{
+    let [count] = fields else {
+        return Err(Undone::Repeat(Reason::RepeatForm));
+    };
+    match count_field(alloc, *count) {
+        Ok(times) => Ok(Act::Repeat(times)),
+        Err(LineFault::Bad(reason)) => Err(Undone::Repeat(reason)),
+        Err(LineFault::OutOfMemory) => Err(Undone::OutOfMemory),
+    }
+}
+
+/// The end of a block, by the fields after `end`.
+fn end(alloc: Global, fields: &[&[u8]]) -> Result<Act, Undone>
+    ensures { (text : List ℕ) → DoesAct result text (end_act (field_texts fields.now)) }
+{
+    if fields.is_empty() {
+        return Ok(Act::End);
+    }
+    Err(Undone::End(Reason::Step(lin_log::Reason::Takes {
+        word: Text::copied(alloc, b"end")?,
+        fields: 0,
+    })))
+}
+
+/// A file, by the fields after `include`.
+fn include(alloc: Global, fields: &[&[u8]]) -> Result<Act, Undone>
+    ensures { (text : List ℕ) → DoesAct result text (include_act (field_texts fields.now)) }
+{
+    if fields.is_empty() {
+        return Err(Undone::Line(Reason::IncludeForm));
+    }
+    let name = joined(alloc, fields)?;
+    Ok(Act::Include(Text::copied(alloc, name.as_slice())?))
+}
+
+/// What a line with these fields does.
+fn act_of_fields(alloc: Global, fields: &[&[u8]]) -> Result<Act, Undone>
+    ensures { (text : List ℕ) → DoesAct result text (act_of_fields text (field_texts fields.now)) }
+{
+    let [word, rest @ ..] = fields else {
+        return Ok(Act::Say);
+    };
+    if *word == b"set".as_slice() {
+        set(alloc, rest)
+    } else if *word == b"repeat".as_slice() {
+        repeat(alloc, rest)
+    } else if *word == b"end".as_slice() {
+        end(alloc, rest)
+    } else if *word == b"include".as_slice() {
+        include(alloc, rest)
+    } else {
+        Ok(Act::Say)
+    }
+}
+
+/// Why a line with these fields does nothing, whose parameters can't be replaced.
+fn undone_by(fields: &[&[u8]], reason: Reason) -> Undone
+    ensures { NotDoneAs result (bad_act (field_texts fields.now) reason) }
+{
+    let [word, ..] = fields else {
+        return Undone::Line(reason);
+    };
+    if *word == b"repeat".as_slice() {
+        Undone::Repeat(reason)
+    } else if *word == b"end".as_slice() {
+        Undone::End(reason)
+    } else {
+        Undone::Line(reason)
+    }
+}
+
+/// What a line with this text does.
+fn act_of_text(alloc: Global, cluster: &Cluster, text: &[u8]) -> Result<Act, Undone>
+    ensures { DoesAct result text.now (act_of_fields text.now (line_fields text.now)) }
+{
+    let all = fields(alloc, cluster, text)?;
+    act_of_fields(alloc, all.as_slice())
+}
+
+/// A block that is open: the number of its `repeat`, the index of its first line, and how many times it is
+/// read again.
+#[derive(Clone, Copy)]
+struct Block {
+    number: u64,
+    first: usize,
+    again: u32,
+}
+
+/// The text of a line: as it is written, or with what was resolved.
+#[derive(Drop)]
+pub(crate) enum LineText<'a> {
+    Written(&'a [u8]),
+    Resolved(Vec<u8>),
+}
+
+impl LineText<'_> {
+    pub(crate) fn as_slice(&self) -> &[u8]
+        ensures { result.now ≡ text_of_line self.now }
+    {
+        match self {
+            LineText::Written(text) => *text,
+            LineText::Resolved(text) => text.as_slice(),
+        }
+    }
+}
+
+/// A line that is for the play, or why a line is bad.
+#[derive(Drop)]
+pub(crate) enum Item<'a> {
+    Line(LineText<'a>),
+    Bad(Reason),
+}
+
+/// A file that is read: its number, its lines, which one is next, and the blocks that are open. If it is
+/// included, there is also the number of the line of the script's own file by which it is.
+#[derive(Drop)]
+struct OpenFile<'a> {
+    file: usize,
+    by: Option<u64>,
+    lines: Vec<WrittenLine<'a>>,
+    next: usize,
+    blocks: Vec<Block>,
+}
+
+impl<'a> OpenFile<'a> {
+    /// Begins with a text. An error means out of memory.
+    fn new(
+        alloc: Global,
+        cluster: &Cluster,
+        file: usize,
+        by: Option<u64>,
+        text: &'a [u8],
+    ) -> Result<OpenFile<'a>, AllocError>
+        ensures whole { IfOk result (λ f. open_file_of f ≡ file_opened file by text.now) }
+        ensures start { IfOk result (λ f. f.next ≡ 0) }
+    {
+        Ok(OpenFile {
+            file,
+            by,
+            lines: written_lines(alloc, cluster, text)?,
+            next: 0,
+            blocks: Vec::new(alloc),
+        })
+    }
+
+    /// The line that is next, after which another one is.
+    fn step(&mut self) -> Option<WrittenLine<'a>>
+        ensures { TakesLine result (open_file_of self.old) (open_file_of self.new) }
+    {
+        let line = self.lines.as_slice().get(self.next).copied()?;
+        self.next += 1;
+        Some(line)
+    }
+
+    /// The place of the line with a number. It is in no test.
+    fn place(&self, number: u64) -> LinePlace
+        ensures { result ≡ place_in (open_file_of self.now) number }
+    {
+        LinePlace {
+            file: self.file,
+            line: number,
+            own: self.by.unwrap_or(number),
+            test: 0,
+        }
+    }
+
+    /// Begins a block after a line, which is read again so many times. An error means out of memory.
+    fn begin(&mut self, number: u64, again: u32) -> Result<(), AllocError>
+        ensures { OnOk result (open_file_of self.new ≡ begun (open_file_of self.old) number again) }
+    {
+        self.blocks.push(Block {
+            number,
+            first: self.next,
+            again,
+        })?;
+        Ok(())
+    }
+
+    /// Ends the innermost block, or goes back to its first line. Returns whether there is a block.
+    fn end(&mut self) -> bool
+        ensures ended { open_file_of self.new ≡ ended (open_file_of self.old) }
+        ensures answer { (p : LinePlace) → unless_open p (open_file_of self.old).blocks ≡ bad_unless result p }
+    {
+        let Some(block) = self.blocks.as_slice().last().copied() else {
+            return false;
+        };
+        if block.again == 0 {
+            let _ = self.blocks.pop();
+        } else {
+            self.next = block.first;
+            let again = block.again - 1;
+            let last = self.blocks.len() - 1;
+            self.blocks[last] = Block { again, ..block };
+        }
+        true
+    }
+
+    /// The next block that isn't ended at the end of the file, the outermost first.
+    fn unended(&mut self) -> Option<(LinePlace, Item<'a>)>
+        ensures { TakesUnended result (open_file_of self.old) (open_file_of self.new) }
+    {
+        if self.blocks.is_empty() {
+            return None;
+        }
+        let block = self.blocks.remove(0);
+        Some((
+            self.place(block.number),
+            Item::Bad(Reason::RepeatWithoutEnd),
+        ))
+    }
+
+    /// Leaves the lines that are left, and the blocks that are open.
+    fn stop(&mut self, alloc: Global)
+        ensures { open_file_of self.new ≡ record (open_file_of self.old) { blocks = []; lines = [] } }
+    {
+        self.next = self.lines.len();
+        self.blocks = Vec::new(alloc);
+    }
+}
+
+/// The fault of a line that includes a file under this name, which isn't read.
+fn unread(alloc: Global, name: &[u8]) -> LineFault
+    ensures { Fails {Y = ℕ × List ℕ} result (Err (Unread name.now)) }
+{
+    match Text::copied(alloc, name) {
+        Ok(name) => LineFault::Bad(Reason::Unread(name)),
+        Err(_) => LineFault::OutOfMemory,
+    }
+}
+
+/// The fault of a line with whose file, included under this name, the script is too long.
+fn too_long(alloc: Global, name: &[u8]) -> LineFault
+    ensures { Fails {Y = ℕ × List ℕ} result (Err (LongFile name.now)) }
+{
+    match Text::copied(alloc, name) {
+        Ok(name) => LineFault::Bad(Reason::LongFile(name)),
+        Err(_) => LineFault::OutOfMemory,
+    }
+}
+
+/// The text of a file that is included under a name, if it has at most so many bytes.
+///
+/// # Errors
+/// `Bad` with `Unread` or `LongFile`; `OutOfMemory`.
+fn text_within<'a>(
+    alloc: Global,
+    room: usize,
+    name: &[u8],
+    text: &'a FileText,
+) -> Result<&'a [u8], LineFault>
+    ensures { (n : ℕ) → Gives (λ t. (n, t.now)) result (text_within room name.now n text.now) }
+{
+    match text {
+        FileText::Read(text) => {
+            if text.as_slice().len() <= room {
+                Ok(text.as_slice())
+            } else {
+                Err(too_long(alloc, name))
+            }
+        }
+        FileText::Unread => Err(unread(alloc, name)),
+        FileText::TooLong => Err(too_long(alloc, name)),
+    }
+}
+
+/// Whether a parameter stands in one of these fields.
+fn name_a_parameter(fields: &[&[u8]]) -> bool
+    ensures { result ≡ list_any names_parameter (field_texts fields.now) }
+{
+    for field in fields {
+        if names_parameter(*field) {
+            return true;
+        }
+    }
+    false
+}
+
+/// A bench script that is read: the file whose lines are next, those that include it, how many lines may
+/// still be read, how many bytes may still be included, and its parameters.
+#[derive(Drop)]
+pub(crate) struct ScriptReader<'a> {
+    source: Source<'a>,
+    file: OpenFile<'a>,
+    outer: Vec<OpenFile<'a>>,
+    left: usize,
+    room: usize,
+    sets: Many<Parameter>,
+}
+
+impl<'a> ScriptReader<'a> {
+    /// Begins with a script. An error means out of memory.
+    pub(crate) fn new(
+        alloc: Global,
+        cluster: &Cluster,
+        source: Source<'a>,
+    ) -> Result<ScriptReader<'a>, AllocError>
+        requires { length source.text.now ≤ 16777216 }
+        ensures { IfOk result (λ r. items_left r ≡ items (source_data source.entry)) }
+    {
+        let file = OpenFile::new(alloc, cluster, 0, None, source.text)?;
+        let left = file.lines.len() + MORE_LINES;
+        Ok(ScriptReader {
+            source,
+            file,
+            outer: Vec::new(alloc),
+            left,
+            room: MOST_BYTES - source.text.len(),
+            sets: Many::new(Vec::new(alloc)),
+        })
+    }
+
+    /// The text of a line with these fields, with texts in place of parameters.
+    fn text(
+        &self,
+        alloc: Global,
+        line: WrittenLine<'a>,
+        fields: &[&[u8]],
+    ) -> Result<LineText<'a>, LineFault>
+        requires { field_texts fields.now ≡ written_fields (written_of line) }
+        ensures { Gives text_of_line result
+            (resolved_text self.now.source.given.now self.now.sets (written_of line.entry)) }
+    {
+        if name_a_parameter(fields) {
+            let parameters = Parameters {
+                given: self.source.given,
+                sets: self.sets.as_slice(),
+            };
+            return Ok(LineText::Resolved(parameters.replaced(alloc, fields)?));
+        }
+        match line.alone() {
+            Some(text) => Ok(LineText::Written(text)),
+            None => Ok(LineText::Resolved(joined(alloc, fields)?)),
+        }
+    }
+
+    /// What a line does, and its text.
+    fn act(
+        &self,
+        alloc: Global,
+        cluster: &Cluster,
+        line: WrittenLine<'a>,
+    ) -> Result<(Act, LineText<'a>), Undone>
+        ensures { GivesAct result (act_of self.now.source.given.now self.now.sets (written_of line.entry)) }
+    {
+        let fields = line.fields(alloc, cluster)?;
+        match self.text(alloc, line, fields.as_slice()) {
+            Ok(text) => {
+                let act = act_of_text(alloc, cluster, text.as_slice())?;
+                Ok((act, text))
+            }
+            Err(LineFault::Bad(reason)) => Err(undone_by(fields.as_slice(), reason)),
+            Err(LineFault::OutOfMemory) => Err(Undone::OutOfMemory),
+        }
+    }
+
+    /// The file that a line includes under a name, and its text.
+    ///
+    /// # Errors
+    /// `Bad` with `Unread` or `LongFile`; `OutOfMemory`.
+    fn included(&self, alloc: Global, name: &[u8]) -> Result<(usize, &'a [u8]), LineFault>
+        ensures { Gives (λ f. (f.0, f.1.now)) result
+            (included (source_data self.now.source) self.now.room self.now.file.file name.now) }
+    {
+        let includer = file_name(self.source.name, self.source.files, self.file.file);
+        let whole = included_name(alloc, includer, name)?;
+        match find_file(self.source.files, whole.as_slice()) {
+            Some((number, text)) => {
+                let text = text_within(alloc, self.room, whole.as_slice(), text)?;
+                Ok((number, text))
+            }
+            None => Err(unread(alloc, whole.as_slice())),
+        }
+    }
+
+    /// Goes on with the lines of a file, which the line with a number includes. Returns why the line is bad,
+    /// if it is; nothing is read after a file that isn't read. An error means out of memory.
+    fn include(
+        &mut self,
+        alloc: Global,
+        cluster: &Cluster,
+        number: u64,
+        name: &[u8],
+    ) -> Result<Option<Reason>, AllocError>
+        ensures does { DoesLine result (λ why. Err why) self.old self.new number (IncludeFile name.now) }
+        ensures left { OnOk result (KeepsLeft self.old self.new) }
+    {
+        if self.outer.len() == DEEPEST {
+            return Ok(Some(Reason::IncludeDepth));
+        }
+        match self.included(alloc, name) {
+            Ok((file, text)) => {
+                let by = self.file.by.unwrap_or(number);
+                let inner = OpenFile::new(alloc, cluster, file, Some(by), text)?;
+                self.outer.push(mem::replace(&mut self.file, inner))?;
+                self.room -= text.len();
+                Ok(None)
+            }
+            Err(LineFault::Bad(reason)) => {
+                self.stop(alloc);
+                Ok(Some(reason))
+            }
+            Err(LineFault::OutOfMemory) => Err(AllocError),
+        }
+    }
+
+    /// Leaves all lines that are left.
+    fn stop(&mut self, alloc: Global)
+        ensures none { items_left self.new ≡ [] }
+        ensures left { KeepsLeft self.old self.new }
+        ensures fewer { steps_left self.new ≤ steps_left self.old }
+    {
+        self.file.stop(alloc);
+        self.outer = Vec::new(alloc);
+    }
+
+    /// Goes on with the file that includes the one whose lines are read. Returns whether there is one.
+    fn leave(&mut self) -> bool
+        requires { IsAtEnd self.old.file }
+        ensures leaves { LeavesFile result self.old self.new }
+        ensures fewer { OnTrue result (steps_left self.new < steps_left self.old) }
+    {
+        match self.outer.pop() {
+            Some(file) => {
+                self.file = file;
+                true
+            }
+            None => false,
+        }
+    }
+
+    /// Does what the line with a number and a text does, and returns what it says, if it is for the play or bad.
+    /// An error means out of memory.
+    fn do_act(
+        &mut self,
+        alloc: Global,
+        cluster: &Cluster,
+        number: u64,
+        act: Act,
+        text: LineText<'a>,
+    ) -> Result<Option<Item<'a>>, AllocError>
+        ensures does { DoesLine result item_of self.old self.new number (act_done act (text_of_line text.entry)) }
+        ensures left { OnOk result (KeepsLeft self.old self.new) }
+    {
+        match act {
+            Act::Say => Ok(Some(Item::Line(text))),
+            Act::Set(parameter) => {
+                set_parameter(&mut self.sets, parameter)?;
+                Ok(None)
+            }
+            Act::Repeat(times) => {
+                self.file.begin(number, times.saturating_sub(1))?;
+                Ok(None)
+            }
+            Act::End => {
+                if self.file.end() {
+                    Ok(None)
+                } else {
+                    Ok(Some(Item::Bad(Reason::EndWithoutRepeat)))
+                }
+            }
+            Act::Include(name) => match self.include(alloc, cluster, number, name.as_slice())? {
+                Some(reason) => Ok(Some(Item::Bad(reason))),
+                None => Ok(None),
+            },
+        }
+    }
+
+    /// Leaves out the line with a number, and returns why. A bad `repeat` still begins a block, and a bad `end`
+    /// ends one. An error means out of memory.
+    fn leave_out(&mut self, number: u64, undone: Undone) -> Result<Option<Item<'a>>, AllocError>
+        ensures does { (done : Done) → NotDoneAs undone done → DoesLine result item_of self.old self.new number done }
+        ensures left { OnOk result (KeepsLeft self.old self.new) }
+    {
+        match undone {
+            Undone::Line(reason) => Ok(Some(Item::Bad(reason))),
+            Undone::Repeat(reason) => {
+                self.file.begin(number, 0)?;
+                Ok(Some(Item::Bad(reason)))
+            }
+            Undone::End(reason) => {
+                let _ = self.file.blocks.pop();
+                Ok(Some(Item::Bad(reason)))
+            }
+            Undone::OutOfMemory => Err(AllocError),
+        }
+    }
+
+    /// Does what a line does, and returns what it says, if it is for the play or bad. An error means out of
+    /// memory.
+    fn take(
+        &mut self,
+        alloc: Global,
+        cluster: &Cluster,
+        line: WrittenLine<'a>,
+    ) -> Result<Option<Item<'a>>, AllocError>
+        ensures does { DoesLine result item_of self.old self.new line.entry.number
+            (act_of self.old.source.given.now self.old.sets (written_of line.entry)) }
+        ensures left { OnOk result (KeepsLeft self.old self.new) }
+    {
+        match self.act(alloc, cluster, line) {
+            Ok((act, text)) => self.do_act(alloc, cluster, line.number, act, text),
+            Err(undone) => self.leave_out(line.number, undone),
+        }
+    }
+
+    /// The next line that is for the play, or that is bad, with its place, up to the end of the file whose
+    /// lines are read, or of one that it includes. An error means out of memory.
+    fn next_in_file(
+        &mut self,
+        alloc: Global,
+        cluster: &Cluster,
+    ) -> Result<Option<(LinePlace, Item<'a>)>, AllocError>
+        ensures gives { GivesItemOrEnd result self.old self.new }
+        ensures fewer { OnOk result (steps_left self.new ≤ steps_left self.old) }
+    {
+        while let Some(line) = self.file.step() {
+            let place = self.file.place(line.number);
+            if self.left == 0 {
+                self.stop(alloc);
+                return Ok(Some((place, Item::Bad(Reason::TooManyLines))));
+            }
+            self.left -= 1;
+            if let Some(item) = self.take(alloc, cluster, line)? {
+                return Ok(Some((place, item)));
+            }
+        }
+        Ok(self.file.unended())
+    }
+
+    /// The next line that is for the play, or that is bad, with its place; none after the last one. An error
+    /// means out of memory.
+    pub(crate) fn next(
+        &mut self,
+        alloc: Global,
+        cluster: &Cluster,
+    ) -> Result<Option<(LinePlace, Item<'a>)>, AllocError>
+        ensures { GivesItem result (items_left self.old) (items_left self.new) }
+    {
+        'files: loop {
+            if let Some(item) = self.next_in_file(alloc, cluster)? {
+                return Ok(Some(item));
+            }
+            if !self.leave() {
+                return Ok(None);
+            }
+        }
+    }
+}
+
+/// Whether a line with these fields sets the parameter with a name.
+fn sets_name(fields: &[&[u8]], name: &[u8]) -> bool
+    ensures { result ≡ sets_name name.now (field_texts fields.now) }
+{
+    match fields {
+        [word, field, ..] => *word == b"set".as_slice() && *field == name,
+        _ => false,
+    }
+}
+
+/// Whether the parameter with a name is in one of these fields.
+fn is_name_in(fields: &[&[u8]], name: &[u8]) -> bool
+    ensures { result ≡ list_any (has_name name.now) (field_texts fields.now) }
+{
+    for field in fields {
+        if has_name(*field, name) {
+            return true;
+        }
+    }
+    false
+}
+
+/// Whether a line with these fields sets the parameter with a name, or has it in a field.
+fn uses_name(fields: &[&[u8]], name: &[u8]) -> bool
+    ensures { result ≡ uses_in name.now (field_texts fields.now) }
+{
+    sets_name(fields, name) || is_name_in(fields, name)
+}
+
+/// Whether a line of a text sets the parameter with a name, or has it in a field. An error means out of
+/// memory.
+fn text_uses(alloc: Global, cluster: &Cluster, text: &[u8], name: &[u8]) -> Result<bool, AllocError>
+    ensures { IfOk result (λ used. used ≡ text_uses text.now name.now) }
+{
+    let lines = written_lines(alloc, cluster, text)?;
+    for line in lines.as_slice() {
+        let fields = line.fields(alloc, cluster)?;
+        if uses_name(fields.as_slice(), name) {
+            return Ok(true);
+        }
+    }
+    Ok(false)
+}
+
+/// Whether a line of a file sets the parameter with a name, or has it in a field. An error means out of
+/// memory.
+fn file_uses(
+    alloc: Global,
+    cluster: &Cluster,
+    file: &ScriptFile,
+    name: &[u8],
+) -> Result<bool, AllocError>
+    ensures { IfOk result (λ used. used ≡ file_uses name.now file.now) }
+{
+    match &file.text {
+        FileText::Read(text) if text.as_slice().len() <= MOST_BYTES => {
+            text_uses(alloc, cluster, text.as_slice(), name)
+        }
+        _ => Ok(false),
+    }
+}
+
+/// Returns whether a line of a bench script, or of a file that it includes, sets the parameter with a name,
+/// or has it in a field. An error means out of memory.
+pub fn uses_parameter(
+    alloc: Global,
+    cluster: &Cluster,
+    source: Source<'_>,
+    name: &[u8],
+) -> Result<bool, AllocError>
+    requires { length source.text.now ≤ 16777216 }
+    ensures { IfOk result (λ used. used ≡ is_used (source_data source.entry) name.now) }
+{
+    if text_uses(alloc, cluster, source.text, name)? {
+        return Ok(true);
+    }
+    for file in source.files {
+        if file_uses(alloc, cluster, file, name)? {
+            return Ok(true);
+        }
+    }
+    Ok(false)
+}
+
+/// Returns the name of the first file that the lines of a bench script include and that isn't among its files.
+/// An error means out of memory.
+pub fn missing_file(
+    alloc: Global,
+    cluster: &Cluster,
+    source: Source<'_>,
+) -> Result<Option<Text>, AllocError>
+    requires { length source.text.now ≤ 16777216 }
+    ensures { IfOk result (λ name. name ≡ missing_file (source_data source.entry)) }
+{
+    let mut script = ScriptReader::new(alloc, cluster, source)?;
+    while let Some((_, item)) = script.next(alloc, cluster)? {
+        let missing = missing_name(source.files, item);
+        if missing.is_some() {
+            return Ok(missing);
+        }
+    }
+    Ok(None)
+}
+
+/// The name under which a bad line includes a file that isn't among these.
+fn name_of_missing(files: &[ScriptFile], reason: Reason) -> Option<Text>
+    ensures { result ≡ missing_in files.now (Err reason) }
+{
+    let name = reason.unread_file()?;
+    if find_file(files, name.as_slice()).is_some() {
+        None
+    } else {
+        Some(name)
+    }
+}
+
+/// The name under which a line includes a file that isn't among these.
+fn missing_name(files: &[ScriptFile], item: Item<'_>) -> Option<Text>
+    ensures { result ≡ missing_in files.now (item_of item.entry) }
+{
+    match item {
+        Item::Line(_) => None,
+        Item::Bad(reason) => name_of_missing(files, reason),
+    }
+}

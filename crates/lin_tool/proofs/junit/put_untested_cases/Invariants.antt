@@ -1,0 +1,14 @@
+use Rattle.std.proofs.Common.{◌≡◌, ◌*◌, ◌≤◌, take, length, flat_map}
+use Rattle.lin_text.specs.Written.{Grows}
+use Rattle.lin_tool.specs.Junit.{untested_text}
+use Rattle.lin_tool.specs.Placing.{moment_of, past_at}
+use Rattle.lin_tool.proofs.junit.put_untested_cases.Given as goal
+
+abbrev pub invariant-loop-one : goal.invariant-loop-one
+invariant-loop-one g l = record {
+  put : Grows g.W.Write.contents l.initial.out l.out (flat_map (untested_text l.names.script.now l.names.files.now l.cluster l.log.entries) (take l.one-index l.judgements));
+  told : l.moment ≡ moment_of l.cluster (past_at l.log.entries l.read);
+  time : l.moment.time_us ≤ 1000000000 * l.read;
+  count : l.moment.slots ≤ l.read;
+  few : l.read ≤ length l.log.entries;
+}
