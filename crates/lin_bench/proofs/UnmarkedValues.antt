@@ -3,7 +3,7 @@ use Rattle.std.proofs.Common.{◌≡◌, ◌∙◌, ◌&&◌, ℕ, Bool, true, f
 use Rattle.lin_parts.specs.declared.parts.Parts.{Parts}
 use Rattle.lin_values.specs.Coded.{CodedData}
 use Rattle.lin_bench.specs.Read.{Fails}
-use Rattle.lin_bench.specs.Words.{asks_value, is_number_or_range, is_signal_after, reads_zero, why_of_signal, why_signal, why_value}
+use Rattle.lin_bench.specs.Words.{asks_value, is_number_or_range, is_signal_after, reads_initial, why_of_signal, why_signal, why_value}
 use Rattle.lin_bench.specs.declared.fault.LineFault.{LineFault}
 use Rattle.lin_bench.specs.declared.fault.LineFault.TheVariants.{Bad}
 use Rattle.lin_bench.specs.declared.reason.Reason.{Reason}
@@ -24,8 +24,8 @@ unknown-value k field s fault why ranged value e is f =
 
 -- ---- whether a field is a signal, by the fields before it
 
-pub asked : (c : Parts) (before : List (List ℕ)) (signal : List ℕ) → asks_value before ≡ true → is_signal_after c before signal ≡ reads_zero c before signal
-asked c before signal e = ap (λ b. b && reads_zero c before signal) e
+pub asked : (c : Parts) (before : List (List ℕ)) (signal : List ℕ) → asks_value before ≡ true → is_signal_after c before signal ≡ reads_initial c before signal
+asked c before signal e = ap (λ b. b && reads_initial c before signal) e
 
 pub not-asked : (c : Parts) (before : List (List ℕ)) (signal : List ℕ) → asks_value before ≡ false → is_signal_after c before signal ≡ false
-not-asked c before signal e = ap (λ b. b && reads_zero c before signal) e
+not-asked c before signal e = ap (λ b. b && reads_initial c before signal) e

@@ -10,8 +10,8 @@ use Rattle.lin_core.specs.declared.reply.Refusal.{Refusal}
 use Rattle.lin_log.specs.Said.{is_number, number}
 use Rattle.lin_bench.specs.Fields.{◌>>=◌, count_field, counts_field, frame_field, host_field}
 use Rattle.lin_bench.specs.Fields.{number_up_to, or_bad, pair_fields, present_node, present_table}
-use Rattle.lin_bench.specs.Fields.{range_ends, range_field, rows_and_time, signal_fields}
-use Rattle.lin_bench.specs.Fields.{value_field}
+use Rattle.lin_bench.specs.Fields.{range_ends, rows_and_time, signal_fields}
+use Rattle.lin_bench.specs.RawValues.{raw_range, raw_value}
 use Rattle.lin_bench.specs.RuleLines.{pattern_fields}
 use Rattle.lin_bench.specs.Times.{time_field}
 use Rattle.lin_bench.specs.Rules.{has_length}
@@ -41,17 +41,17 @@ refusal_field f = or_bad (refusal_called f) (NoRefusal f)
 
 -- the forms of the expectations: all fields after `expect`, which are shown where there is no form
 -- of them, and those after the first word. A wrong number of fields is no form
-abbrev pub signal_expectation : Parts → ℕ → ℕ → List ℕ → Option (List ℕ × List ℕ) → Result Condition Reason
-signal_expectation c node signal v None =
-    value_field c v >>= (λ value. Ok (condition.Signal node signal value))
-signal_expectation c node signal v (Some ends) =
-    range_field c v ends.0 ends.1
-    >>= (λ range. Ok (condition.SignalWithin node signal range.0 range.1))
+abbrev pub signal_expectation : Parts → List ℕ → ℕ → ℕ → List ℕ → Option (List ℕ × List ℕ)
+    → Result Condition Reason
+signal_expectation c s node signal v None =
+    raw_value c s signal v >>= (λ value. Ok (condition.Signal node signal value))
+signal_expectation c s node signal v (Some ends) =
+    raw_range c s signal v ends >>= (λ range. Ok (condition.SignalWithin node signal range.0 range.1))
 
 abbrev pub signal_form : Parts → List (List ℕ) → List (List ℕ) → Result Condition Reason
 signal_form c all (n ∷ s ∷ v ∷ []) = do
   at ← signal_fields c n s
-  signal_expectation c at.0 at.1 v (range_ends v)
+  signal_expectation c s at.0 at.1 v (range_ends v)
 signal_form c all fs = Err (UnknownExpectation all)
 
 abbrev pub waiting_form : Parts → List (List ℕ) → List (List ℕ) → Result Condition Reason
@@ -295,14 +295,16 @@ unfoldable pub word_expectation : Parts → List (List ℕ) → List ℕ → Lis
 word_expectation c all word fs =
     condition_form c all word fs >>= is_or (other_expectation c all word fs)
 
--- a signal changes from the beginning of a line of slots on
+-- a signal changes from the beginning of a line of slots on, so that none has changed there
 abbrev pub begins_change : List (List ℕ) → Bool
 begins_change [] = false
 begins_change (word ∷ fs) = bytes_eq word (codes "changed")
 
+abbrev pub no_change : List ℕ → List (List ℕ) → Bool
+no_change word fs = bytes_eq word (codes "not") && begins_change fs
+
 abbrev pub needs_slots : List ℕ → List (List ℕ) → Bool
-needs_slots word fs =
-    bytes_eq word (codes "changed") || (bytes_eq word (codes "not") && begins_change fs)
+needs_slots word fs = bytes_eq word (codes "changed") || no_change word fs
 
 -- what is expected, by the fields after `expect`
 unfoldable pub expectation : Parts → List (List ℕ) → Result Expected Reason
@@ -349,5 +351,5 @@ while_form c (word ∷ fs) =
 unfoldable pub until_form : Parts → List (List ℕ) → Result Expected Reason
 until_form c [] = Err UntilForm
 until_form c (word ∷ fs) =
-    if never_comes word then Err (UnknownUntil (word ∷ fs))
+    if never_comes word || no_change word fs then Err (UnknownUntil (word ∷ fs))
     else as_until (word_expectation c (word ∷ fs) word fs)

@@ -16,7 +16,7 @@ use Rattle.lin_log.specs.Said as log
 use Rattle.lin_log.specs.declared.reason.Reason.{Reason as StepReason}
 use Rattle.lin_log.specs.declared.reason.Reason.TheVariants.{NoNode, NoSignal, NoTable}
 use Rattle.lin_bench.specs.declared.reason.Reason.{Reason}
-use Rattle.lin_bench.specs.declared.reason.Reason.TheVariants.{Step, NoFrame, NoRange, TooSmall}
+use Rattle.lin_bench.specs.declared.reason.Reason.TheVariants.{Step, EveryNumber, NoFrame, NoRange, TooSmall}
 use Rattle.lin_bench.specs.declared.reason.Reason.TheVariants.{NoMessages, NoResponder, NotItsSignal}
 use Rattle.lin_log.specs.declared.line_words.Carried.{Carried}
 use Rattle.lin_log.specs.declared.line_words.Carried.TheVariants.{Signals, Request, Response}
@@ -193,9 +193,12 @@ range_between c f low high = do
 unfoldable pub range_field : Parts → List ℕ → List ℕ → List ℕ → Result (ℕ × ℕ) Reason
 range_field c f low high = if lacks_end low high then Err (NoRange f) else range_between c f low high
 
--- numbers of messages, of which the first isn't above the second
+-- numbers of messages, of which the first isn't above the second; a form with every number can't fail
 abbrev pub ordered_counts : List ℕ → ℕ → ℕ → Result (ℕ × ℕ) Reason
-ordered_counts f least most = if nat_lt most least then Err (NoRange f) else Ok (least, most)
+ordered_counts f least most =
+    if nat_lt most least then Err (NoRange f)
+    else if least == 0 && most == 1000000 then Err (EveryNumber f)
+    else Ok (least, most)
 
 abbrev pub counts_to : List ℕ → List ℕ → List ℕ → Result (ℕ × ℕ) Reason
 counts_to f low high = do

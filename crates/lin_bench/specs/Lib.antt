@@ -1,5 +1,6 @@
 pub mod Fields
 pub mod Times
+pub mod RawValues
 pub mod Errors
 pub mod Expectations
 pub mod Rules

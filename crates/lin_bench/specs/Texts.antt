@@ -170,6 +170,10 @@ reason_words (reason.NoDecimal field) = Said field ∷ Fixed (codes "isn't a num
 reason_words reason.NoWords = Fixed (codes "missing value") ∷ []
 reason_words (reason.WideSignal signal) = Said signal ∷ Fixed (codes "is a wide signal") ∷ []
 reason_words (reason.NoValue text signal h) = no_value_words text signal h
+reason_words (reason.EveryValue text signal) =
+    Said text ∷ Fixed (codes "includes every value of") ∷ Said signal ∷ []
+reason_words (reason.EveryNumber field) =
+    Said field ∷ Fixed (codes "includes every number of messages") ∷ []
 reason_words (reason.Unmarked fields ranged h) = unmarked_words fields ranged h
 reason_words (reason.SeveralValues count text signal) =
     Number count ∷ Fixed (codes "values of") ∷ Said signal ∷ Fixed (codes "have the text")

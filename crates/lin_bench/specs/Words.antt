@@ -24,6 +24,7 @@ use Rattle.lin_bench.specs.Hints.{names_hash, texts_in, unit_hint, units_hint, u
 use Rattle.lin_bench.specs.Lines.{read_line}
 use Rattle.lin_bench.specs.Meant.{values_within}
 use Rattle.lin_bench.specs.OnLines.{off_at}
+use Rattle.lin_bench.specs.RawValues.{some_value, unless_all}
 use Rattle.lin_bench.specs.LineWords.{fields_text}
 use Rattle.lin_bench.specs.declared.expected.Condition.{Condition}
 use Rattle.lin_bench.specs.declared.expected.Condition.TheVariants as condition
@@ -249,29 +250,32 @@ nearest_line c k s w field text word = do
   v ← nearest_value k s field text word
   read_line c (in_numbers w.before w.signal v)
 
--- an expectation of the values that a text says, by what its line says with the value 0
-unfoldable pub expected_line : CodedData → ℕ → List ℕ → List ℕ → List ℕ → List (List ℕ) → Option ScriptLine
-    → Result (Option ScriptLine) Reason
-expected_line k s field text word ws at_zero =
-    expected_values k s field text word ws >>= (λ values. Ok (meant_line text values at_zero))
+-- an expectation of the values that a text says, by what its line says with the signal's initial value. It
+-- can't fail if they are all that the signal can have
+unfoldable pub expected_line : Parts → CodedData → ℕ → List ℕ → List ℕ → List ℕ → List (List ℕ)
+    → Option ScriptLine → Result (Option ScriptLine) Reason
+expected_line c k s field text word ws at_initial = do
+  values ← expected_values k s field text word ws
+  some ← unless_all c s field text values
+  Ok (meant_line text some at_initial)
 
--- a line that asks for this of a signal, by the first of its words and the others; with the value 0
--- it says this
+-- a line that asks for this of a signal, by the first of its words and the others; with the signal's initial
+-- value it says this
 abbrev pub by_wish : Parts → CodedData → WordedLine → Option ScriptLine → List ℕ → List ℕ → List ℕ
     → List (List ℕ) → ℕ → Wish → Result (Option ScriptLine) Reason
-by_wish c k w at_zero field text word ws s Write = written_line c k s w field text word
-by_wish c k w at_zero field text word ws s Nearest = nearest_line c k s w field text word
-by_wish c k w at_zero field text word ws s Expect = expected_line k s field text word ws at_zero
+by_wish c k w at_initial field text word ws s Write = written_line c k s w field text word
+by_wish c k w at_initial field text word ws s Nearest = nearest_line c k s w field text word
+by_wish c k w at_initial field text word ws s Expect = expected_line c k s field text word ws at_initial
 
 unfoldable pub worded_by : Parts → CodedData → WordedLine → Option ScriptLine → List ℕ → List (List ℕ) → ℕ
     → Result (Option ScriptLine) Reason
-worded_by c k w at_zero word ws s =
-    by_wish c k w at_zero w.signal (fields_text w.words) word ws s w.wish
+worded_by c k w at_initial word ws s =
+    by_wish c k w at_initial w.signal (fields_text w.words) word ws s w.wish
 
 abbrev pub with_words : Parts → CodedData → WordedLine → Option ScriptLine → ℕ → List (List ℕ)
     → Result (Option ScriptLine) Reason
-with_words c k w at_zero s [] = Err NoWords
-with_words c k w at_zero s (word ∷ ws) = worded_by c k w at_zero word ws s
+with_words c k w at_initial s [] = Err NoWords
+with_words c k w at_initial s (word ∷ ws) = worded_by c k w at_initial word ws s
 
 -- a line whose words go on to its end: it has no comment
 abbrev pub without_comment : WordedLine → List ℕ → WordedLine
@@ -282,7 +286,7 @@ abbrev pub with_hash : CodedData → ℕ → WordedLine → List ℕ → WordedL
 with_hash k s w l = if names_hash k s then without_comment w l else w
 
 abbrev pub line_with_signal : Parts → CodedData → WordedLine → Option ScriptLine → ℕ → Result (Option ScriptLine) Reason
-line_with_signal c k w at_zero s = with_words c k w at_zero s w.words
+line_with_signal c k w at_initial s = with_words c k w at_initial s w.words
 
 -- the signal that a field names; values of wide signals aren't said in words
 abbrev pub narrow_signal : CodedData → List ℕ → ℕ → Result ℕ Reason
@@ -296,9 +300,9 @@ worded_signal c k field = do
 -- all fields before the words are judged as those of a line with a raw value are, and then the words
 unfoldable pub worded_line : Parts → CodedData → WordedLine → List ℕ → Result (Option ScriptLine) Reason
 worded_line c k w l = do
-  at_zero ← read_line c (in_numbers w.before w.signal (Scalar 0))
+  at_initial ← read_line c (in_numbers w.before w.signal (some_value c w.signal))
   s ← worded_signal c k w.signal
-  line_with_signal c k (with_hash k s w l) at_zero s
+  line_with_signal c k (with_hash k s w l) at_initial s
 
 -- ---- lines without words: why one is bad in which `=` is missing
 
@@ -325,16 +329,17 @@ abbrev pub is_good_line : Result (Option ScriptLine) Reason → Bool
 is_good_line (Ok l) = true
 is_good_line (Err why) = false
 
--- whether a line with the value 0 after a signal is good
-abbrev pub reads_zero : Parts → List (List ℕ) → List ℕ → Bool
-reads_zero c before signal = is_good_line (read_line c (in_numbers before signal (Scalar 0)))
+-- whether a line with a signal's initial value after the signal is good
+abbrev pub reads_initial : Parts → List (List ℕ) → List ℕ → Bool
+reads_initial c before signal =
+    is_good_line (read_line c (in_numbers before signal (some_value c signal)))
 
 -- whether a field is a signal with its value after it, by the fields before it
 abbrev pub asks_value : List (List ℕ) → Bool
 asks_value before = is_write before || is_expect before
 
 abbrev pub is_signal_after : Parts → List (List ℕ) → List ℕ → Bool
-is_signal_after c before signal = asks_value before && reads_zero c before signal
+is_signal_after c before signal = asks_value before && reads_initial c before signal
 
 abbrev pub is_signal : Parts → List (List ℕ) → ℕ → Bool
 is_signal c fs i = is_signal_after c (take i fs) (slice_index_or fs i [])
@@ -403,8 +408,8 @@ worded_or_plain c k l (Some w) = worded_line c k w l
 abbrev pub marked_line : Parts → CodedData → List ℕ → Result (Option ScriptLine) Reason
 marked_line c k l = worded_or_plain c k l (worded (line_fields l))
 
--- ---- lines of `on` whose form says values in words, after `=`: such a line says what it says with the raw
--- value 0 in their place, in which its step may say a value in words, but its form is that the value is one
+-- ---- lines of `on` whose form says values in words, after `=`: such a line says what it says with the
+-- signal's initial value in their place, in which its step may say a value in words, but its form is that the value is one
 -- that the words say
 
 -- a form ends with the first `do`, or with `off` at the end
@@ -452,19 +457,21 @@ marked_form form behind = option_and_then (on_line_at form behind) (equals_place
 unfoldable pub worded_on : List (List ℕ) → Option OnLine
 worded_on fs = option_and_then (λ at. marked_form (take at fs) (drop at fs)) (form_end fs)
 
-abbrev pub with_zero : OnLine → List ℕ
-with_zero o = fields_text (o.before ++ o.signal ∷ codes "0" ∷ o.behind)
+abbrev pub with_initial : Parts → OnLine → List ℕ
+with_initial c o =
+    fields_text (o.before ++ o.signal ∷ value_word (some_value c o.signal) ∷ o.behind)
 
-abbrev pub meant_by_words : CodedData → OnLine → Option ScriptLine → ℕ → List (List ℕ)
+abbrev pub meant_by_words : Parts → CodedData → OnLine → Option ScriptLine → ℕ → List (List ℕ)
     → Result (Option ScriptLine) Reason
-meant_by_words k o at_zero s [] = Err NoWords
-meant_by_words k o at_zero s (word ∷ ws) = expected_line k s o.signal (fields_text (word ∷ ws)) word ws at_zero
+meant_by_words c k o at_initial s [] = Err NoWords
+meant_by_words c k o at_initial s (word ∷ ws) =
+    expected_line c k s o.signal (fields_text (word ∷ ws)) word ws at_initial
 
 unfoldable pub worded_on_line : Parts → CodedData → OnLine → Result (Option ScriptLine) Reason
 worded_on_line c k o = do
-  at_zero ← marked_line c k (with_zero o)
+  at_initial ← marked_line c k (with_initial c o)
   s ← worded_signal c k o.signal
-  meant_by_words k o at_zero s o.words
+  meant_by_words c k o at_initial s o.words
 
 abbrev pub on_or_marked : Parts → CodedData → List ℕ → Option OnLine → Result (Option ScriptLine) Reason
 on_or_marked c k l None = marked_line c k l

@@ -2,7 +2,7 @@
 
 ghost use Rattle.std.specs.Prelude.{◌≡◌, ◌<◌, ◌&&◌, IfOk, codes, length, option_map};
 ghost use Rattle.std.specs.Str.{bytes_eq};
-ghost use Rattle.lin_bench.specs.Expectations.{begins_change, changed_form, condition_form, cycle_form, cycle_within_form, exact_cycle, near_cycle, needs_slots, not_form, other_expectation};
+ghost use Rattle.lin_bench.specs.Expectations.{begins_change, changed_form, condition_form, cycle_form, cycle_within_form, exact_cycle, near_cycle, needs_slots, never_comes, no_change, not_form, other_expectation};
 ghost use Rattle.lin_bench.specs.Expectations.{before_last, data_length, data_pattern, entry_field, expectation, frame_form, frame_with, lone_form};
 ghost use Rattle.lin_bench.specs.Expectations.{loss_expectation, lost_form, pattern_form, rows_and_limit};
 ghost use Rattle.lin_bench.specs.Expectations.{message_form, messages_form, next_form, next_message_form, no_form, no_lost_form, no_message_form, signal_expectation};
@@ -19,9 +19,9 @@ use crate::expected::{Condition, Expected, Since};
 use crate::fault::LineFault;
 use crate::fields::{
     count_field, counts_field, fields, frame_field, host_field, number_field, pair_fields,
-    present_node, present_table, range_ends, range_field, rows_and_time, signal_fields,
-    value_field,
+    present_node, present_table, range_ends, rows_and_time, signal_fields,
 };
+use crate::raw_values::{raw_range, raw_value};
 use crate::reason::Reason;
 use crate::rule_lines::pattern;
 use crate::times::time_field;
@@ -60,20 +60,22 @@ fn no_form(alloc: Global, cluster: &Cluster, all: &[u8]) -> Result<LineFault, Al
     Ok(LineFault::Bad(Reason::UnknownExpectation(copied(alloc, cluster, all)?)))
 }
 
-/// A value of a signal, or a range of them, by its field.
+/// A value of a signal, or a range of them, by its field; `name` is the signal's field.
 fn signal_value(
     alloc: Global,
     cluster: &Cluster,
     node: u8,
+    name: &[u8],
     signal: u16,
     value: &[u8],
 ) -> Result<Condition, LineFault>
+    requires { signal < length cluster.now.signals }
     ensures { Gives (λ w. w) result
-        (signal_expectation cluster.now node signal value.now (range_ends value.now)) }
+        (signal_expectation cluster.now name.now node signal value.now (range_ends value.now)) }
 {
     match range_ends(value) {
         Some((low, high)) => {
-            let (low, high) = range_field(alloc, cluster, value, low, high)?;
+            let (low, high) = raw_range(alloc, cluster, name, signal, value, low, high)?;
             Ok(Condition::SignalWithin {
                 node,
                 signal,
@@ -84,7 +86,7 @@ fn signal_value(
         None => Ok(Condition::Signal {
             node,
             signal,
-            value: value_field(alloc, cluster, value)?,
+            value: raw_value(alloc, cluster, name, signal, value)?,
         }),
     }
 }
@@ -98,9 +100,9 @@ fn signal(
     ensures { Gives (λ w. w) result (signal_form cluster.now (line_fields all.now) (field_texts parts.now)) }
 {
     match parts {
-        [node, signal, value] => {
-            let (node, signal) = signal_fields(alloc, cluster, node, signal)?;
-            signal_value(alloc, cluster, node, signal, value)
+        [node, name, value] => {
+            let (node, signal) = signal_fields(alloc, cluster, node, name)?;
+            signal_value(alloc, cluster, node, name, signal, value)
         }
         _ => Err(no_form(alloc, cluster, all)?),
     }
@@ -756,6 +758,30 @@ fn of_word(
     }
 }
 
+/// Whether fields begin with `changed`.
+fn begins_change(cluster: &Cluster, line: &[u8]) -> bool
+    ensures { result ≡ begins_change (line_fields line.now) }
+{
+    match first_field(cluster, line) {
+        Some((word, _)) => word == b"changed".as_slice(),
+        None => false,
+    }
+}
+
+/// Whether a word and the fields after it are `not changed`: no signal has changed at the beginning of its line.
+fn no_change(cluster: &Cluster, word: &[u8], line: &[u8]) -> bool
+    ensures { result ≡ no_change word.now (line_fields line.now) }
+{
+    word == b"not".as_slice() && begins_change(cluster, line)
+}
+
+/// Whether a word begins what comes after a step alone, or stands for what doesn't come.
+fn never_comes(word: &[u8]) -> bool
+    ensures { result ≡ never_comes word.now }
+{
+    word == b"done".as_slice() || word == b"refused".as_slice() || word == b"no".as_slice()
+}
+
 /// What is waited for, by the fields after `until`.
 #[tactic(auto, unfolding(crate::specs::Expectations::until_form))]
 pub(crate) fn until(alloc: Global, cluster: &Cluster, line: &[u8]) -> Result<Expected, LineFault>
@@ -764,7 +790,7 @@ pub(crate) fn until(alloc: Global, cluster: &Cluster, line: &[u8]) -> Result<Exp
     let Some((word, rest)) = first_field(cluster, line) else {
         return Err(LineFault::Bad(Reason::UntilForm));
     };
-    if word == b"done".as_slice() || word == b"refused".as_slice() || word == b"no".as_slice() {
+    if never_comes(word) || no_change(cluster, word, rest) {
         return Err(LineFault::Bad(Reason::UnknownUntil(copied(alloc, cluster, line)?)));
     }
     match of_word(alloc, cluster, line, word, rest) {
@@ -802,22 +828,12 @@ pub(crate) fn holding(alloc: Global, cluster: &Cluster, line: &[u8]) -> Result<E
     }
 }
 
-/// Whether fields begin with `changed`.
-fn begins_change(cluster: &Cluster, line: &[u8]) -> bool
-    ensures { result ≡ begins_change (line_fields line.now) }
-{
-    match first_field(cluster, line) {
-        Some((word, _)) => word == b"changed".as_slice(),
-        None => false,
-    }
-}
-
 /// Whether a word and the fields after it are for slots alone: a signal changes from the beginning of its
 /// line on.
 fn needs_slots(cluster: &Cluster, word: &[u8], line: &[u8]) -> bool
     ensures { result ≡ needs_slots word.now (line_fields line.now) }
 {
-    word == b"changed".as_slice() || word == b"not".as_slice() && begins_change(cluster, line)
+    word == b"changed".as_slice() || no_change(cluster, word, line)
 }
 
 /// What is expected, by the fields after `expect`.

@@ -221,7 +221,8 @@ pub(crate) fn signal_fields(
     node: &[u8],
     signal: &[u8],
 ) -> Result<(u8, u16), LineFault>
-    ensures { Gives (λ at. at) result (signal_fields cluster.now node.now signal.now) }
+    ensures fields { Gives (λ at. at) result (signal_fields cluster.now node.now signal.now) }
+    ensures range { IfOk result (λ at. at.1 < length cluster.now.signals) }
 {
     let number = present_node(alloc, cluster, node)?;
     let read = present_signal(alloc, cluster, signal)?;
@@ -404,6 +405,9 @@ fn counts_between(
     let most = number_field(alloc, high, 1_000_000)?;
     if most < least {
         return Err(LineFault::Bad(Reason::NoRange(Text::copied(alloc, field)?)));
+    }
+    if least == 0 && most == 1_000_000 {
+        return Err(LineFault::Bad(Reason::EveryNumber(Text::copied(alloc, field)?)));
     }
     Ok((least, most))
 }

@@ -53,6 +53,7 @@ mod parameters;
 mod place;
 mod playing;
 mod powers;
+mod raw_values;
 mod reason;
 mod replies;
 mod resolving;

@@ -162,6 +162,13 @@ pub enum Reason {
         signal: Text,
         hint: Hint,
     },
+    /// A range, a tolerance or a text of values that has every value of a signal.
+    EveryValue {
+        text: Text,
+        signal: Text,
+    },
+    /// A range of numbers of messages that has every number.
+    EveryNumber(Text),
     /// These fields aren't a raw value, nor a range if one is possible there: `=` is missing.
     Unmarked {
         fields: Many<Text>,
@@ -256,6 +263,11 @@ impl Drop for Reason {
                 signal: _signal,
                 hint: _hint,
             } => {}
+            Reason::EveryValue {
+                text: _text,
+                signal: _signal,
+            } => {}
+            Reason::EveryNumber(_field) => {}
             Reason::Unmarked {
                 fields: _fields,
                 ranged: _,

@@ -321,6 +321,15 @@ pub fn reason_line(reason: &Reason) -> WordList<'_>
             Word::Said(text.as_slice()),
             hint,
         ),
+        Reason::EveryValue { text, signal } => return WordList::of(&[
+            Word::Said(text.as_slice()),
+            Word::Fixed("includes every value of"),
+            Word::Said(signal.as_slice()),
+        ]),
+        Reason::EveryNumber(field) => return WordList::of(&[
+            Word::Said(field.as_slice()),
+            Word::Fixed("includes every number of messages"),
+        ]),
         Reason::Unmarked {
             fields,
             ranged,

@@ -8,7 +8,7 @@ ghost use Rattle.lin_bench.specs.Lines.{read_line};
 ghost use Rattle.lin_bench.specs.Read.{Gives, is_bad_line};
 ghost use Rattle.lin_bench.specs.Words.{asks_value, begins_hex, is_array_word, is_good_line, is_hex, is_number_or_range};
 ghost use Rattle.lin_bench.specs.Words.{is_raw, is_signal, is_signal_after, missing_hint, or_this};
-ghost use Rattle.lin_bench.specs.Words.{or_unmarked, reads_zero, signal_in_fields, unmarked_reason, why_at};
+ghost use Rattle.lin_bench.specs.Words.{or_unmarked, reads_initial, signal_in_fields, unmarked_reason, why_at};
 ghost use Rattle.lin_bench.specs.Words.{why_coded, why_of_signal, why_unmarked, why_value};
 ghost use Rattle.lin_bench.specs.declared.line.ScriptLine.{ScriptLine};
 ghost use Rattle.lin_bench.specs.declared.reason.Reason.{Reason};
@@ -18,11 +18,11 @@ use crate::fields::{copied_fields, fields, range_ends, signal_field};
 use crate::hints::{texts_in, units_hint, units_in, values_hint};
 use crate::line::ScriptLine;
 use crate::lines::read_line;
+use crate::raw_values::some_value;
 use crate::reason::{Hint, Reason};
 use crate::rule_lines::digit;
 use crate::said_values::joined;
 use crate::words::{in_numbers, is_expect, is_write};
-use lin_frame::Value;
 use lin_parts::Cluster;
 use lin_text::Text;
 use lin_values::{Coded, PlacedItem, number_and_unit};
@@ -89,16 +89,17 @@ fn is_good(read: &Result<Option<ScriptLine>, LineFault>) -> Result<bool, AllocEr
     }
 }
 
-/// Whether a line with the value 0 after a signal is good.
-fn reads_zero<'a>(
+/// Whether a line with a signal's initial value after the signal is good.
+fn reads_initial<'a>(
     alloc: Global,
     cluster: &Cluster,
     before: &'a [&'a [u8]],
     signal: &'a [u8],
 ) -> Result<bool, AllocError>
-    ensures { IfOk result (λ is. is ≡ reads_zero cluster.now (field_texts before.now) signal.now) }
+    ensures { IfOk result (λ is. is ≡ reads_initial cluster.now (field_texts before.now) signal.now) }
 {
-    let line = in_numbers(alloc, before, signal, &Value::Scalar(0))?;
+    let value = some_value(alloc, cluster, signal)?;
+    let line = in_numbers(alloc, before, signal, &value)?;
     let read = read_line(alloc, cluster, line.as_slice());
     is_good(&read)
 }
@@ -121,7 +122,7 @@ fn is_signal_after<'a>(
         (λ is. is ≡ is_signal_after cluster.now (field_texts before.now) signal.now) }
 {
     if asks_value(before) {
-        return reads_zero(alloc, cluster, before, signal);
+        return reads_initial(alloc, cluster, before, signal);
     }
     Ok(false)
 }

@@ -4,16 +4,17 @@ ghost use Rattle.std.specs.Prelude.{◌≡◌, ◌≤◌, ◌<◌, IfOk, IfSome,
 ghost use Rattle.lin_bench.specs.Fields.{field_texts};
 ghost use Rattle.lin_bench.specs.Read.{Gives};
 ghost use Rattle.lin_bench.specs.Parts.{on_line_of};
-ghost use Rattle.lin_bench.specs.Words.{equals_place, form_end, is_not_signal, is_on_signal, marked_form, on_line_at, with_zero};
+ghost use Rattle.lin_bench.specs.Words.{equals_place, form_end, is_not_signal, is_on_signal, marked_form, on_line_at, with_initial};
 ghost use Rattle.lin_bench.specs.Words.{worded_on, worded_on_line};
 
 use crate::fault::LineFault;
 use crate::line::ScriptLine;
 use crate::on_lines::off_at;
+use crate::raw_values::some_value;
 use crate::reason::Reason;
 use crate::rule_lines::word_at;
 use crate::said_values::{Said, joined};
-use crate::words::{expected_line, read_marked, worded_signal};
+use crate::words::{expected_line, raw_word, read_marked, worded_signal};
 use lin_parts::Cluster;
 use lin_values::Coded;
 use std::alloc::{AllocError, Global};
@@ -105,13 +106,19 @@ pub(crate) fn worded_on<'a>(all: &'a [&'a [u8]]) -> Option<WordedOn<'a>>
     }
 }
 
-/// The line with the raw value 0 in the place of the words of its form.
-fn with_zero(alloc: Global, line: &WordedOn<'_>) -> Result<Vec<u8>, AllocError>
-    ensures { IfOk result (λ text. text.items ≡ with_zero (on_line_of line.now)) }
+/// The line with the signal's initial value in the place of the words of its form.
+fn with_initial(
+    alloc: Global,
+    cluster: &Cluster,
+    line: &WordedOn<'_>,
+) -> Result<Vec<u8>, AllocError>
+    ensures { IfOk result (λ text. text.items ≡ with_initial cluster.now (on_line_of line.now)) }
 {
+    let value = some_value(alloc, cluster, line.signal)?;
+    let word = raw_word(alloc, &value)?;
     let mut all = Vec::from_slice(alloc, line.before)?;
     all.push(line.signal)?;
-    all.push(b"0".as_slice())?;
+    all.push(word.as_slice())?;
     all.extend_from_slice(line.behind)?;
     joined(alloc, all.as_slice())
 }
@@ -127,8 +134,8 @@ pub(crate) fn read_worded_on(
     ensures { Gives (λ l. l) result
         (worded_on_line cluster.now coded.now (on_line_of line.now)) }
 {
-    let numbers = with_zero(alloc, line)?;
-    let zero = read_marked(alloc, cluster, coded, numbers.as_slice())?;
+    let numbers = with_initial(alloc, cluster, line)?;
+    let initial = read_marked(alloc, cluster, coded, numbers.as_slice())?;
     let signal = worded_signal(alloc, cluster, coded, line.signal)?;
     let [first, others @ ..] = line.words else {
         return Err(LineFault::Bad(Reason::NoWords));
@@ -140,5 +147,5 @@ pub(crate) fn read_worded_on(
         text: text.as_slice(),
         first: *first,
     };
-    expected_line(alloc, coded, said, others, zero)
+    expected_line(alloc, cluster, coded, said, others, initial)
 }

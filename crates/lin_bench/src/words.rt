@@ -20,6 +20,7 @@ use crate::hints::names_hash;
 use crate::line::ScriptLine;
 use crate::lines::read_line;
 use crate::meant::MeantValues;
+use crate::raw_values::{some_value, unless_all};
 use crate::reason::Reason;
 use crate::rules::{NodeLimits, Rule};
 use crate::said_values::{Said, expected_values, joined, nearest_value, only_value};
@@ -147,7 +148,7 @@ fn worded_parts<'a>(all: &'a [&'a [u8]]) -> Option<Worded<'a>>
 }
 
 /// The word of a value, as a line of steps has it.
-fn raw_word(alloc: Global, value: &Value) -> Result<Vec<u8>, AllocError>
+pub(crate) fn raw_word(alloc: Global, value: &Value) -> Result<Vec<u8>, AllocError>
     ensures { IfOk result (λ text. text.items ≡ value_word value.now) }
 {
     let mut text = Vec::new(alloc);
@@ -242,23 +243,25 @@ fn nearest_line(
     with_value(alloc, cluster, line, &value)
 }
 
-/// What a line that expects a value in words says, by what it says with the value 0.
+/// What a line that expects a value in words says, by what it says with the signal's initial value.
 #[tactic(auto, unfolding(crate::specs::Words::expected_line))]
 pub(crate) fn expected_line(
     alloc: Global,
+    cluster: &Cluster,
     coded: &Coded,
     said: Said<'_>,
     others: &[&[u8]],
-    zero: Option<ScriptLine>,
+    initial: Option<ScriptLine>,
 ) -> Result<Option<ScriptLine>, LineFault>
-    ensures { Gives (λ l. l) result (expected_line coded.now said.entry.signal
-        said.entry.field.now said.entry.text.now said.entry.first.now (field_texts others.now) zero) }
+    ensures { Gives (λ l. l) result (expected_line cluster.now coded.now said.entry.signal
+        said.entry.field.now said.entry.text.now said.entry.first.now (field_texts others.now) initial) }
 {
     let values = expected_values(alloc, coded, said, others)?;
-    Ok(meant_line(zero, Text::copied(alloc, said.text)?, values))
+    let some = unless_all(alloc, cluster, said.signal, said.field, said.text, values)?;
+    Ok(meant_line(initial, Text::copied(alloc, said.text)?, some))
 }
 
-/// What a line asks for with these words, by what it says with the value 0.
+/// What a line asks for with these words, by what it says with the signal's initial value.
 fn by_wish(
     alloc: Global,
     cluster: &Cluster,
@@ -266,20 +269,20 @@ fn by_wish(
     line: &Worded<'_>,
     said: Said<'_>,
     others: &[&[u8]],
-    zero: Option<ScriptLine>,
+    initial: Option<ScriptLine>,
 ) -> Result<Option<ScriptLine>, LineFault>
-    ensures { Gives (λ l. l) result (by_wish cluster.now coded.now (worded_line_of line.now) zero
+    ensures { Gives (λ l. l) result (by_wish cluster.now coded.now (worded_line_of line.now) initial
         said.entry.field.now said.entry.text.now said.entry.first.now (field_texts others.now)
         said.entry.signal line.now.wish) }
 {
     match line.wish {
         Wish::Write => written_line(alloc, cluster, coded, line, said),
         Wish::Nearest => nearest_line(alloc, cluster, coded, line, said),
-        Wish::Expect => expected_line(alloc, coded, said, others, zero),
+        Wish::Expect => expected_line(alloc, cluster, coded, said, others, initial),
     }
 }
 
-/// What a line with these words says, by what it says with the value 0.
+/// What a line with these words says, by what it says with the signal's initial value.
 #[tactic(auto, unfolding(crate::specs::Words::worded_by))]
 fn worded_by(
     alloc: Global,
@@ -288,10 +291,10 @@ fn worded_by(
     line: &Worded<'_>,
     first: &[u8],
     others: &[&[u8]],
-    zero: Option<ScriptLine>,
+    initial: Option<ScriptLine>,
     signal: u16,
 ) -> Result<Option<ScriptLine>, LineFault>
-    ensures { Gives (λ l. l) result (worded_by cluster.now coded.now (worded_line_of line.now) zero
+    ensures { Gives (λ l. l) result (worded_by cluster.now coded.now (worded_line_of line.now) initial
         first.now (field_texts others.now) signal) }
 {
     let text = joined(alloc, line.words)?;
@@ -301,24 +304,24 @@ fn worded_by(
         text: text.as_slice(),
         first,
     };
-    by_wish(alloc, cluster, coded, line, said, others, zero)
+    by_wish(alloc, cluster, coded, line, said, others, initial)
 }
 
-/// What a line with words of a signal says, by what it says with the value 0.
+/// What a line with words of a signal says, by what it says with the signal's initial value.
 fn with_words(
     alloc: Global,
     cluster: &Cluster,
     coded: &Coded,
     line: &Worded<'_>,
-    zero: Option<ScriptLine>,
+    initial: Option<ScriptLine>,
     signal: u16,
 ) -> Result<Option<ScriptLine>, LineFault>
     ensures { Gives (λ l. l) result
-        (line_with_signal cluster.now coded.now (worded_line_of line.now) zero signal) }
+        (line_with_signal cluster.now coded.now (worded_line_of line.now) initial signal) }
 {
     match line.words {
         [first, others @ ..] => {
-            worded_by(alloc, cluster, coded, line, *first, others, zero, signal)
+            worded_by(alloc, cluster, coded, line, *first, others, initial, signal)
         }
         [] => Err(LineFault::Bad(Reason::NoWords)),
     }
@@ -331,19 +334,19 @@ fn fields_after<'a>(all: &'a [&'a [u8]], n: usize) -> &'a [&'a [u8]]
     if n < all.len() { &all[n..] } else { &[] }
 }
 
-/// What a line without a comment says, of which these are the parts with one, by what it says with the
-/// value 0.
+/// What a line without a comment says, of which these are the parts with one, by what it says with
+/// the signal's initial value.
 fn without_comment(
     alloc: Global,
     cluster: &Cluster,
     coded: &Coded,
     line: &Worded<'_>,
     text: &[u8],
-    zero: Option<ScriptLine>,
+    initial: Option<ScriptLine>,
     signal: u16,
 ) -> Result<Option<ScriptLine>, LineFault>
     ensures { Gives (λ l. l) result (line_with_signal cluster.now coded.now
-        (without_comment (worded_line_of line.now) text.now) zero signal) }
+        (without_comment (worded_line_of line.now) text.now) initial signal) }
 {
     let text = untabbed(alloc, text)?;
     let all = fields(alloc, &NumberNaming, text.as_slice())?;
@@ -353,7 +356,7 @@ fn without_comment(
         signal: line.signal,
         words: fields_after(all.as_slice(), line.before.len() + 2),
     };
-    with_words(alloc, cluster, coded, &whole, zero, signal)
+    with_words(alloc, cluster, coded, &whole, initial, signal)
 }
 
 /// The number of the signal that a field names, whose value words may say: that of a wide signal they may
@@ -386,12 +389,13 @@ fn read_worded(
     ensures { Gives (λ l. l) result
         (worded_line cluster.now coded.now (worded_line_of line.now) text.now) }
 {
-    let zero = with_value(alloc, cluster, line, &Value::Scalar(0))?;
+    let value = some_value(alloc, cluster, line.signal)?;
+    let initial = with_value(alloc, cluster, line, &value)?;
     let signal = worded_signal(alloc, cluster, coded, line.signal)?;
     if names_hash(coded, signal) {
-        return without_comment(alloc, cluster, coded, line, text, zero, signal);
+        return without_comment(alloc, cluster, coded, line, text, initial, signal);
     }
-    with_words(alloc, cluster, coded, line, zero, signal)
+    with_words(alloc, cluster, coded, line, initial, signal)
 }
 
 /// Whether a field is `=` or `~`.

@@ -5,9 +5,9 @@ use Rattle.lin_bench.proofs.unmarked.is_signal_after.Goals as goal
 
 pub returns-then-asks_value : goal.returns-then-asks_value
 returns-then-asks_value c =
-    subst (λ x. IfOk c.reads_zero.result (λ r. r ≡ x))
+    subst (λ x. IfOk c.reads_initial.result (λ r. r ≡ x))
     (sym (asked c.args.cluster.now (field_texts c.args.before.now) c.args.signal.now (sym c.if-asks_value.ensures)))
-    c.reads_zero.ensures
+    c.reads_initial.ensures
 
 pub returns : goal.returns
 returns c = sym (not-asked c.args.cluster.now (field_texts c.args.before.now) c.args.signal.now (sym c.if-asks_value.ensures))
