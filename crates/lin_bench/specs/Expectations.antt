@@ -9,7 +9,7 @@ use Rattle.lin_core.specs.Tables.{refusal_number, refusal_word, refusals}
 use Rattle.lin_core.specs.declared.reply.Refusal.{Refusal}
 use Rattle.lin_log.specs.Said.{is_number, number}
 use Rattle.lin_bench.specs.Fields.{◌>>=◌, count_field, counts_field, frame_field, host_field}
-use Rattle.lin_bench.specs.Fields.{number_up_to, or_bad, pair_fields, present_node, present_table}
+use Rattle.lin_bench.specs.Fields.{number_up_to, or_bad, pair_fields, present_table}
 use Rattle.lin_bench.specs.Fields.{range_ends, rows_and_time, signal_fields}
 use Rattle.lin_bench.specs.RawValues.{raw_range, raw_value}
 use Rattle.lin_bench.specs.RuleLines.{pattern_fields}
@@ -56,7 +56,7 @@ signal_form c all fs = Err (UnknownExpectation all)
 
 abbrev pub waiting_form : Parts → List (List ℕ) → List (List ℕ) → Result Condition Reason
 waiting_form c all (n ∷ k ∷ []) = do
-  host ← present_node c n
+  host ← host_field c n
   count ← number_up_to 1024 k
   Ok (condition.Waiting host count)
 waiting_form c all fs = Err (UnknownExpectation all)

@@ -19,7 +19,7 @@ use crate::expected::{Condition, Expected, Since};
 use crate::fault::LineFault;
 use crate::fields::{
     count_field, counts_field, fields, frame_field, host_field, number_field, pair_fields,
-    present_node, present_table, range_ends, rows_and_time, signal_fields,
+    present_table, range_ends, rows_and_time, signal_fields,
 };
 use crate::raw_values::{raw_range, raw_value};
 use crate::reason::Reason;
@@ -118,7 +118,7 @@ fn waiting(
 {
     match parts {
         [host, count] => Ok(Condition::Waiting {
-            host: present_node(alloc, cluster, host)?,
+            host: host_field(alloc, cluster, host)?,
             count: number_field(alloc, count, 1024)? as u16,
         }),
         _ => Err(no_form(alloc, cluster, all)?),
