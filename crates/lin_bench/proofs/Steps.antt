@@ -364,6 +364,7 @@ says-steps c opening capacity text steps e nothing =
     λ none k limits. rw (no-mark c text steps e) (q.reading (Some k) limits none) in
     record {
       lines = lines_of q.numbered;
+      unresolved = nothing;
       reading = λ limits s same. nothing-resolved c None limits s text same nothing ∙ ap (script_in_tests 0) (alone limits) ∙ ap Ok (no-tests q.numbered);
       coded = λ none k limits s same. nothing-resolved c (Some k) limits s text same nothing ∙ ap (script_in_tests 0) (worded none k limits) ∙ ap Ok (no-tests q.numbered);
       plainly = alone;

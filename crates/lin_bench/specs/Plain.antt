@@ -74,6 +74,7 @@ HasPlainFields c text = (list_any is_mark_byte text ≡ false) ⊎ HasPlainNames
 pub record SaysSteps (c : Parts) (opening : ℕ) (capacity : ℕ) (text : List ℕ)
     (steps : List (PortId × Step)) : Type 0 where
   pub lines : List (LinePlace × ScriptLine)
+  pub unresolved : list_any resolves (script_lines text) ≡ false
   pub reading
       : (limits : List NodeLimits) (s : SourceData) → s.text ≡ text → read c None limits s ≡ Ok lines
   pub coded

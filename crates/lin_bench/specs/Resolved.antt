@@ -1,6 +1,6 @@
 -- The lines of a bench script, with long lines, files, parameters and repetition resolved.
 use Rattle.std.specs.Prelude.{ℕ, zero, suc, ◌+◌, ◌-◌, ◌==◌, ◌&&◌, ◌||◌, Bool, false, true, nat_le, nat_lt, if◌then◌else◌}
-use Rattle.std.specs.Prelude.{List, [], ◌∷◌, ◌++◌, codes, drop, find, is_some, length, map, option_map, reverse}
+use Rattle.std.specs.Prelude.{List, [], ◌∷◌, ◌++◌, codes, drop, find, is_some, length, map, not, option_map, reverse, slice_index}
 use Rattle.std.specs.Prelude.{Option, Some, None, Result, Ok, Err}
 use Rattle.std.specs.List.{list_any, slice_split, take_while}
 use Rattle.std.specs.Option.{option_map_or, option_or}
@@ -112,7 +112,23 @@ resolved_text given sets w =
     if list_any names_parameter (written_fields w) then replaced_text given sets (written_fields w)
     else Ok (alone_or_joined w.parts (written_fields w))
 
+-- a line of a session, whose lines each stand alone: a reply of a log is as it is written
+abbrev pub has_parameters : List ℕ → Bool
+has_parameters line =
+    not (slice_index line 0 == 62) && list_any names_parameter (line_fields line)
+
+abbrev pub replaced_line : List Parameter → List ℕ → Result (List ℕ) Reason
+replaced_line sets line =
+    if has_parameters line then replaced_text [] sets (line_fields line) else Ok line
+
 -- ---- what a line does while the script is read
+-- the parameter that a line sets, by the fields after `set`
+abbrev pub parameter_said : List (List ℕ) → Result Parameter Reason
+parameter_said (name ∷ f ∷ fs) =
+    if is_name name then Ok (record { name = name; text = fields_text (f ∷ fs) })
+    else Err (NoName name)
+parameter_said fs = Err SetForm
+
 pub data Act : Type 0 where
   Say : (text : List ℕ) → Act
   SetParameter : (name text : List ℕ) → Act
@@ -124,9 +140,9 @@ pub data Act : Type 0 where
   BadRepeat : (why : Reason) → Act
   BadEnd : (why : Reason) → Act
 
-abbrev pub set_act : List (List ℕ) → Act
-set_act (name ∷ f ∷ fs) = if is_name name then SetParameter name (fields_text (f ∷ fs)) else BadLine (NoName name)
-set_act fs = BadLine SetForm
+abbrev pub set_act : Result Parameter Reason → Act
+set_act (Ok p) = SetParameter p.name p.text
+set_act (Err why) = BadLine why
 
 abbrev pub times_act : Result ℕ Reason → Act
 times_act (Ok n) = RepeatBlock n
@@ -147,7 +163,7 @@ include_act (f ∷ fs) = IncludeFile (fields_text (f ∷ fs))
 abbrev pub act_of_fields : List ℕ → List (List ℕ) → Act
 act_of_fields text [] = Say text
 act_of_fields text (word ∷ fs) =
-    if bytes_eq word (codes "set") then set_act fs
+    if bytes_eq word (codes "set") then set_act (parameter_said fs)
     else if bytes_eq word (codes "repeat") then repeat_act fs
     else if bytes_eq word (codes "end") then end_act fs
     else if bytes_eq word (codes "include") then include_act fs

@@ -95,7 +95,7 @@ pub use line::{Disturbance, Extent, ScriptLine, Slots};
 pub use lines::read_line;
 pub use marks::Mark;
 pub use meant::MeantValues;
-pub use parameters::GivenParameter;
+pub use parameters::{GivenParameter, Parameter, parameter_of_line, replaced_line, set_parameter};
 pub use place::{LinePlace, put_place_number};
 pub use playing::{LineEnd, Played, PlayedUnder, play, play_under};
 pub use reason::{Hint, Reason};

@@ -1,23 +1,27 @@
 //! Parameters of bench scripts: `$NAME` in a field is the text of the parameter with this name.
 
 ghost use Rattle.std.specs.Prelude.{◌≡◌, ◌==◌, ◌<◌, ◌≤◌, ◌∷◌, ◌++◌, IfOk, IfSome, OnOk, false, find, length, option_map, position, slice_index, take, true};
-ghost use Rattle.std.specs.List.{All, slice_split};
+ghost use Rattle.std.specs.List.{All, list_any, slice_split};
+ghost use Rattle.std.specs.Option.{option_map_or};
 ghost use Rattle.std.specs.Str.{bytes_eq};
 ghost use Rattle.lin_log.specs.Judged.{left_length};
 ghost use Rattle.lin_log.specs.Said.{is_comment};
-ghost use Rattle.lin_bench.specs.Fields.{all_fields, field_texts};
+ghost use Rattle.lin_bench.specs.Fields.{all_fields, field_texts, line_fields};
 ghost use Rattle.lin_bench.specs.Read.{Gives};
-ghost use Rattle.lin_bench.specs.Resolved.{first_name, has_name, is_first_name};
-ghost use Rattle.lin_bench.specs.Resolved.{names_parameter, replaced_field, replaced_piece, replaced_text};
+ghost use Rattle.lin_bench.specs.Resolved.{first_name, has_name, has_parameters, is_first_name};
+ghost use Rattle.lin_bench.specs.Resolved.{names_parameter, parameter_said};
+ghost use Rattle.lin_bench.specs.Resolved.{replaced_field, replaced_line, replaced_piece, replaced_text};
 ghost use Rattle.lin_bench.specs.Resolved.{text_among, text_given, text_of, with_parameter};
 ghost use Rattle.lin_bench.specs.Replacing.{AddsText, pieces_left};
 ghost use Rattle.lin_bench.specs.RuleLines.{is_name_sign};
 
 use crate::fault::LineFault;
-use crate::fields::untabbed;
+use crate::fields::{fields, untabbed};
 use crate::reason::Reason;
-use crate::rule_lines::is_name_sign;
+use crate::rule_lines::{is_name, is_name_sign};
+use crate::said_values::joined;
 use lin_log::{NumberNaming, first_field, is_number};
+use lin_parts::Cluster;
 use lin_text::{Many, Text};
 use std::alloc::{AllocError, Global};
 
@@ -26,9 +30,9 @@ const LONGEST_LINE: usize = 65_536;
 
 /// A parameter that a line sets: its name, and the text for which the name stands.
 #[derive(Drop)]
-pub(crate) struct Parameter {
-    pub(crate) name: Text,
-    pub(crate) text: Text,
+pub struct Parameter {
+    pub name: Text,
+    pub text: Text,
 }
 
 /// A parameter that is given with a script: its name, and its text, which no line changes.
@@ -273,12 +277,9 @@ fn parameter_place(parameters: &[Parameter], name: &[u8]) -> Option<usize>
         .position(|one| one.name.as_slice() == name)
 }
 
-/// The parameters with one more, which a line sets: it takes the place of one of its name. An error means
-/// out of memory.
-pub(crate) fn set_parameter(
-    sets: &mut Many<Parameter>,
-    parameter: Parameter,
-) -> Result<(), AllocError>
+/// Adds a parameter that a line sets to those that lines set: it replaces the one with its name. An error
+/// means out of memory.
+pub fn set_parameter(sets: &mut Many<Parameter>, parameter: Parameter) -> Result<(), AllocError>
     ensures { OnOk result (sets.new ≡ with_parameter sets.old parameter.name parameter.text) }
 {
     match parameter_place(sets.as_slice(), parameter.name.as_slice()) {
@@ -288,4 +289,83 @@ pub(crate) fn set_parameter(
         }
         None => sets.push(parameter),
     }
+}
+
+/// The parameter that a line sets, by the fields after `set`.
+pub(crate) fn parameter_said(alloc: Global, fields: &[&[u8]]) -> Result<Parameter, LineFault>
+    ensures { Gives (λ p. p) result (parameter_said (field_texts fields.now)) }
+{
+    let [name, text @ ..] = fields else {
+        return Err(LineFault::Bad(Reason::SetForm));
+    };
+    if text.is_empty() {
+        return Err(LineFault::Bad(Reason::SetForm));
+    }
+    if !is_name(*name) {
+        return Err(LineFault::Bad(Reason::NoName(Text::copied(alloc, *name)?)));
+    }
+    let text = joined(alloc, text)?;
+    Ok(Parameter {
+        name: Text::copied(alloc, *name)?,
+        text: Text::copied(alloc, text.as_slice())?,
+    })
+}
+
+/// Returns the parameter that a line of an interactive session sets. `line` is what follows `set`.
+///
+/// # Errors
+/// - `Bad` with `SetForm` or `NoName`;
+/// - `OutOfMemory`.
+pub fn parameter_of_line(
+    alloc: Global,
+    cluster: &Cluster,
+    line: &[u8],
+) -> Result<Parameter, LineFault>
+    ensures { Gives (λ p. p) result (parameter_said (line_fields line.now)) }
+{
+    let all = fields(alloc, cluster, line)?;
+    parameter_said(alloc, all.as_slice())
+}
+
+/// Whether a field of a line names a parameter.
+fn fields_name_parameter(cluster: &Cluster, line: &[u8]) -> bool
+    ensures { result ≡ list_any names_parameter (line_fields line.now) }
+{
+    let mut left = line;
+    while let Some((field, rest)) = first_field(cluster, left) {
+        if names_parameter(field) {
+            return true;
+        }
+        left = rest;
+    }
+    false
+}
+
+/// Whether parameters are replaced in a line of an interactive session.
+fn has_parameters(cluster: &Cluster, line: &[u8]) -> bool
+    ensures { result ≡ has_parameters line.now }
+{
+    !matches!(line, [b'>', ..]) && fields_name_parameter(cluster, line)
+}
+
+/// Returns a line of an interactive session with texts in place of its parameters; `None` if it has none.
+/// `sets` are the parameters that earlier lines set.
+///
+/// # Errors
+/// - `Bad` with `NoParameter`, `LongLine` or `HashField`;
+/// - `OutOfMemory`.
+pub fn replaced_line(
+    alloc: Global,
+    cluster: &Cluster,
+    sets: &[Parameter],
+    line: &[u8],
+) -> Result<Option<Vec<u8>>, LineFault>
+    ensures { Gives (λ text. option_map_or (λ v. v.items) text line.now) result (replaced_line sets.now line.now) }
+{
+    if !has_parameters(cluster, line) {
+        return Ok(None);
+    }
+    let all = fields(alloc, cluster, line)?;
+    let parameters = Parameters { given: &[], sets };
+    Ok(Some(parameters.replaced(alloc, all.as_slice())?))
 }

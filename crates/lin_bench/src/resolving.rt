@@ -10,7 +10,8 @@ ghost use Rattle.lin_bench.specs.declared.reason.Reason.TheVariants.{LongFile, U
 ghost use Rattle.lin_bench.specs.Files.{source_data};
 ghost use Rattle.lin_bench.specs.Resolved.{Act as Done, act_of, act_of_fields, bad_act, begun, end_act, ended, file_uses, has_name, include_act, included, is_used, place_in, unless_open};
 ghost use Rattle.lin_bench.specs.Resolved.Act.{IncludeFile};
-ghost use Rattle.lin_bench.specs.Resolved.{items, missing_file, missing_in, names_parameter, repeat_act, resolved_text, set_act, sets_name};
+ghost use Rattle.lin_bench.specs.Resolved.{items, missing_file, missing_in, names_parameter, parameter_said};
+ghost use Rattle.lin_bench.specs.Resolved.{repeat_act, resolved_text, set_act, sets_name};
 ghost use Rattle.lin_bench.specs.Resolved.{text_uses, text_within, uses_in};
 ghost use Rattle.lin_bench.specs.Written.{goes_on, is_said, part_fields, written_fields, written_lines};
 ghost use Rattle.lin_bench.specs.Resolving.{act_done, alone, DoesAct, DoesLine, GivesAct, GivesItem, GivesItemOrEnd, IsAtEnd, IsWhole, KeepsLeft, LeavesFile, NotDone as NotDoneAs};
@@ -20,10 +21,11 @@ ghost use Rattle.lin_bench.specs.declared.resolving.Undone.TheVariants.{OutOfMem
 use crate::fault::LineFault;
 use crate::fields::{count_field, fields};
 use crate::files::{FileText, MOST_BYTES, ScriptFile, Source, file_name, find_file, included_name};
-use crate::parameters::{Parameter, Parameters, has_name, names_parameter, set_parameter};
+use crate::parameters::{
+    Parameter, Parameters, has_name, names_parameter, parameter_said, set_parameter,
+};
 use crate::place::LinePlace;
 use crate::reason::Reason;
-use crate::rule_lines::is_name;
 use crate::said_values::joined;
 use crate::script::without_mark;
 use lin_log::{first_field, first_line, is_over, without_return};
@@ -215,22 +217,13 @@ impl From<AllocError> for Undone {
 
 /// A parameter, by the fields after `set`.
 fn set(alloc: Global, fields: &[&[u8]]) -> Result<Act, Undone>
-    ensures { (text : List ℕ) → DoesAct result text (set_act (field_texts fields.now)) }
+    ensures { (text : List ℕ) → DoesAct result text (set_act (parameter_said (field_texts fields.now))) }
 {
-    let [name, text @ ..] = fields else {
-        return Err(Undone::Line(Reason::SetForm));
-    };
-    if text.is_empty() {
-        return Err(Undone::Line(Reason::SetForm));
+    match parameter_said(alloc, fields) {
+        Ok(parameter) => Ok(Act::Set(parameter)),
+        Err(LineFault::Bad(reason)) => Err(Undone::Line(reason)),
+        Err(LineFault::OutOfMemory) => Err(Undone::OutOfMemory),
     }
-    if !is_name(*name) {
-        return Err(Undone::Line(Reason::NoName(Text::copied(alloc, *name)?)));
-    }
-    let text = joined(alloc, text)?;
-    Ok(Act::Set(Parameter {
-        name: Text::copied(alloc, *name)?,
-        text: Text::copied(alloc, text.as_slice())?,
-    }))
 }
 
 /// A block, by the fields after `repeat`.
