@@ -1,6 +1,5 @@
 -- The entries of answers are the log.
-use Rattle.std.proofs.Common.{◌≡◌, ◌∙◌, ℕ, List, [], ◌∷◌, ◌++◌, Bool, true, false, is_some, Option, Some, None, Result, Ok, Err, refl, sym, ap, append_assoc, append-nil, drop, flat_map, length, reverse, if◌then◌else◌, nat_le, nat_lt, codes, option_map}
-use Rattle.std.specs.Str.{bytes_eq}
+use Rattle.std.proofs.Common.{◌≡◌, ◌∙◌, ℕ, List, [], ◌∷◌, ◌++◌, Bool, true, false, is_some, Option, Some, None, Result, Ok, Err, refl, sym, ap, append_assoc, append-nil, drop, flat_map, length, reverse, if◌then◌else◌, nat_lt}
 use Rattle.std.proofs.Math.Seq.{drop-append_seam}
 use Rattle.std.proofs.lemmas.List.{length-reverse, reverse-append, reverse-reverse}
 use Rattle.lin_parts.specs.declared.parts.Parts.{Parts}
@@ -9,7 +8,6 @@ use Rattle.lin_core.specs.Runs.{entry_of}
 use Rattle.lin_core.specs.declared.log.LogEntry.{LogEntry}
 use Rattle.lin_core.specs.declared.port.PortId.{PortId}
 use Rattle.lin_core.specs.declared.step.Step.{Step}
-use Rattle.lin_bench.specs.declared.rules.NodeLimits.{NodeLimits}
 use Rattle.lin_bench.specs.Made.{BenchState, course_of, expects_from, bench_with_verdict, made, made_within, steps_said, slots_made, bench_after_steps}
 use Rattle.lin_bench.specs.Added.{added_steps}
 use Rattle.lin_bench.specs.Faults.{disturbed_steps}
@@ -20,20 +18,13 @@ use Rattle.lin_bench.specs.declared.expected.Expected.{Expected}
 use Rattle.lin_bench.specs.declared.got.Verdict.TheVariants.{SlotLimit}
 use Rattle.lin_bench.specs.declared.line.ScriptLine.{ScriptLine}
 use Rattle.lin_bench.specs.declared.line.ScriptLine.TheVariants as line
-use Rattle.lin_bench.specs.Fields.{line_fields}
-use Rattle.lin_bench.specs.Written.{without_mark}
-use Rattle.lin_bench.specs.Words.{read_worded_line}
-use Rattle.lin_bench.specs.declared.reason.Reason.{Reason as ScriptReason}
-use Rattle.lin_values.specs.Coded.{CodedData}
 use Rattle.lin_live.specs.Answers.{AnswersAreTheLog, AnswersAreWritten, KeepsLog, answers, answers_text}
-use Rattle.lin_live.specs.Asked.{◌>>=◌, question}
-use Rattle.lin_live.specs.Heard.{Heard, heard_in, of_line, of_script}
-use Rattle.lin_live.specs.Marking.{Marked, back_name, has_first_word, bench_at, mark_name}
-use Rattle.lin_live.specs.declared.question.Question.{Question}
-use Rattle.lin_live.specs.Told.{HandData, answer_text, gone_back, line_answer, heard_as, shown_coding, heard_answer, without_byte_order_mark}
+use Rattle.lin_live.specs.Heard.{Heard}
+use Rattle.lin_live.specs.Marking.{Marked, bench_at}
+use Rattle.lin_live.specs.Told.{HandData, answer_text, gone_back, line_answer, heard_by, shown_coding, heard_answer}
 use Rattle.lin_bench.specs.Strict.{entries_since}
-use Rattle.lin_live.specs.Transcript.{most_bytes, short}
-use Rattle.lin_live.specs.Heard.Heard.{Ask, GoBack, Make, SetMark}
+use Rattle.lin_live.specs.Transcript.{short}
+use Rattle.lin_live.specs.Heard.Heard.{Ask, GoBack, Make, SetMark, SetParameter}
 use Rattle.lin_live.specs.declared.reason.Reason.{Reason}
 
 -- a history that others lead to
@@ -122,77 +113,14 @@ since past later g =
     g.1 ∙ ap (λ l. reverse past ++ l)
     (sym (drop-append_seam (reverse past) g.0) ∙ ap (λ n. drop n (reverse past ++ g.0)) (length-reverse past) ∙ ap (drop (length past)) (sym g.1))
 
--- what was heard doesn't go back to a mark
-abbrev pub IsForward : Result (Option Heard) Reason → Type 0
-IsForward (Ok (Some (GoBack name))) = ⊥
-IsForward said = Unit {0}
-
-step-forward : (l : ScriptLine) → IsForward (of_line l)
-step-forward (line.Test name) = tt
-step-forward (line.Step by step) = tt
-step-forward (line.Slot how) = tt
-step-forward (line.Slots s) = tt
-step-forward (line.Until s what) = tt
-step-forward (line.While s what) = tt
-step-forward (line.Expect what) = tt
-step-forward line.Forget = tt
-step-forward (line.Rule rule) = tt
-
-script-forward : (r : Result (Option ScriptLine) ScriptReason) → IsForward (of_script r)
-script-forward (Ok None) = tt
-script-forward (Ok (Some l)) = step-forward l
-script-forward (Err why) = tt
-
-question-forward : (r : Result Question Reason) → IsForward (r >>= (λ asked. Ok (Some (Ask asked))))
-question-forward (Ok asked) = tt
-question-forward (Err why) = tt
-
-mark-forward : (r : Result (List ℕ) Reason) → IsForward (r >>= (λ name. Ok (Some (SetMark name))))
-mark-forward (Ok name) = tt
-mark-forward (Err why) = tt
-
-fields-forward : (c : Parts) (k : Option CodedData) (limits : List NodeLimits) (line : List ℕ) (fs : List (List ℕ)) → has_first_word (codes "back") fs ≡ false → IsForward (heard_in c k limits line fs)
-fields-forward c k limits line [] h = script-forward (read_worded_line c k limits line)
-fields-forward c k limits line (w ∷ fs) h =
-    let own : Result (Option Heard) Reason = of_script (read_worded_line c k limits line) in
-    let back : Result (Option Heard) Reason = back_name fs >>= (λ name. Ok (Some (GoBack name))) in
-    let mark : Result (Option Heard) Reason = mark_name fs >>= (λ name. Ok (Some (SetMark name))) in
-    let rest : IsForward (if bytes_eq w (codes "back") then back else own) = rw h (script-forward (read_worded_line c k limits line)) in
-    elim (bytes_eq w (codes "?")) as (λ t. IsForward (if t then question c fs >>= (λ asked. Ok (Some (Ask asked))) else (if bytes_eq w (codes "mark") then mark else (if bytes_eq w (codes "back") then back else own)))) [
-      | true ↦ question-forward (question c fs)
-      | false ↦
-          elim (bytes_eq w (codes "mark")) as (λ t. IsForward (if t then mark else (if bytes_eq w (codes "back") then back else own))) [
-            | true ↦ mark-forward (mark_name fs)
-            | false ↦ rest
-          ]
-    ]
-
--- a line that goes on says so
-pub line-forward : (h : HandData) (line : List ℕ) → KeepsLog line → IsForward (heard_as h.cluster h.coded h.limits (without_byte_order_mark h (short line)))
-line-forward h line g =
-    let c = h.cluster in
-    let k = h.coded in
-    let limits = h.limits in
-    elim (nat_le (length line) most_bytes) as (λ t. IsForward (heard_as c k limits (without_byte_order_mark h (if t then Some line else None)))) [
-      | true ↦
-          elim h.begun as (λ t. IsForward (heard_as c k limits (if t then Some line else option_map without_mark (Some line)))) [
-            | true ↦ fields-forward c k limits line (line_fields line) g.all
-            | false ↦ fields-forward c k limits (without_mark line) (line_fields (without_mark line)) g.rest
-          ]
-      | false ↦
-          elim h.begun as (λ t. IsForward (heard_as c k limits (if t then None else option_map without_mark None))) [
-            | true ↦ tt
-            | false ↦ tt
-          ]
-    ]
-
-told-grown : (h : HandData) (said : Result (Option Heard) Reason) → IsForward said
+told-grown : (h : HandData) (said : Result (Option Heard) Reason) → KeepsLog said
     → reverse (heard_answer h said).0.bench.past ≡ reverse h.bench.past ++ (heard_answer h said).1.entries
 told-grown h (Err why) f = sym (append-nil (reverse h.bench.past))
 told-grown h (Ok None) f = sym (append-nil (reverse h.bench.past))
 told-grown h (Ok (Some (Ask asked))) f = sym (append-nil (reverse h.bench.past))
 told-grown h (Ok (Some (SetMark name))) f = sym (append-nil (reverse h.bench.past))
 told-grown h (Ok (Some (GoBack name))) f = absurd f
+told-grown h (Ok (Some (SetParameter p))) f = sym (append-nil (reverse h.bench.past))
 told-grown h (Ok (Some (Make line))) f =
     since h.bench.past (made h.cluster h.opening h.capacity h.bench line).0.past (grown-made h.cluster h.opening h.capacity h.bench line)
 
@@ -202,7 +130,7 @@ answers-are-the-log h (line ∷ more) (on, rest-on) =
     let a = line_answer h (short line) in
     let rest = flat_map (λ b. b.entries) (answers a.0 more) in
     answers-are-the-log a.0 more rest-on
-    ∙ ap (λ l. l ++ rest) (told-grown (record h { begun = true }) (heard_as h.cluster h.coded h.limits (without_byte_order_mark h (short line))) (line-forward h line on))
+    ∙ ap (λ l. l ++ rest) (told-grown (record h { begun = true }) (heard_by h (short line)) on)
     ∙ append_assoc (reverse h.bench.past) a.1.entries rest
 
 back-kept : (h : HandData) (name : List ℕ) (at : Option (BenchState × List Marked))
@@ -219,6 +147,7 @@ told-kept h (Ok None) = (refl, refl, refl, refl, refl)
 told-kept h (Ok (Some (Ask asked))) = (refl, refl, refl, refl, refl)
 told-kept h (Ok (Some (SetMark name))) = (refl, refl, refl, refl, refl)
 told-kept h (Ok (Some (GoBack name))) = back-kept h name (bench_at h.marks name)
+told-kept h (Ok (Some (SetParameter p))) = (refl, refl, refl, refl, refl)
 told-kept h (Ok (Some (Make line))) = (refl, refl, refl, refl, refl)
 
 shown-by : (a h : HandData) → a.coded ≡ h.coded → a.is_physical ≡ h.is_physical → shown_coding a ≡ shown_coding h
@@ -231,11 +160,11 @@ past-grown past later es e =
 pub answers-are-written : AnswersAreWritten
 answers-are-written h [] on = refl
 answers-are-written h (line ∷ more) (on, rest-on) =
-    let said = heard_as h.cluster h.coded h.limits (without_byte_order_mark h (short line)) in
+    let said = heard_by h (short line) in
     let b = record h { begun = true } in
     let a = heard_answer b said in
     let same = told-kept b said in
-    let past = past-grown h.bench.past a.0.bench.past a.1.entries (told-grown b said (line-forward h line on)) in
+    let past = past-grown h.bench.past a.0.bench.past a.1.entries (told-grown b said on) in
     ap (λ l. answer_text h a.1 ++ l)
     (answers-are-written a.0 more rest-on
     ∙ ap (λ f. answers_text f a.0.cluster (shown_coding a.0) a.0.bench.past (answers a.0 more)) same.0

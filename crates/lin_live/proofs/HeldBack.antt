@@ -43,6 +43,7 @@ with_bench a b = record {
   coded = a.coded;
   limits = a.limits;
   is_physical = a.is_physical;
+  sets = a.sets;
   bench = state_of (with_all_slots b);
   marks = [];
   begun = a.begun;

@@ -17,6 +17,8 @@ use Rattle.lin_parts.specs.declared.parts.Parts.{Parts}
 use Rattle.lin_values.specs.Coded.{CodedData}
 use Rattle.lin_bench.specs.declared.rules.NodeLimits.{NodeLimits}
 use Rattle.lin_bench.specs.Made.{BenchState}
+use Rattle.lin_bench.specs.Resolved.{with_parameter}
+use Rattle.lin_bench.specs.declared.parameters.Parameter.{Parameter}
 use Rattle.lin_bench.specs.Marks.{IsMarkOf, state_at}
 use Rattle.lin_bench.specs.Played.{initial_bench}
 use Rattle.lin_bench.specs.Searches.{IsSearchState, taken_by}
@@ -33,7 +35,7 @@ use Rattle.lin_live.specs.declared.answer_format.AnswerFormat.{AnswerFormat}
 use Rattle.lin_live.specs.declared.fault.Fault.{Fault}
 use Rattle.lin_live.specs.declared.fault.Fault.TheVariants.{LogFull, OutOfMemory, ReadFailed, WriteFailed}
 use Rattle.lin_live.specs.declared.hand.NamedMark.{NamedMark}
-use Rattle.lin_live.specs.Heard.Heard.{GoBack, Make, SetMark}
+use Rattle.lin_live.specs.Heard.Heard.{GoBack, Make, SetMark, SetParameter}
 use Rattle.lin_live.specs.declared.question.Question.{Question}
 use Rattle.lin_live.specs.declared.reason.Reason.{Reason}
 use Rattle.lin_live.specs.declared.reason.Reason.TheVariants.{NoMark}
@@ -282,6 +284,15 @@ refused-by o v w h u t why old new result same some is k =
     subst (λ (x : HandData). WritesAnswer (bad_reply x why) ⊥ (with_marks t m) old new result) (taken-view o v w h u same some is)
     (answered-by (bad_reply h why) (bad_reply (with_marks h m) why) ⊥ ⊥ t (with_marks t m) old new result refl (λ f. f) (λ e. ap (λ (x : HandData). with_marks x m) e) k)
 
+-- a parameter was set
+pub set-by : (o : Option HandData) (v w : Option (Vec NamedMark)) (h u t : HandData) (p : Parameter) (old new : Option (List ℕ)) (result : Result Unit Fault)
+    → w ≡ v → o ≡ Some h → with_marks (held_of o) (mark_items v) ≡ u → WritesAnswer (heard_reply h (SetParameter p)) ⊥ t old new result
+    → WritesAnswer (heard_reply u (SetParameter p)) ⊥ (with_marks t (mark_items w)) old new result
+set-by o v w h u t p old new result same some is k =
+    let m = mark_items w in
+    subst (λ (x : HandData). WritesAnswer (heard_reply x (SetParameter p)) ⊥ (with_marks t m) old new result) (taken-view o v w h u same some is)
+    (answered-by (heard_reply h (SetParameter p)) (heard_reply (with_marks h m) (SetParameter p)) ⊥ ⊥ t (with_marks t m) old new result refl (λ f. f) (λ e. ap (λ (x : HandData). with_marks x m) e) k)
+
 -- a question was answered
 abbrev pub asking : HandData → Question → HandData × List ℕ
 asking h q = (h, ending_text h (Is (asked_value h q)))
@@ -329,6 +340,11 @@ bad-its o v w i h t = its-after o v w i h t (record h { was_bad = true }) (λ m 
 pub asked-its : (o : Option HandData) (v w : Option (Vec NamedMark)) (i : Opening) (h t : HandData) → w ≡ v → o ≡ Some h → IfSome o (λ x. IfSome (mark_items v) (AreItsMarks i x))
     → t ≡ h → IfSome (mark_items w) (AreItsMarks i t)
 asked-its o v w i h t = its-after o v w i h t h (λ m k. k)
+
+pub parameter-its : (o : Option HandData) (v w : Option (Vec NamedMark)) (i : Opening) (h t : HandData) (p : Parameter) → w ≡ v → o ≡ Some h → IfSome o (λ x. IfSome (mark_items v) (AreItsMarks i x))
+    → t ≡ record h { sets = with_parameter h.sets p.name p.text } → IfSome (mark_items w) (AreItsMarks i t)
+parameter-its o v w i h t p =
+    let set = record h { sets = with_parameter h.sets p.name p.text } in its-after o v w i h t set (λ m k. some-like i h set m refl refl refl refl k)
 
 pub begun-its : (o : Option HandData) (v w : Option (Vec NamedMark)) (i : Opening) (h t : HandData) → w ≡ v → o ≡ Some h → IfSome o (λ x. IfSome (mark_items v) (AreItsMarks i x))
     → t ≡ record h { begun = true } → IfSome (mark_items w) (AreItsMarks i t)

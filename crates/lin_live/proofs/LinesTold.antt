@@ -63,6 +63,7 @@ made_hand a new v = record {
   coded = a.coded;
   limits = a.limits;
   is_physical = a.is_physical;
+  sets = a.sets;
   bench = state_of (with_all_slots new);
   marks = [];
   begun = a.begun;

@@ -1,8 +1,8 @@
 -- Lines in hand come to what a play of them comes to.
-use Rattle.std.proofs.Common.{◌≡◌, ◌∙◌, ℕ, ◌≤◌, ◌+◌, Bool, true, false, ◌||◌, nat_le, nat_lt, List, [], ◌∷◌, ◌++◌, Option, Some, None, Result, Ok, Err, refl, sym, ap, arith, length, map, if◌then◌else◌, codes}
+use Rattle.std.proofs.Common.{◌≡◌, ◌∙◌, ℕ, ◌≤◌, ◌+◌, ◌==◌, ◌&&◌, Bool, true, false, ◌||◌, nat_le, nat_lt, not, List, [], ◌∷◌, ◌++◌, Option, Some, None, Result, Ok, Err, refl, sym, ap, arith, length, map, slice_index, if◌then◌else◌, codes}
 use Rattle.std.specs.Str.{bytes_eq}
 use Rattle.std.proofs.lemmas.Grind.{common_steps}
-use Rattle.std.specs.List.{AllByRecursion}
+use Rattle.std.specs.List.{AllByRecursion, list_any}
 use Rattle.std.proofs.lemmas.List.Folds.{list_any-append}
 use Rattle.std.specs.Str.Lines.{strip_carriage_return}
 use Rattle.lin_parts.specs.declared.parts.Parts.{Parts}
@@ -11,12 +11,14 @@ use Rattle.lin_core.specs.declared.step.Step.{Step}
 use Rattle.lin_values.specs.Coded.{CodedData}
 use Rattle.lin_bench.specs.declared.rules.NodeLimits.{NodeLimits}
 use Rattle.lin_bench.specs.Fields.{line_fields}
+use Rattle.lin_bench.specs.Plain.{begins_resolved, resolves}
+use Rattle.lin_bench.specs.Resolved.{names_parameter, replaced_line, replaced_text}
 use Rattle.lin_bench.specs.Scripts.{Script, read_lines, with_read_line}
 use Rattle.lin_bench.specs.Made.{BenchState, expects_from, bench_with_verdict, made, made_within, steps_said, slots_made, bench_after_steps}
 use Rattle.lin_bench.specs.Played.{Run, come_to, initial_bench, in_turn, is_unmet as is_missed, judged_from, judgements, next, on_line, own, some_unmet, line_result as run_told, with_judgements}
 use Rattle.lin_bench.specs.Slots.{most, slot_limit}
 use Rattle.lin_bench.specs.Strict.{begins_test, has_test}
-use Rattle.lin_bench.specs.Written.{line_place}
+use Rattle.lin_bench.specs.Written.{goes_on, line_place}
 use Rattle.lin_bench.specs.Words.{read_worded_line}
 use Rattle.lin_bench.specs.declared.expected.Expected.{Expected}
 use Rattle.lin_bench.specs.declared.got.Judgement.{Judgement}
@@ -26,7 +28,8 @@ use Rattle.lin_bench.specs.declared.line.ScriptLine.{ScriptLine}
 use Rattle.lin_bench.specs.declared.place.LinePlace.{LinePlace}
 use Rattle.lin_bench.specs.declared.line.ScriptLine.TheVariants as line
 use Rattle.lin_bench.specs.declared.reason.Reason.{Reason}
-use Rattle.lin_live.specs.Heard.{heard_in, of_line, of_script}
+use Rattle.lin_live.specs.Asked.{◌>>=◌, script_field}
+use Rattle.lin_live.specs.Heard.{heard_in, line_heard, of_line, of_script, text_heard}
 use Rattle.lin_live.specs.Heard.Heard.{Make}
 use Rattle.lin_live.specs.Told.{HandData, after_line, is_limit, is_unmet_verdict, reply, heard_answer}
 use Rattle.lin_live.specs.Transcript.{state_after, most_bytes, short}
@@ -159,6 +162,7 @@ hand_with f coded limits physical c opening capacity b bad unmet = record {
   coded = coded;
   limits = limits;
   is_physical = physical;
+  sets = [];
   bench = record b { left = slot_limit };
   marks = [];
   begun = true;
@@ -201,26 +205,53 @@ line-less c opening capacity b s l le h =
 short-line : (line : List ℕ) → length line ≤ most_bytes → short line ≡ Some line
 short-line line h = let e : nat_le (length line) most_bytes ≡ true = grind (arith, common_steps) in rw e refl
 
-none-of : (a b d : Bool) → (a || (b || d)) ≡ false → (a ≡ false) × (b ≡ false) × (d ≡ false)
-none-of false false false h = (refl, refl, refl)
-none-of true b d h = absurd (cc)
-none-of false true d h = absurd (cc)
-none-of false false true h = absurd (cc)
+none-of : (a b d e : Bool) → (a || (b || (d || e))) ≡ false → (a ≡ false) × (b ≡ false) × (d ≡ false) × (e ≡ false)
+none-of false false false false h = (refl, refl, refl, refl)
+none-of true b d e h = absurd (cc)
+none-of false true d e h = absurd (cc)
+none-of false false true e h = absurd (cc)
+none-of false false false true h = absurd (cc)
 
 heard-plain : (c : Parts) (coded : Option CodedData) (limits : List NodeLimits) (line : List ℕ) (fs : List (List ℕ)) → is_of_live fs ≡ false
     → heard_in c coded limits line fs ≡ of_script (read_worded_line c coded limits line)
 heard-plain c coded limits line [] h = refl
 heard-plain c coded limits line (w ∷ fs) h =
-    let p = none-of (bytes_eq w (codes "?")) (bytes_eq w (codes "mark")) (bytes_eq w (codes "back")) h in
-    rw (p.0, p.1, p.2) refl
+    let p = none-of (bytes_eq w (codes "?")) (bytes_eq w (codes "mark")) (bytes_eq w (codes "back")) (bytes_eq w (codes "set")) h in
+    rw (p.0, p.1, p.2, p.3) refl
+
+-- in a line that stands for no other one no parameter is replaced
+unnamed-by : (said some goes names begins : Bool) → some ≡ true → ((said && some) && (goes || (names || begins))) ≡ false → (said && names) ≡ false
+unnamed-by false some goes names begins e h = refl
+unnamed-by true some goes false begins e h = refl
+unnamed-by true false goes true begins e h = absurd (cc)
+unnamed-by true true true true begins e h = absurd (cc)
+unnamed-by true true false true begins e h = absurd (cc)
+
+unnamed : (said goes begins : Bool) (fs : List (List ℕ)) → ((said && nat_lt 0 (length fs)) && (goes || (list_any names_parameter fs || begins))) ≡ false
+    → (said && list_any names_parameter fs) ≡ false
+unnamed true goes begins [] h = refl
+unnamed false goes begins [] h = refl
+unnamed said goes begins (f ∷ fs) h =
+    let some : nat_lt 0 (length (f ∷ fs)) ≡ true = grind (arith, common_steps) in
+    unnamed-by said (nat_lt 0 (length (f ∷ fs))) goes (list_any names_parameter (f ∷ fs)) begins some h
+
+unreplaced : (line : List ℕ) → resolves line ≡ false → replaced_line [] line ≡ Ok line
+unreplaced line h =
+    let fs = line_fields line in
+    ap (λ (t : Bool). if t then replaced_text [] [] fs else Ok line) (unnamed (not (slice_index line 0 == 62)) (goes_on line) (begins_resolved fs) fs h)
+
+line-plain : (c : Parts) (coded : Option CodedData) (limits : List NodeLimits) (line : List ℕ) → is_of_live (line_fields line) ≡ false → resolves line ≡ false
+    → line_heard c coded limits [] line ≡ of_script (read_worded_line c coded limits line)
+line-plain c coded limits line own stands =
+    ap (λ r. script_field r >>= text_heard c coded limits) (unreplaced line stands) ∙ heard-plain c coded limits line (line_fields line) own
 
 answer-of : (f : AnswerFormat) (coded : Option CodedData) (limits : List NodeLimits) (physical : Bool) (c : Parts) (opening capacity : ℕ) (b : BenchState) (unmet : Bool) (line : List ℕ) (said : Result (Option ScriptLine) Reason)
-    → (length line ≤ most_bytes) × (is_of_live (line_fields line) ≡ false) → read_worded_line c coded limits line ≡ said
+    → (length line ≤ most_bytes) × (is_of_live (line_fields line) ≡ false) × (resolves line ≡ false) → read_worded_line c coded limits line ≡ said
     → (reply (hand_of f coded limits physical c opening capacity b unmet) (short line)).0 ≡ (heard_answer (hand_of f coded limits physical c opening capacity b unmet) (of_script said)).0
 answer-of f coded limits physical c opening capacity b unmet line said plain e =
     let h = hand_of f coded limits physical c opening capacity b unmet in
     ap (λ o. (reply h o).0) (short-line line plain.0)
-    ∙ ap (λ s. (heard_answer h s).0) (heard-plain c coded limits line (line_fields line) plain.1 ∙ ap of_script e)
+    ∙ ap (λ s. (heard_answer h s).0) (line-plain c coded limits line plain.1 plain.2 ∙ ap of_script e)
 
 -- ---- all lines
 abbrev lines_or : Script → List (LinePlace × ScriptLine)
@@ -277,7 +308,7 @@ made-plain (line.Expect what) h = refl
 made-plain line.Forget h = refl
 made-plain (line.Rule rule) h = refl
 
-neither-of : (a b : Bool) → (a || b) ≡ false → (a ≡ false) × (b ≡ false)
+pub neither-of : (a b : Bool) → (a || b) ≡ false → (a ≡ false) × (b ≡ false)
 neither-of false false h = (refl, refl)
 neither-of true b h = absurd (cc)
 neither-of false true h = absurd (cc)

@@ -3,16 +3,22 @@ use Rattle.std.proofs.Common.{◌≡◌, ◌<◌, ◌-◌, ◌^◌, ◌++◌, �
 use Rattle.lin_parts.specs.declared.parts.Parts.{Parts}
 use Rattle.lin_core.specs.declared.log.LogEntry.{LogEntry}
 use Rattle.lin_values.specs.Coded.{CodedData}
-use Rattle.lin_live.specs.Asked.{◌>>=◌, Fails}
+use Rattle.lin_bench.specs.Resolved.{with_parameter}
+use Rattle.lin_bench.specs.declared.parameters.Parameter.{Parameter}
+use Rattle.lin_bench.specs.Read.{Fails as ReadFails}
+use Rattle.lin_bench.specs.declared.fault.LineFault.{LineFault as ScriptFault}
+use Rattle.lin_bench.specs.declared.fault.LineFault.TheVariants as scripts
+use Rattle.lin_bench.specs.declared.reason.Reason.{Reason as ScriptReason}
+use Rattle.lin_live.specs.Asked.{◌>>=◌, Fails, script_fault, script_field}
 use Rattle.lin_live.specs.Serving.{Replies, WritesAnswer}
 use Rattle.lin_live.specs.Hand.{AnswersSaid}
-use Rattle.lin_live.specs.Told.{Bad, Ending, Fine, HandData, Is, IsFull, asked_value, bad_reply, ending_text, entries_text, heard_as, reply, answer_without_step, shown_coding, heard_answer, without_byte_order_mark, written}
+use Rattle.lin_live.specs.Told.{Bad, Ending, Fine, HandData, Is, IsFull, asked_value, bad_reply, ending_text, entries_text, heard_by, heard_reply, reply, answer_without_step, shown_coding, heard_answer, written}
 use Rattle.lin_live.specs.declared.answer_format.AnswerFormat.{AnswerFormat}
 use Rattle.lin_live.specs.declared.answer_format.AnswerFormat.TheVariants.{Log, Named, Jsonl}
 use Rattle.lin_live.specs.declared.fault.Fault.{Fault}
 use Rattle.lin_live.specs.declared.fault.Fault.TheVariants.{LogFull, OutOfMemory, ReadFailed, WriteFailed}
 use Rattle.lin_live.specs.Heard.{Heard}
-use Rattle.lin_live.specs.Heard.Heard.{Ask}
+use Rattle.lin_live.specs.Heard.Heard.{Ask, SetParameter}
 use Rattle.lin_live.specs.declared.question.Question.{Question}
 use Rattle.lin_live.specs.declared.reason.LineFault.{LineFault}
 use Rattle.lin_live.specs.declared.reason.LineFault.TheVariants.{Bad as BadLine, OutOfMemory as NoMemory}
@@ -38,6 +44,13 @@ pub tells-ending : (h u : HandData) (ending : Ending) (full : Type 0) (t : HandD
 tells-ending h u ending full t old new result k =
     subst (λ l. WritesAnswer (u, l ++ ending_text h ending) full t old new result) (sym (none-told h.format h.cluster (shown_coding h) h.bench.past)) k
 
+-- a parameter was set
+pub set-said : (h t : HandData) (p : Parameter) (old new : Option (List ℕ)) (result : Result Unit Fault) → t ≡ record h { sets = with_parameter h.sets p.name p.text }
+    → WritesAnswer (t, ending_text t Fine) ⊥ t old new result → WritesAnswer (heard_reply h (SetParameter p)) ⊥ t old new result
+set-said h t p old new result is w =
+    tells-ending h (record h { sets = with_parameter h.sets p.name p.text }) Fine ⊥ t old new result
+    (subst (λ (x : HandData). WritesAnswer (x, ending_text x Fine) ⊥ t old new result) is w)
+
 -- a bench in hand to which there was a line
 abbrev pub begun_of : HandData → HandData
 begun_of h = record h { begun = true }
@@ -45,7 +58,7 @@ begun_of h = record h { begun = true }
 -- telling what a line says, which is this, after it was heard
 pub replies-so : (h b : HandData) (line : Option (List ℕ)) (said : Result (Option Heard) Reason)
     (t : HandData) (old new : Option (List ℕ)) (result : Result Unit Fault)
-    → b ≡ begun_of h → heard_as h.cluster h.coded h.limits (without_byte_order_mark h line) ≡ said
+    → b ≡ begun_of h → heard_by h line ≡ said
     → WritesAnswer (written b (heard_answer b said)) (2 ^ 32 - 1 < length (heard_answer b said).0.bench.past) t old new result
     → Replies reply IsFull h t old new line result
 replies-so h b line said t old new result is_b is_said k =
@@ -80,3 +93,7 @@ fails-so h t why said old new result e k = answers-so h said (Err why) t old new
 pub fails-more : {X : Type 0} (e : LineFault) (r : Result X Reason) (f : X → Result (Option Heard) Reason) → Fails e r → Fails e (r >>= f)
 fails-more (BadLine why) r f h = ap (λ x. x >>= f) h
 fails-more NoMemory r f h = tt
+
+pub fails-script : {X : Type 0} (e : ScriptFault) (r : Result X ScriptReason) → ReadFails e r → Fails (script_fault e) (script_field r)
+fails-script (scripts.Bad why) r h = ap script_field h
+fails-script scripts.OutOfMemory r h = tt

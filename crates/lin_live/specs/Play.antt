@@ -6,6 +6,7 @@ use Rattle.std.specs.Str.Lines.{strip_carriage_return}
 use Rattle.lin_parts.specs.declared.parts.Parts.{Parts}
 use Rattle.lin_bench.specs.Fields.{line_fields}
 use Rattle.lin_values.specs.Coded.{CodedData}
+use Rattle.lin_bench.specs.Plain.{resolves}
 use Rattle.lin_bench.specs.Scripts.{read_lines}
 use Rattle.lin_bench.specs.Played.{Run, initial_bench, play_result, some_unmet}
 use Rattle.lin_bench.specs.Slots.{slot_limit}
@@ -18,17 +19,19 @@ use Rattle.lin_live.specs.Told.{HandData, reply}
 use Rattle.lin_live.specs.Transcript.{state_after, most_bytes}
 use Rattle.lin_live.specs.declared.answer_format.AnswerFormat.{AnswerFormat}
 
--- whether fields are those of a line that bench scripts don't have
+-- whether fields are those of a line that a session answers by itself
 abbrev pub is_of_live : List (List ℕ) → Bool
 is_of_live fs =
-    has_first_word (codes "?") fs || (has_first_word (codes "mark") fs || has_first_word (codes "back") fs)
+    has_first_word (codes "?") fs
+    || (has_first_word (codes "mark") fs || (has_first_word (codes "back") fs || has_first_word (codes "set") fs))
 
--- a line that is no question, sets no mark and goes back to none, and isn't too long, with its CR where it
--- has one
+-- a line that is no question, sets no mark and no parameter, goes back to no mark, stands for no other line
+-- and isn't too long, with its CR where it has one
 abbrev pub IsPlain : List ℕ → Type 0
 IsPlain line =
     (length (strip_carriage_return line) ≤ most_bytes)
     × (is_of_live (line_fields (strip_carriage_return line)) ≡ false)
+    × (resolves (strip_carriage_return line) ≡ false)
 
 -- the bench in hand that a play has come to (a byte order mark would be a part of the next line)
 abbrev pub in_hand_of : AnswerFormat → Option CodedData → List NodeLimits → Bool → Parts → ℕ → ℕ → Run → HandData
@@ -40,6 +43,7 @@ in_hand_of format k limits is_physical c opening capacity run = record {
   coded = k;
   limits = limits;
   is_physical = is_physical;
+  sets = [];
   bench = record run.bench { left = slot_limit };
   marks = [];
   begun = true;

@@ -22,17 +22,20 @@ use Rattle.lin_bench.specs.Made.{BenchState, made}
 use Rattle.lin_bench.specs.Slots.{slot_limit}
 use Rattle.lin_bench.specs.Strict.{entries_since, first_refusal}
 use Rattle.lin_bench.specs.LineWords.{spaced_words, words_text}
+use Rattle.lin_bench.specs.Resolved.{with_parameter}
 use Rattle.lin_bench.specs.Texts.{expected_text, got_text, reason_words}
 use Rattle.lin_bench.specs.declared.rules.NodeLimits.{NodeLimits}
 use Rattle.lin_bench.specs.declared.got.Verdict.{Verdict}
 use Rattle.lin_bench.specs.declared.got.Verdict.TheVariants.{Unmet, SlotLimit}
 use Rattle.lin_bench.specs.declared.line.ScriptLine.{ScriptLine}
+use Rattle.lin_bench.specs.declared.parameters.Parameter.{Parameter}
 use Rattle.lin_live.specs.Heard.{Heard, line_heard}
 use Rattle.lin_live.specs.Marking.{Marked, bench_at, with_mark}
+use Rattle.lin_live.specs.Transcript.{short}
 use Rattle.lin_live.specs.Values.{SaidValue, value_said, said_members, said_words}
 use Rattle.lin_live.specs.declared.answer_format.AnswerFormat.{AnswerFormat}
 use Rattle.lin_live.specs.declared.answer_format.AnswerFormat.TheVariants.{Log, Named, Jsonl}
-use Rattle.lin_live.specs.Heard.Heard.{Ask, GoBack, Make, SetMark}
+use Rattle.lin_live.specs.Heard.Heard.{Ask, GoBack, Make, SetMark, SetParameter}
 use Rattle.lin_live.specs.declared.question.Question.{Question}
 use Rattle.lin_live.specs.declared.reason.Reason.{Reason}
 use Rattle.lin_live.specs.declared.reason.Reason.TheVariants.{Script, AskForm, UnknownQuestion}
@@ -132,8 +135,8 @@ last_line Jsonl c k e = object_ending c k e
 last_line f c k e = hash_ending c k e
 
 -- ---- what is kept: how entries are told, what signals mean where that is known, the limits of transfers in
--- the LDF, whether values are told as that too, a bench whose next line may make 1,000,000 slots, the marks,
--- whether there was a line, whether one was bad or met that limit, and whether an expectation wasn't met
+-- the LDF, whether values are told as that too, the parameters that lines have set, a bench whose next line may
+-- make 1,000,000 slots, the marks, whether there was a line, whether one was bad or met that limit, and whether an expectation wasn't met
 pub record HandData : Type 0 where
   pub format : AnswerFormat
   pub cluster : Parts
@@ -142,6 +145,7 @@ pub record HandData : Type 0 where
   pub coded : Option CodedData
   pub limits : List NodeLimits
   pub is_physical : Bool
+  pub sets : List Parameter
   pub bench : BenchState
   pub marks : List Marked
   pub begun : Bool
@@ -214,19 +218,30 @@ heard_answer h (Ok (Some (Ask asked))) =
 heard_answer h (Ok (Some (SetMark name))) =
     (record h { marks = with_mark h.marks name h.bench }, answer_without_step Fine)
 heard_answer h (Ok (Some (GoBack name))) = gone_back h name (bench_at h.marks name)
+heard_answer h (Ok (Some (SetParameter p))) =
+    (record h { sets = with_parameter h.sets p.name p.text }, answer_without_step Fine)
 heard_answer h (Ok (Some (Make line))) = after_line h (made h.cluster h.opening h.capacity h.bench line)
 
 -- what a line says, and none that is too long
-abbrev pub heard_as : Parts → Option CodedData → List NodeLimits → Option (List ℕ) → Result (Option Heard) Reason
-heard_as c k limits None = Err TooLong
-heard_as c k limits (Some line) = line_heard c k limits line
+abbrev pub heard_as : Parts → Option CodedData → List NodeLimits → List Parameter → Option (List ℕ) → Result (Option Heard) Reason
+heard_as c k limits sets None = Err TooLong
+heard_as c k limits sets (Some line) = line_heard c k limits sets line
 
 -- the first line may begin with a byte order mark, which belongs to no line
 abbrev pub without_byte_order_mark : HandData → Option (List ℕ) → Option (List ℕ)
 without_byte_order_mark h line = if h.begun then line else option_map without_mark line
 
+-- what a line says to a session
+abbrev pub heard_by : HandData → Option (List ℕ) → Result (Option Heard) Reason
+heard_by h line = heard_as h.cluster h.coded h.limits h.sets (without_byte_order_mark h line)
+
 abbrev pub line_answer : HandData → Option (List ℕ) → HandData × Answer
-line_answer h line = heard_answer (record h { begun = true }) (heard_as h.cluster h.coded h.limits (without_byte_order_mark h line))
+line_answer h line = heard_answer (record h { begun = true }) (heard_by h line)
+
+-- this is so of what each of these lines says to the session that answers it
+abbrev pub AllHeard : (Result (Option Heard) Reason → Type 0) → HandData → List (List ℕ) → Type 0
+AllHeard P h [] = Unit {0}
+AllHeard P h (line ∷ more) = P (heard_by h (short line)) × AllHeard P (line_answer h (short line)).0 more
 
 -- entries as they are told, the oldest first, on those before them: as the log's own text, as the log
 -- with names, or as objects

@@ -1,4 +1,4 @@
-//! Interactive sessions, and their marks.
+//! Interactive sessions, their marks and their parameters.
 
 ghost use Rattle.std.specs.Prelude.{◌≡◌, ◌≤◌, ◌<◌, [], IfOk, IfSome, OnErr, OnOk, Option, Result, length, option_map};
 ghost use Rattle.std.specs.Prelude.{position, reverse, true};
@@ -9,13 +9,14 @@ ghost use Rattle.lin_bench.specs.declared.reason.Reason.TheVariants.{ForScripts}
 ghost use Rattle.lin_bench.specs.Words.{read_worded_line};
 ghost use Rattle.lin_live.specs.Asked.{Fails, IsAskable};
 ghost use Rattle.lin_live.specs.Hand.{AnswersSaid, gone_to, other_marks, with_named};
-ghost use Rattle.lin_live.specs.Heard.{Heard, back_heard, line_heard, mark_heard, of_line, of_script, question_heard};
+ghost use Rattle.lin_live.specs.Heard.{Heard, back_heard, line_heard, mark_heard, of_line, of_script};
+ghost use Rattle.lin_live.specs.Heard.{question_heard, set_heard, text_heard};
 ghost use Rattle.lin_live.specs.Held.{new_hand};
 ghost use Rattle.lin_live.specs.Marking.{mark_place, with_mark};
 ghost use Rattle.lin_live.specs.Serving.{WritesAnswer};
 ghost use Rattle.lin_live.specs.Told.{Fine, HandData, Is, IsFull, IsFullFor, asked_value, bad_reply, ending_text};
 ghost use Rattle.lin_live.specs.Told.{heard_reply, reply, without_byte_order_mark};
-ghost use Rattle.lin_live.specs.Heard.Heard.{GoBack, Make, SetMark};
+ghost use Rattle.lin_live.specs.Heard.Heard.{GoBack, Make, SetMark, SetParameter};
 ghost use Rattle.lin_live.specs.declared.reason.Reason.{Reason};
 ghost use Rattle.lin_live.specs.declared.reason.Reason.TheVariants.{Script, TooLong};
 
@@ -27,7 +28,7 @@ use crate::held::HeldBench;
 use crate::marking::{START, back_name, mark_name};
 use crate::question::Question;
 use crate::reason::{LineFault, Reason};
-use lin_bench::{Mark, NodeLimits, ScriptLine};
+use lin_bench::{Mark, NodeLimits, Parameter, ScriptLine, parameter_of_line};
 use lin_core::{Core, Log};
 use lin_export::Opening;
 use lin_log::first_field;
@@ -45,9 +46,9 @@ pub(crate) struct NamedMark {
     pub(crate) at: Mark,
 }
 
-/// An interactive session, which answers lines of bench scripts, questions and marks. Contracts see the format
-/// of its answers, the cluster, what the core was opened with, what signals mean and whether answers report
-/// that, the bench, each mark with the bench as it was, whether there was a line, whether one was bad, and
+/// An interactive session, which answers lines of bench scripts, questions and marks, and replaces parameters.
+/// Contracts see the format of its answers, the cluster, what the core was opened with, what signals mean and
+/// whether answers report that, the parameters, the bench, each mark with the bench as it was, whether there was a line, whether one was bad, and
 /// whether an expectation failed.
 #[derive(Drop)]
 pub struct Hand {
@@ -176,6 +177,25 @@ impl Hand {
         };
         let marks = self.marks.take();
         held.refuse(alloc, reason, writer, buffer)?;
+        self.marks = marks;
+        Ok(())
+    }
+
+    /// Sets a parameter, and answers so.
+    fn set<W: Write>(
+        &mut self,
+        parameter: Parameter,
+        writer: &mut W,
+        buffer: &mut TextBuffer,
+    ) -> Result<(), Fault>
+        ensures { WritesAnswer (heard_reply self.old (SetParameter parameter))
+            ⊥ self.new (W.contents writer.old) (W.contents writer.new) result }
+    {
+        let Some(held) = &mut self.held else {
+            return Err(Fault::OutOfMemory);
+        };
+        let marks = self.marks.take();
+        held.set(parameter, writer, buffer)?;
         self.marks = marks;
         Ok(())
     }
@@ -436,6 +456,27 @@ impl Hand {
         }
     }
 
+    /// Sets a parameter, by the fields after `set`, and answers so.
+    #[inline(never)]
+    fn answer_set<W: Write>(
+        &mut self,
+        alloc: Global,
+        line: &[u8],
+        writer: &mut W,
+        buffer: &mut TextBuffer,
+    ) -> Result<(), Fault>
+        ensures { AnswersSaid self.old (set_heard (line_fields line.now))
+            self.new (W.contents writer.old) (W.contents writer.new) result }
+    {
+        let Some(held) = &self.held else {
+            return Err(Fault::OutOfMemory);
+        };
+        match parameter_of_line(alloc, held.cluster(), line) {
+            Ok(parameter) => self.set(parameter, writer, buffer),
+            Err(fault) => self.answer_fault(alloc, &LineFault::from(fault), writer, buffer),
+        }
+    }
+
     /// Answers a line that begins with a word which is for scripts.
     #[inline(never)]
     fn refuse_for_scripts<W: Write>(
@@ -493,15 +534,15 @@ impl Hand {
         }
     }
 
-    /// Answers a line without its byte order mark.
-    fn answer_line<W: Write>(
+    /// Answers a line in which parameters were replaced.
+    fn answer_text<W: Write>(
         &mut self,
         alloc: Global,
         line: &[u8],
         writer: &mut W,
         buffer: &mut TextBuffer,
     ) -> Result<(), Fault>
-        ensures { AnswersSaid self.old (line_heard self.old.cluster self.old.coded self.old.limits line.now)
+        ensures { AnswersSaid self.old (text_heard self.old.cluster self.old.coded self.old.limits line.now)
             self.new (W.contents writer.old) (W.contents writer.new) result }
     {
         let Some(held) = &self.held else {
@@ -517,7 +558,32 @@ impl Hand {
             Some((word, rest)) if word == b"back".as_slice() => {
                 self.answer_back(alloc, rest, writer, buffer)
             }
+            Some((word, rest)) if word == b"set".as_slice() => {
+                self.answer_set(alloc, rest, writer, buffer)
+            }
             _ => self.answer_script(alloc, line, writer, buffer),
+        }
+    }
+
+    /// Answers a line without its byte order mark.
+    fn answer_line<W: Write>(
+        &mut self,
+        alloc: Global,
+        line: &[u8],
+        writer: &mut W,
+        buffer: &mut TextBuffer,
+    ) -> Result<(), Fault>
+        ensures { AnswersSaid self.old
+            (line_heard self.old.cluster self.old.coded self.old.limits self.old.sets line.now)
+            self.new (W.contents writer.old) (W.contents writer.new) result }
+    {
+        let Some(held) = &self.held else {
+            return Err(Fault::OutOfMemory);
+        };
+        match held.replaced(alloc, line) {
+            Ok(Some(text)) => self.answer_text(alloc, text.as_slice(), writer, buffer),
+            Ok(None) => self.answer_text(alloc, line, writer, buffer),
+            Err(fault) => self.answer_fault(alloc, &LineFault::from(fault), writer, buffer),
         }
     }
 

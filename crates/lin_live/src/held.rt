@@ -2,8 +2,10 @@
 
 ghost use Rattle.std.specs.Prelude.{◌≡◌, ◌≤◌, ◌||◌, [], IfOk, IfSome, None, if◌then◌else◌};
 ghost use Rattle.std.specs.Prelude.{length, option_map, reverse, true};
+ghost use Rattle.std.specs.Option.{option_map_or};
 ghost use Rattle.lin_bench.specs.Marks.{IsMarkOf, state_at};
 ghost use Rattle.lin_bench.specs.Read.{Gives as ReadsLine};
+ghost use Rattle.lin_bench.specs.Resolved.{replaced_line};
 ghost use Rattle.lin_bench.specs.Words.{read_worded_line};
 ghost use Rattle.lin_bench.specs.Written.{without_mark};
 ghost use Rattle.lin_live.specs.Asked.{IsAskable};
@@ -15,7 +17,7 @@ ghost use Rattle.lin_live.specs.Told.{heard_reply, is_limit, is_unmet_verdict};
 ghost use Rattle.lin_live.specs.Told.{verdict_with_meaning, without_byte_order_mark};
 ghost use Rattle.lin_live.specs.Values.{IsBoxedKeptOf, KeepsLastSlot, as_said};
 ghost use Rattle.lin_live.specs.declared.answer_format.AnswerFormat.TheVariants.{Jsonl, Named};
-ghost use Rattle.lin_live.specs.Heard.Heard.{Make};
+ghost use Rattle.lin_live.specs.Heard.Heard.{Make, SetParameter};
 
 use crate::answer_format::AnswerFormat;
 use crate::answer_objects::{
@@ -30,7 +32,8 @@ use crate::fault::Fault;
 use crate::question::Question;
 use crate::reason::Reason;
 use lin_bench::{
-    Bench, Mark, NodeLimits, ScriptLine, Verdict, read_worded_line, told_meaning, without_mark,
+    Bench, Mark, NodeLimits, Parameter, ScriptLine, Verdict, read_worded_line, replaced_line,
+    set_parameter, told_meaning, without_mark,
 };
 use lin_core::{Core, Log};
 use lin_export::{LastSlot, ObjectTrack, Opening, Track};
@@ -43,8 +46,8 @@ use std::marker::Model;
 
 /// An interactive session without its marks: a bench that answers lines of scripts and questions. Contracts
 /// see the format of its answers, the cluster, what the core was opened with, the encodings and whether
-/// answers have physical values, the log, consumed events, whether there was a line, and whether one was
-/// bad or an expectation failed.
+/// answers have physical values, the parameters, the log, consumed events, whether there was a line, and
+/// whether one was bad or an expectation failed.
 #[derive(Drop)]
 pub(crate) struct HeldBench {
     bench: Bench,
@@ -55,6 +58,8 @@ pub(crate) struct HeldBench {
     limits: Many<NodeLimits>,
     /// Whether answers also have physical values.
     is_physical: bool,
+    /// The parameters that lines have set.
+    sets: Many<Parameter>,
     /// The state for writing further entries with names, if it is kept; in a box, since each line moves it.
     track: Option<Box<Track>>,
     /// The same for objects.
@@ -146,6 +151,7 @@ impl HeldBench {
             coded,
             limits,
             is_physical,
+            sets: Many::new(Vec::new(alloc)),
             track: None,
             objects: None,
             last_slot: None,
@@ -206,6 +212,17 @@ impl HeldBench {
         line
     }
 
+    /// Returns a line with texts in place of its parameters; `None` if it has none.
+    pub(crate) fn replaced(
+        &self,
+        alloc: Global,
+        line: &[u8],
+    ) -> Result<Option<Vec<u8>>, lin_bench::LineFault>
+        ensures { ReadsLine (λ text. option_map_or (λ v. v.items) text line.now) result (replaced_line self.now.sets line.now) }
+    {
+        replaced_line(alloc, self.cluster(), self.sets.as_slice(), line)
+    }
+
     /// Reads a line of a bench script.
     pub(crate) fn script_line(
         &self,
@@ -264,6 +281,20 @@ impl HeldBench {
             AnswerFormat::Log | AnswerFormat::Named => write_ok(writer, buffer)?,
         }
         Ok(())
+    }
+
+    /// Sets a parameter, and answers so.
+    pub(crate) fn set<W: Write>(
+        &mut self,
+        parameter: Parameter,
+        writer: &mut W,
+        buffer: &mut TextBuffer,
+    ) -> Result<(), Fault>
+        ensures { WritesAnswer (heard_reply self.old (SetParameter parameter))
+            ⊥ self.new (W.contents writer.old) (W.contents writer.new) result }
+    {
+        set_parameter(&mut self.sets, parameter)?;
+        self.pass(writer, buffer)
     }
 
     /// Tells that a line is bad.

@@ -3,7 +3,7 @@
 ghost use Rattle.std.specs.Prelude.{◌≡◌, ◌++◌, ℕ, List};
 ghost use Rattle.std.specs.List.{AllByRecursion, join_with_byte};
 ghost use Rattle.lin_live.specs.Answers.{AnswersAreTheLog, AnswersAreWritten};
-ghost use Rattle.lin_live.specs.GoingBack.{BackRestores, MarksStay};
+ghost use Rattle.lin_live.specs.GoingBack.{BackRestores, MarksStay, ParametersStay};
 ghost use Rattle.lin_live.specs.Lines.{HasNoLf, pieces_at_lf};
 ghost use Rattle.lin_live.specs.Play.{LiveIsPlay};
 ghost use Rattle.lin_live.specs.Transcript.{state_after, transcript};
@@ -32,9 +32,11 @@ pub fn live_is_play()
 
 /// Going back to a mark restores the bench at it, with its history, rules and consumed events, whatever the
 /// lines since then did, if the mark is still there. It is if none of them sets a mark or goes back to one.
+/// Parameters stay as they are.
 pub fn back_restores()
     ensures bench { BackRestores }
     ensures mark { MarksStay }
+    ensures parameters { ParametersStay }
 {}
 
 /// The pieces of an input have no LF in them, and with one between each two they are the input.

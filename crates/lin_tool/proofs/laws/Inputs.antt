@@ -1,7 +1,7 @@
 -- A transcript is an input of lines again, which come to the same log.
 use Rattle.std.proofs.Common.{◌≡◌, ◌∙◌, ℕ, ◌+◌, ◌==◌, ◌≤◌, Bool, true, false, not, nat_le, List, [], ◌∷◌, ◌++◌, refl, sym, ap, subst, arith, codes, filter, flat_map, length, map, reverse, slice_index, Option, Some, None, option_map, Result, Ok, Err, if◌then◌else◌}
 use Rattle.std.specs.Prelude.{IfSome}
-use Rattle.std.specs.List.{All, AllByRecursion, onto_first, slice_split, take_while}
+use Rattle.std.specs.List.{All, AllByRecursion, list_any, onto_first, slice_split, take_while}
 use Rattle.std.specs.Str.{bytes_eq}
 use Rattle.std.specs.Str.Lines.{strip_carriage_return}
 use Rattle.std.proofs.Math.Numerals.{one-add}
@@ -23,7 +23,7 @@ use Rattle.lin_export.specs.Named.{reply_lines}
 use Rattle.lin_bench.specs.Fields.{line_fields}
 use Rattle.lin_values.specs.Coded.{CodedData}
 use Rattle.lin_bench.specs.Lines.{line_form, line_of_fields, read_line}
-use Rattle.lin_bench.specs.Plain.{HasNoMarks, HasPlainNames, SaysSteps}
+use Rattle.lin_bench.specs.Plain.{HasNoMarks, HasPlainNames, SaysSteps, resolves}
 use Rattle.lin_bench.specs.Scripts.{Script, read, read_lines, with_read_line}
 use Rattle.lin_bench.specs.Written.{line_place, without_mark}
 use Rattle.lin_bench.specs.Words.{limited_line, line_in_words, read_worded_line, worded, worded_on}
@@ -33,16 +33,16 @@ use Rattle.lin_bench.specs.declared.line.ScriptLine.{ScriptLine}
 use Rattle.lin_bench.specs.declared.place.LinePlace.{LinePlace}
 use Rattle.lin_bench.specs.declared.reason.Reason.{Reason as ScriptReason}
 use Rattle.lin_live.proofs.Cuts.{pieces-some}
-use Rattle.lin_live.proofs.Growth.{IsForward, Keeps, kept-made, line-forward}
-use Rattle.lin_live.proofs.Plays.{live-is-play}
+use Rattle.lin_live.proofs.Growth.{Keeps, kept-made}
+use Rattle.lin_live.proofs.Plays.{live-is-play, neither-of}
 use Rattle.lin_live.specs.Lines.{but_last, last_line as last_of, last_one, lines, pieces_at_lf}
 use Rattle.lin_live.specs.Play.{IsPlain, is_of_live, in_hand_of, empty_run}
-use Rattle.lin_live.specs.Told.{Ending, HandData, entries_text, gone_back, heard_as, is_text, last_line, reply, shown_coding, heard_answer, without_byte_order_mark}
+use Rattle.lin_live.specs.Told.{AllHeard, Ending, HandData, entries_text, gone_back, heard_as, heard_by, is_text, last_line, reply, shown_coding, heard_answer}
 use Rattle.lin_live.specs.Transcript.{state_after, most_bytes, short, transcript}
 use Rattle.lin_live.specs.declared.answer_format.AnswerFormat.{AnswerFormat}
 use Rattle.lin_live.specs.declared.answer_format.AnswerFormat.TheVariants.{Log, Named, Jsonl}
 use Rattle.lin_live.specs.Heard.{Heard}
-use Rattle.lin_live.specs.Heard.Heard.{Ask, GoBack, Make, SetMark}
+use Rattle.lin_live.specs.Heard.Heard.{Ask, GoBack, Make, SetMark, SetParameter}
 use Rattle.lin_live.specs.Answers.{KeepsLog}
 use Rattle.lin_live.specs.Marking.{Marked, bench_at}
 use Rattle.lin_live.specs.declared.reason.Reason.{Reason}
@@ -60,20 +60,21 @@ history-keeps c opening capacity past s h = ap (λ (p : List LogEntry). entry_of
 abbrev HasHistory : HandData → Type 0
 HasHistory h = IsHistory h.cluster h.opening h.capacity h.bench.past
 
-told-history : (h : HandData) (said : Result (Option Heard) Reason) → IsForward said → HasHistory h → HasHistory (heard_answer h said).0
+told-history : (h : HandData) (said : Result (Option Heard) Reason) → KeepsLog said → HasHistory h → HasHistory (heard_answer h said).0
 told-history h (Err why) f k = k
 told-history h (Ok None) f k = k
 told-history h (Ok (Some (Ask asked))) f k = k
 told-history h (Ok (Some (SetMark name))) f k = k
 told-history h (Ok (Some (GoBack name))) f k = absurd f
+told-history h (Ok (Some (SetParameter p))) f k = k
 told-history h (Ok (Some (Make line))) f k =
     kept-made h.cluster h.opening h.capacity (IsHistory h.cluster h.opening h.capacity) (history-keeps h.cluster h.opening h.capacity) h.bench line k
 
-after-history : (h : HandData) (ls : List (List ℕ)) → AllByRecursion KeepsLog ls → HasHistory h → HasHistory (state_after reply h ls)
+after-history : (h : HandData) (ls : List (List ℕ)) → AllHeard KeepsLog h ls → HasHistory h → HasHistory (state_after reply h ls)
 after-history h [] on k = k
 after-history h (line ∷ more) (on, rest-on) k =
     after-history (reply h (short line)).0 more rest-on
-    (told-history (record h { begun = true }) (heard_as h.cluster h.coded h.limits (without_byte_order_mark h (short line))) (line-forward h line on) k)
+    (told-history (record h { begun = true }) (heard_by h (short line)) on k)
 
 -- what stays of a bench in hand
 abbrev Stays : HandData → HandData → Type 0
@@ -89,12 +90,13 @@ told-stays h (Ok None) = (refl, refl, refl)
 told-stays h (Ok (Some (Ask asked))) = (refl, refl, refl)
 told-stays h (Ok (Some (SetMark name))) = (refl, refl, refl)
 told-stays h (Ok (Some (GoBack name))) = back-stays h name (bench_at h.marks name)
+told-stays h (Ok (Some (SetParameter p))) = (refl, refl, refl)
 told-stays h (Ok (Some (Make line))) = (refl, refl, refl)
 
 after-stays : (h : HandData) (ls : List (List ℕ)) → Stays h (state_after reply h ls)
 after-stays h [] = (refl, refl, refl)
 after-stays h (line ∷ more) =
-    let one = told-stays (record h { begun = true }) (heard_as h.cluster h.coded h.limits (without_byte_order_mark h (short line))) in
+    let one = told-stays (record h { begun = true }) (heard_by h (short line)) in
     let rest = after-stays (reply h (short line)).0 more in
     (rest.0 ∙ one.0, rest.1 ∙ one.1, rest.2 ∙ one.2)
 
@@ -106,7 +108,7 @@ log-again h ls t =
     let was : HasHistory k = after-history h ls t.forward (rw (t.begins) refl) in
     ap (history h.cluster h.opening h.capacity) (ap reverse (steps_of-reverse k.bench.past) ∙ reverse-reverse (steps_of k.bench.past)) ∙ sym (rw (s.0, s.1, s.2) at was)
 
--- ---- no line of a bench script asks, sets a mark or goes back to one
+-- ---- no line of a bench script asks, sets a mark or a parameter, or goes back to a mark
 is-text : (x : ℕ) (xs : List ℕ) → is_not_empty (x ∷ xs) ≡ true
 is-text x xs = grind (arith, common_steps)
 
@@ -133,6 +135,10 @@ going-bad : (c : Parts) (fs : List (List ℕ)) (said : Option ScriptLine) → li
 unfolding line_form step_form
 going-bad c fs said e = absurd (cc)
 
+setting-bad : (c : Parts) (fs : List (List ℕ)) (said : Option ScriptLine) → line_of_fields c (codes "set" ∷ fs) ≡ Ok said → ⊥
+unfolding line_form step_form
+setting-bad c fs said e = absurd (cc)
+
 word-asks : (c : Parts) (v w : List ℕ) (fs : List (List ℕ)) (said : Option ScriptLine) → (line_of_fields c (v ∷ fs) ≡ Ok said → ⊥) → (t : Bool) → bytes_eq w v ≡ t
     → line_of_fields c (w ∷ fs) ≡ Ok said → t ≡ false
 word-asks c v w fs said bad false h e = refl
@@ -144,7 +150,8 @@ fields-ask c (w ∷ fs) said e =
     let asks = word-asks c (codes "?") w fs said (asking-bad c fs said) (bytes_eq w (codes "?")) refl e in
     let marks = word-asks c (codes "mark") w fs said (marking-bad c fs said) (bytes_eq w (codes "mark")) refl e in
     let goes = word-asks c (codes "back") w fs said (going-bad c fs said) (bytes_eq w (codes "back")) refl e in
-    rw (asks, marks, goes) refl
+    let sets = word-asks c (codes "set") w fs said (setting-bad c fs said) (bytes_eq w (codes "set")) refl e in
+    rw (asks, marks, goes, sets) refl
 
 line-by : (c : Parts) (line : List ℕ) (said : Option ScriptLine) (t : Bool) → (slice_index line 0 == 62) ≡ t
     → (if t then Ok None else line_of_fields c (line_fields line)) ≡ Ok said → is_of_live (line_fields line) ≡ false
@@ -171,11 +178,14 @@ reading-goes n (Ok (Some l)) (Err bad) said e = absurd (cc)
 abbrev IsShort : List ℕ → Type 0
 IsShort p = length (strip_carriage_return p) ≤ most_bytes
 
-all-plain : (c : Parts) (limits : List NodeLimits) (n : ℕ) (ps : List (List ℕ)) (said : List (LinePlace × ScriptLine)) → AllByRecursion IsShort ps → read_lines c None limits n ps ≡ Ok said → AllByRecursion IsPlain ps
-all-plain c limits n [] said k e = tt
-all-plain c limits n (p ∷ ps) said k e =
-    let r = reading-goes (line_place n) (read_worded_line c None limits (strip_carriage_return p)) (read_lines c None limits (n + 1) ps) said e in
-    ((k.0, line-asks c limits (strip_carriage_return p) r.0.0 r.0.1), all-plain c limits (n + 1) ps r.1.0 k.1 r.1.1)
+all-plain : (c : Parts) (limits : List NodeLimits) (n : ℕ) (ps : List (List ℕ)) (said : List (LinePlace × ScriptLine)) → AllByRecursion IsShort ps → read_lines c None limits n ps ≡ Ok said
+    → list_any resolves (map strip_carriage_return ps) ≡ false → AllByRecursion IsPlain ps
+all-plain c limits n [] said k e u = tt
+all-plain c limits n (p ∷ ps) said k e u =
+    let line = strip_carriage_return p in
+    let none = neither-of (resolves line) (list_any resolves (map strip_carriage_return ps)) u in
+    let r = reading-goes (line_place n) (read_worded_line c None limits line) (read_lines c None limits (n + 1) ps) said e in
+    ((k.0, line-asks c limits line r.0.0 r.0.1, none.0), all-plain c limits (n + 1) ps r.1.0 k.1 r.1.1 none.1)
 
 -- ---- how a transcript begins: with no mark
 abbrev IsFirst : ℕ → Type 0
@@ -206,7 +216,7 @@ last-begins Jsonl c k e rest text = absurd (cc)
 transcript-begins : (h : HandData) (line : List ℕ) (more : List (List ℕ)) → is_text h.format ≡ true → Begins (transcript reply h (line ∷ more))
 transcript-begins h line more text =
     let begun = record h { begun = true } in
-    let said = heard_as h.cluster h.coded h.limits (without_byte_order_mark h (short line)) in
+    let said = heard_by h (short line) in
     let rest = transcript reply (reply h (short line)).0 more in
     let k = shown_coding h in
     let ending = (heard_answer begun said).1.ending in
@@ -231,6 +241,7 @@ told-begun h (Ok None) b = b
 told-begun h (Ok (Some (Ask asked))) b = b
 told-begun h (Ok (Some (SetMark name))) b = b
 told-begun h (Ok (Some (GoBack name))) b = back-begun h name (bench_at h.marks name) b
+told-begun h (Ok (Some (SetParameter p))) b = b
 told-begun h (Ok (Some (Make line))) b = b
 
 nothing-read : (c : Parts) (k : Option CodedData) (limits : List NodeLimits) → read_worded_line c k limits [] ≡ Ok None
@@ -256,7 +267,7 @@ lines-same : (h : HandData) → h.begun ≡ true → (p : List ℕ) (ps : List (
 lines-same h b p [] = last-same h b p
 lines-same h b p (q ∷ qs) =
     let line = short (strip_carriage_return p) in
-    lines-same (reply h line).0 (told-begun (record h { begun = true }) (heard_as h.cluster h.coded h.limits (without_byte_order_mark h line)) refl) q qs
+    lines-same (reply h line).0 (told-begun (record h { begun = true }) (heard_by h line) refl) q qs
 
 pieces-same : (h : HandData) → h.begun ≡ true → (t : List ℕ) (ps : List (List ℕ)) (p : List ℕ) (qs : List (List ℕ)) → ps ≡ p ∷ qs → ps ≡ pieces_at_lf t
     → state_after reply h (lines t) ≡ state_after reply h (map strip_carriage_return (pieces_at_lf t))
@@ -291,7 +302,7 @@ begun-same h ls x k b =
     let unmarked-line : option_map without_mark (short line) ≡ short line =
     marked-by (nat_le (length line) most_bytes) line (no-mark line (ap (λ (n : ℕ). n == 239) b.3 ∙ k)) in
     ap (state_after reply (anew h)) b.2
-    ∙ ap (λ o. state_after reply (heard_answer k1 (heard_as h.cluster h.coded h.limits o)).0 b.1) unmarked-line
+    ∙ ap (λ o. state_after reply (heard_answer k1 (heard_as h.cluster h.coded h.limits [] o)).0 b.1) unmarked-line
     ∙ ap (state_after reply k1) (sym b.2)
 
 -- ---- a transcript
@@ -316,9 +327,11 @@ again-by h ls t a plain_names none fits shorts b =
     let reading : read_lines h.cluster h.coded h.limits 1 (pieces_at_lf text) ≡ Ok says.lines =
     ap (λ (u : List ℕ). read_lines h.cluster h.coded h.limits 1 (pieces_at_lf u)) (sym (begins-unmarked text b))
     ∙ reads-coded h.cluster h.opening h.capacity text (steps_of (log_after h ls)) h.coded h.limits none says in
+    let unresolved : list_any resolves (map strip_carriage_return (pieces_at_lf text)) ≡ false =
+    ap (λ (u : List ℕ). list_any resolves (map strip_carriage_return (pieces_at_lf u))) (sym (begins-unmarked text b)) ∙ says.unresolved in
     let some = pieces-some text in
     let played = live-is-play h.format h.coded h.limits h.is_physical h.cluster h.opening h.capacity (pieces_at_lf text) says.lines _
-    (all-plain h.cluster h.limits 1 (pieces_at_lf text) says.lines shorts plain) says.untested reading says.steps_alone in
+    (all-plain h.cluster h.limits 1 (pieces_at_lf text) says.lines shorts plain unresolved) says.untested reading says.steps_alone in
     let first-line : HasFirst b.0 (lines text) = subst (λ (u : List ℕ). HasFirst b.0 (lines u)) (sym b.2) (lines-first b.0 b.1 b.3) in
     let same = begun-same h (lines text) b.0 b.3.0 first-line ∙ pieces-same k1 refl text (pieces_at_lf text) some.0 some.1 some.2 refl ∙ played in (
       ap (λ (k : HandData). reverse k.bench.past) same ∙ ap reverse (log-again h ls t),

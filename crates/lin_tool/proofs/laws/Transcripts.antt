@@ -9,7 +9,7 @@ use Rattle.lin_values.specs.Coded.{CodedData}
 use Rattle.lin_live.proofs.Cuts.{pieces-clean, tail-clean}
 use Rattle.lin_live.proofs.Growth.{answers-are-the-log, answers-are-written, told-kept}
 use Rattle.lin_live.specs.Answers.{answers, answers_text}
-use Rattle.lin_live.specs.Told.{Answer, Ending, HandData, hash_ending, is_text, last_line, line_answer, entries_text, heard_as, shown_coding, heard_answer, without_byte_order_mark}
+use Rattle.lin_live.specs.Told.{Answer, Ending, HandData, hash_ending, is_text, last_line, line_answer, entries_text, heard_by, shown_coding, heard_answer}
 use Rattle.lin_live.specs.Lines.{HasNoLf, but_last, last_line as last_of, pieces_at_lf, after_last_lf}
 use Rattle.lin_live.specs.Transcript.{short}
 use Rattle.lin_live.specs.declared.answer_format.AnswerFormat.{AnswerFormat}
@@ -33,7 +33,7 @@ all-remarks : (h : HandData) (f : AnswerFormat) (physical : Bool) (c : Parts) (k
 all-remarks h f physical c k form phys is so text [] = tt
 all-remarks h f physical c k form phys is so text (line ∷ more) =
     let begun = record h { begun = true } in
-    let said = heard_as h.cluster h.coded h.limits (without_byte_order_mark h (short line)) in
+    let said = heard_by h (short line) in
     let kept = told-kept begun said in (
       rw (sym is, sym so, sym phys)
           (text-line f h.cluster (shown_coding h) _ text (ending-remark h.cluster (shown_coding h) (heard_answer begun said).1.ending)),

@@ -12,7 +12,7 @@ use Rattle.lin_bench.specs.Plain.{HasNoMarks, HasPlainNames, SaysSteps}
 use Rattle.lin_live.specs.Answers.{KeepsLog, answers}
 use Rattle.lin_live.specs.Lines.{HasNoLf, but_last, lines, pieces_at_lf, after_last_lf}
 use Rattle.lin_live.specs.Play.{in_hand_of, empty_run}
-use Rattle.lin_live.specs.Told.{HandData, entries_text, is_text, last_line, reply, shown_coding}
+use Rattle.lin_live.specs.Told.{AllHeard, HandData, entries_text, is_text, last_line, reply, shown_coding}
 use Rattle.lin_live.specs.Transcript.{state_after, most_bytes, transcript}
 use Rattle.lin_live.specs.declared.answer_format.AnswerFormat.TheVariants.{Log}
 
@@ -34,7 +34,7 @@ without_remarks bytes = flat_map (λ line. line) (filter is_said (lines_with_end
 pub record IsTranscript (h : HandData) (ls : List (List ℕ)) : Type 0 where
   pub of_text : is_text h.format ≡ true
   pub begins : h.bench.past ≡ []
-  pub forward : AllByRecursion KeepsLog ls
+  pub forward : AllHeard KeepsLog h ls
 
 abbrev pub log_after : HandData → List (List ℕ) → List LogEntry
 log_after h ls = reverse (state_after reply h ls).bench.past
