@@ -18,6 +18,7 @@ pub mod Differing
 pub mod CampaignRows
 pub mod CampaignPlays
 pub mod CampaignTexts
+pub mod CampaignChecks
 pub mod CampaignLogs
 pub mod CampaignInert
 pub mod CampaignLines

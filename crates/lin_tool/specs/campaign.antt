@@ -3,6 +3,7 @@ pub mod Slots
 pub mod Singles
 pub mod Rows
 pub mod Row
+pub mod Checks
 pub mod Played
 pub mod Shown
 pub mod FaultNames

@@ -12,6 +12,7 @@ ghost use Rattle.lin_tool.specs.campaign.Steps.{PlaysAndWritesRow, PlaysAndWrite
 ghost use Rattle.lin_tool.specs.campaign.Steps.{calm_row, head_with_calm, shows_calm, worst_places};
 ghost use Rattle.lin_tool.specs.campaign.Written.{WritesOpened, WritesSource, name_or};
 
+mod checks;
 mod csv_rows;
 mod fault_names;
 mod finished_slots;

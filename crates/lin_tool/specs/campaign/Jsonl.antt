@@ -1,5 +1,5 @@
 -- The rows of a campaign as objects (JSON, RFC 8259), one a line.
-use Rattle.std.specs.Prelude.{ℕ, suc, zero, ◌-◌, List, [], ◌∷◌, ◌++◌, codes, filter}
+use Rattle.std.specs.Prelude.{ℕ, suc, zero, ◌-◌, List, [], ◌∷◌, ◌++◌, codes, false, true}
 use Rattle.std.specs.Prelude.{flat_map, map, take, Option, Some, None}
 use Rattle.std.specs.Fmt.{decimal}
 use Rattle.std.specs.Option.{option_map_or, option_to_list}
@@ -10,13 +10,13 @@ use Rattle.lin_core.specs.Tables.{cause_word, refusal_word}
 use Rattle.lin_core.specs.declared.event.Seen.{Seen}
 use Rattle.lin_core.specs.declared.event.Seen.TheVariants.{Silent, NoAnswer, Good, Damaged, Collided}
 use Rattle.lin_core.specs.declared.log.LogEntry.{LogEntry}
-use Rattle.lin_bench.specs.Played.{is_unmet}
 use Rattle.lin_bench.specs.Texts.{found_text, what_text}
 use Rattle.lin_bench.specs.declared.got.Judgement.{Judgement}
 use Rattle.lin_export.specs.Csv.{after_comma}
 use Rattle.lin_export.specs.Json.{json_array, member, null, object, object_line, printable_text, quoted_text}
 use Rattle.lin_export.specs.Track.{finished_slot_count}
 use Rattle.lin_tool.specs.Placing.{past_at}
+use Rattle.lin_tool.specs.campaign.Checks.{first_checks}
 use Rattle.lin_tool.specs.campaign.FaultNames.{fault_text}
 use Rattle.lin_tool.specs.campaign.Shown.{RowData}
 use Rattle.lin_tool.specs.campaign.Slots.{finished_slots}
@@ -52,6 +52,9 @@ expectation c log j =
     ∷ member (codes "slot") (last_of (finished_slot_count (past_at log j.entries)))
     ∷ [])
 
+abbrev pub expectation_objects : Parts → List LogEntry → List Judgement → List (List ℕ)
+expectation_objects c log js = map (expectation c log) (first_checks c false js)
+
 -- the object of a campaign of a script of this name, with so many single faults and so many rows, of
 -- which this is the undisturbed play
 abbrev pub head_object : Parts → List ℕ → ℕ → ℕ → RowData → List ℕ
@@ -62,7 +65,7 @@ head_object c script singles rows p =
     ∷ decimal_member (codes "slots") p.row.slots
     ∷ decimal_member (codes "faults") singles
     ∷ decimal_member (codes "rows") rows
-    ∷ member (codes "lines") (json_array (map (expectation c p.log) p.judgements))
+    ∷ member (codes "lines") (json_array (expectation_objects c p.log p.judgements))
     ∷ [])
 
 abbrev pub sized_object : CampaignSize → Parts → RowData → List ℕ
@@ -87,7 +90,7 @@ failure_object c j =
     ∷ [])
 
 abbrev pub failure_objects : Parts → List Judgement → List (List ℕ)
-failure_objects c js = map (failure_object c) (filter (λ (j : Judgement). is_unmet j.judged) js)
+failure_objects c js = map (failure_object c) (first_checks c true js)
 
 abbrev pub loss_object : Parts → LostMessage → List ℕ
 loss_object c l =

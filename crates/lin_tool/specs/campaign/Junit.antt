@@ -1,14 +1,14 @@
 -- The rows of a campaign as a report for what reads those of tests (JUnit's, in XML 1.0).
-use Rattle.std.specs.Prelude.{ℕ, ◌==◌, if◌then◌else◌, List, [], ◌∷◌, ◌++◌, codes, filter, length, map}
+use Rattle.std.specs.Prelude.{ℕ, ◌==◌, if◌then◌else◌, List, [], ◌∷◌, ◌++◌, codes, length, map, true}
 use Rattle.std.specs.Fmt.{decimal}
 use Rattle.lin_parts.specs.declared.parts.Parts.{Parts}
 use Rattle.lin_core.specs.declared.log.LogEntry.{LogEntry}
-use Rattle.lin_bench.specs.Played.{is_unmet}
 use Rattle.lin_bench.specs.declared.files.ScriptFile.{ScriptFile}
 use Rattle.lin_bench.specs.declared.got.Judgement.{Judgement}
 use Rattle.lin_tool.specs.Junit.{xml_text}
 use Rattle.lin_tool.specs.Placing.{placed_missed}
 use Rattle.lin_tool.specs.Separated.{with_separators}
+use Rattle.lin_tool.specs.campaign.Checks.{first_checks}
 use Rattle.lin_tool.specs.campaign.Shown.{RowData}
 use Rattle.lin_tool.specs.campaign.Text.{row_name}
 use Rattle.lin_tool.specs.declared.campaign.row.RowVerdict.{RowVerdict}
@@ -23,12 +23,11 @@ report_head script cases =
 abbrev pub report_end : List ℕ
 report_end = codes "</testsuite>\n</testsuites>\n"
 
--- the lines of `play --where`, without the end of the last one
+-- the lines of `play --where` for the first failures of lines, without the end of the last one
 abbrev pub failure_lines : List ℕ → List ScriptFile → Parts → List LogEntry → List Judgement → List ℕ
 failure_lines script fs c log js =
     with_separators [] (10 ∷ [])
-    (map (λ j. xml_text (placed_missed script fs c log j))
-    (filter (λ (j : Judgement). is_unmet j.judged) js))
+    (map (λ j. xml_text (placed_missed script fs c log j)) (first_checks c true js))
 
 abbrev pub failure : List ℕ → List ℕ → List ℕ
 failure message lines =

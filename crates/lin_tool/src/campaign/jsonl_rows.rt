@@ -12,7 +12,7 @@ ghost use Rattle.lin_export.specs.Csv.{after_comma};
 ghost use Rattle.lin_export.specs.Json.{with_commas};
 ghost use Rattle.lin_export.specs.Putting.{PutsAll};
 ghost use Rattle.lin_tool.specs.Placing.{AtMoment};
-ghost use Rattle.lin_tool.specs.campaign.Jsonl.{failure_objects, ended_members, expectation, failure_object};
+ghost use Rattle.lin_tool.specs.campaign.Jsonl.{failure_objects, ended_members, expectation, expectation_objects, failure_object};
 ghost use Rattle.lin_tool.specs.campaign.Jsonl.{last_of, seen_letter, letters, next_letter};
 ghost use Rattle.lin_tool.specs.campaign.Jsonl.{loss_object, decimal_member, outcome_members, single_members, refusal_object};
 ghost use Rattle.lin_tool.specs.campaign.Jsonl.{row_object, sized_object, verdict_part};
@@ -20,6 +20,7 @@ ghost use Rattle.lin_tool.specs.campaign.Page.{in_page};
 ghost use Rattle.lin_tool.specs.campaign.Shown.{row_data};
 ghost use Rattle.lin_tool.specs.campaign.Slots.{HasRead, kept_of_slot};
 
+use crate::campaign::checks::first_checks;
 use crate::campaign::fault_names::{put_fault_array, put_node_name};
 use crate::campaign::finished_slots::{KeptSlot, SlotReader, slot_name, table_name};
 use crate::campaign::page::put_object_text;
@@ -27,7 +28,7 @@ use crate::campaign::row::{LostMessage, RefusedStep, RowVerdict};
 use crate::campaign::shown::ShownRow;
 use crate::campaign::singles::Single;
 use crate::placing::{Moment, within};
-use lin_bench::{Judgement, is_unmet};
+use lin_bench::Judgement;
 use lin_core::{Listed, Log, LogEntry, Look};
 use lin_export::{Member, put_key, put_member, put_type};
 use lin_live::{found_text, what_text, without_space};
@@ -82,7 +83,32 @@ fn put_expectation<W: Write>(
     Ok(())
 }
 
-/// The expectations of the undisturbed play. An error means out of memory.
+/// Expectations of the undisturbed play. An error means out of memory.
+fn put_checks<W: Write>(
+    out: &mut TextWriter<'_, W>,
+    alloc: Global,
+    cluster: &Cluster,
+    log: &Log,
+    checks: &[&Judgement],
+) -> Result<(), AllocError>
+    ensures { PutsAll W.contents out.old out.new result
+        (with_commas (map (λ j. expectation cluster.now log.now.entries j.now) checks.now)) }
+{
+    let mut read = 0;
+    let mut moment = Moment::new();
+    let mut mark: &[u8] = b"";
+    for one in checks {
+        let entries = within(log, one.entries);
+        moment = moment.at(cluster, log, read, entries);
+        read = entries;
+        out.put(mark);
+        put_expectation(out, alloc, cluster, moment, *one)?;
+        mark = b",";
+    }
+    Ok(())
+}
+
+/// The expectations of the undisturbed play, that of a line that is repeated once. An error means out of memory.
 fn put_expectations<W: Write>(
     out: &mut TextWriter<'_, W>,
     alloc: Global,
@@ -91,20 +117,10 @@ fn put_expectations<W: Write>(
     judgements: &[Judgement],
 ) -> Result<(), AllocError>
     ensures { PutsAll W.contents out.old out.new result
-        (with_commas (map (expectation cluster.now log.now.entries) judgements.now)) }
+        (with_commas (expectation_objects cluster.now log.now.entries judgements.now)) }
 {
-    let mut read = 0;
-    let mut moment = Moment::new();
-    let mut mark: &[u8] = b"";
-    for one in judgements {
-        let entries = within(log, one.entries);
-        moment = moment.at(cluster, log, read, entries);
-        read = entries;
-        out.put(mark);
-        put_expectation(out, alloc, cluster, moment, one)?;
-        mark = b",";
-    }
-    Ok(())
+    let checks = first_checks(alloc, cluster, false, judgements)?;
+    put_checks(out, alloc, cluster, log, checks.as_slice())
 }
 
 /// The name of a campaign's script, and the numbers of its single faults and of its rows.
@@ -181,7 +197,26 @@ fn put_failed<W: Write>(
     Ok(())
 }
 
-/// The failed expectations. An error means out of memory.
+/// Failed expectations. An error means out of memory.
+fn put_failures<W: Write>(
+    out: &mut TextWriter<'_, W>,
+    alloc: Global,
+    cluster: &Cluster,
+    failed: &[&Judgement],
+) -> Result<(), AllocError>
+    ensures { PutsAll W.contents out.old out.new result
+        (with_commas (map (λ j. failure_object cluster.now j.now) failed.now)) }
+{
+    let mut mark: &[u8] = b"";
+    for one in failed {
+        out.put(mark);
+        put_failed(out, alloc, cluster, *one)?;
+        mark = b",";
+    }
+    Ok(())
+}
+
+/// The failed expectations, that of a line that is repeated once. An error means out of memory.
 fn put_all_failed<W: Write>(
     out: &mut TextWriter<'_, W>,
     alloc: Global,
@@ -191,15 +226,8 @@ fn put_all_failed<W: Write>(
     ensures { PutsAll W.contents out.old out.new result
         (with_commas (failure_objects cluster.now judgements.now)) }
 {
-    let mut mark: &[u8] = b"";
-    for one in judgements {
-        if is_unmet(&one.judged) {
-            out.put(mark);
-            put_failed(out, alloc, cluster, one)?;
-            mark = b",";
-        }
-    }
-    Ok(())
+    let failed = first_checks(alloc, cluster, true, judgements)?;
+    put_failures(out, alloc, cluster, failed.as_slice())
 }
 
 /// A lost message.

@@ -1,21 +1,24 @@
 //! The rows of a campaign as a report for what reads those of tests (JUnit's, in XML 1.0).
 
-ghost use Rattle.std.specs.Prelude.{◌≡◌, ◌++◌, IfOk, codes};
+ghost use Rattle.std.specs.Prelude.{◌≡◌, ◌++◌, ◌∷◌, [], IfOk, codes, map};
 ghost use Rattle.std.specs.Fmt.{decimal};
 ghost use Rattle.lin_text.specs.Written.{Grows};
 ghost use Rattle.lin_export.specs.Putting.{PutsAll};
 ghost use Rattle.lin_tool.specs.Junit.{xml_text};
+ghost use Rattle.lin_tool.specs.Placing.{placed_missed};
+ghost use Rattle.lin_tool.specs.Separated.{with_separators};
 ghost use Rattle.lin_tool.specs.campaign.Junit.{broken_failure, case_end, case_text, failure, failure_lines};
 ghost use Rattle.lin_tool.specs.campaign.Junit.{report_head, row_case};
 ghost use Rattle.lin_tool.specs.campaign.Shown.{row_data};
 ghost use Rattle.lin_tool.specs.campaign.Text.{row_name};
 
+use crate::campaign::checks::first_checks;
 use crate::campaign::row::RowVerdict;
 use crate::campaign::shown::ShownRow;
 use crate::campaign::text::put_name;
 use crate::junit::put_escaped;
 use crate::placing::{FileNames, Moment, missed_line, within};
-use lin_bench::{Judgement, is_unmet};
+use lin_bench::Judgement;
 use lin_core::Log;
 use lin_parts::Cluster;
 use lin_text::{TextBuffer, TextWriter};
@@ -50,7 +53,42 @@ fn case_name(alloc: Global, cluster: &Cluster, shown: &ShownRow<'_>) -> Result<V
     }
 }
 
-/// The lines of the failed expectations. An error means out of memory.
+/// The lines of failed expectations. An error means out of memory.
+fn put_failures<W: Write>(
+    out: &mut TextWriter<'_, W>,
+    alloc: Global,
+    names: FileNames<'_>,
+    cluster: &Cluster,
+    log: &Log,
+    failed: &[&Judgement],
+) -> Result<(), AllocError>
+    ensures { PutsAll W.contents out.old out.new result (with_separators [] (10 ∷ [])
+        (map (λ j. xml_text (placed_missed names.entry.script.now names.entry.files.now cluster.now
+        log.now.entries j.now)) failed.now)) }
+{
+    let mut read = 0;
+    let mut moment = Moment::new();
+    let mut mark: &[u8] = b"";
+    for one in failed {
+        let entries = within(log, one.entries);
+        moment = moment.at(cluster, log, read, entries);
+        read = entries;
+        let missed = missed_line(
+            alloc,
+            Some(names.script),
+            names.files,
+            cluster,
+            moment,
+            *one,
+        )?;
+        out.put(mark);
+        put_escaped(out, missed.as_slice());
+        mark = b"\n";
+    }
+    Ok(())
+}
+
+/// The lines of the failed expectations, that of a line that is repeated once. An error means out of memory.
 fn put_failed<W: Write>(
     out: &mut TextWriter<'_, W>,
     alloc: Global,
@@ -62,21 +100,8 @@ fn put_failed<W: Write>(
     ensures { PutsAll W.contents out.old out.new result
         (failure_lines names.entry.script.now names.entry.files.now cluster.now log.now.entries judgements.now) }
 {
-    let mut read = 0;
-    let mut moment = Moment::new();
-    let mut mark: &[u8] = b"";
-    for one in judgements {
-        let entries = within(log, one.entries);
-        moment = moment.at(cluster, log, read, entries);
-        read = entries;
-        if is_unmet(&one.judged) {
-            let missed = missed_line(alloc, Some(names.script), names.files, cluster, moment, one)?;
-            out.put(mark);
-            put_escaped(out, missed.as_slice());
-            mark = b"\n";
-        }
-    }
-    Ok(())
+    let failed = first_checks(alloc, cluster, true, judgements)?;
+    put_failures(out, alloc, names, cluster, log, failed.as_slice())
 }
 
 /// The failure of a row that isn't tolerated, with its failed lines. An error means out of memory.

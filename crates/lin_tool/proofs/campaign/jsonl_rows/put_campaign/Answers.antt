@@ -1,4 +1,4 @@
-use Rattle.std.proofs.Common.{◌∷◌, ◌++◌, [], ap, map}
+use Rattle.std.proofs.Common.{◌∷◌, ◌++◌, [], ap}
 use Rattle.std.specs.Prelude.{codes}
 use Rattle.lin_export.specs.Csv.{after_comma}
 use Rattle.lin_export.specs.Json.{member, quoted_text}
@@ -6,7 +6,7 @@ use Rattle.lin_log.proofs.Ends.{grows-last}
 use Rattle.lin_text.proofs.Growing.{grows-more, same-growth}
 use Rattle.lin_export.proofs.Objects.{grows-member}
 use Rattle.lin_export.proofs.Puttings.{puts-all}
-use Rattle.lin_tool.specs.campaign.Jsonl.{expectation, decimal_member, printable_member}
+use Rattle.lin_tool.specs.campaign.Jsonl.{expectation_objects, decimal_member, printable_member}
 use Rattle.lin_tool.specs.campaign.Shown.{row_data}
 use Rattle.lin_tool.proofs.CampaignTexts.{array-between, broke-before, puts-behind, same-puts}
 use Rattle.lin_tool.proofs.campaign.jsonl_rows.put_campaign.Goals as goal
@@ -24,7 +24,7 @@ returns-in_err-put_expectations g c =
     ∷ []
     in
     let type = 123 ∷ member (codes "type") (quoted_text (codes "campaign")) in
-    same-puts (ap (λ l. type ++ l) (array-between ms [] (codes "lines") (map (expectation x p.log) p.judgements) (codes "}\n")))
+    same-puts (ap (λ l. type ++ l) (array-between ms [] (codes "lines") (expectation_objects x p.log p.judgements) (codes "}\n")))
     (puts-behind c.put_type.ensures
     (puts-behind
     (grows-more c.put_member.ensures
@@ -47,7 +47,7 @@ returns g c =
     in
     let type = 123 ∷ member (codes "type") (quoted_text (codes "campaign")) in
     let put = rw (c.in_ok-put_expectations.was, c.cluster-cluster.ensures, c.log-log.ensures.entries) at c.put_expectations.ensures in
-    puts-all (ap (λ l. type ++ l) (array-between ms [] (codes "lines") (map (expectation x p.log) p.judgements) (codes "}\n")))
+    puts-all (ap (λ l. type ++ l) (array-between ms [] (codes "lines") (expectation_objects x p.log p.judgements) (codes "}\n")))
     (grows-more c.put_type.ensures
     (grows-more
     (grows-more c.put_member.ensures

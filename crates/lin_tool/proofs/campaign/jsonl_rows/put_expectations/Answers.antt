@@ -1,59 +1,18 @@
-use Rattle.std.proofs.Common.{◌∙◌, ◌+◌, ◌++◌, ap, arith, drop, map, refl, sym}
-use Rattle.std.specs.Prelude.{codes}
-use Rattle.lin_export.proofs.Puttings.{puts-all}
-use Rattle.lin_tool.specs.Placing.{moment_of}
-use Rattle.lin_tool.specs.campaign.Jsonl.{expectation}
-use Rattle.lin_export.proofs.Slots.{drop-next}
-use Rattle.lin_tool.specs.Separated.{with_separators}
-use Rattle.lin_tool.proofs.CampaignTexts.{commas, marked-end, marked-next}
-use Rattle.lin_tool.proofs.Remaining.{broke-off, none-put, put-all, put-more, put-whole, same-rest}
+use Rattle.std.proofs.Common.{◌∙◌, ap, map, refl}
+use Rattle.std.specs.Borrow.{Bor}
+use Rattle.lin_bench.specs.declared.got.Judgement.{Judgement}
+use Rattle.lin_text.proofs.Growing.{grows-nothing}
+use Rattle.lin_export.specs.Json.{with_commas}
+use Rattle.lin_export.proofs.Puttings.{puts-some}
+use Rattle.lin_tool.specs.campaign.Jsonl.{expectation, expectation_objects}
+use Rattle.lin_tool.proofs.CampaignChecks.{texts-of}
+use Rattle.lin_tool.proofs.CampaignTexts.{same-puts}
 use Rattle.lin_tool.proofs.campaign.jsonl_rows.put_expectations.Goals as goal
 
-pub loop-one-init : goal.loop-one-init
-loop-one-init g c = record {
-  put = same-rest (sym (commas (map (expectation c.args.cluster.now c.args.log.now.entries) c.args.judgements.now))) (none-put c.args.out.now _);
-  told = c.new-moment.ensures c.args.cluster.now;
-  time = rw (c.new-moment.ensures c.args.cluster.now) (omega arith);
-  count = rw (c.new-moment.ensures c.args.cluster.now) (omega arith);
-  few = omega arith;
-}
-
-pub returns-in_err-put_expectation : goal.returns-in_err-put_expectation
-returns-in_err-put_expectation g c =
-    let log = c.args.log.now.entries in
-    let f = expectation c.args.cluster.now log in
-    let js = c.args.judgements.now in
-    let i = c.loop-one.one-index in
-    let x = c.one-item.result in
-    let other = codes "," in
-    let rest = with_separators other other (map f (drop (i + 1) js)) in
-    let told = c.at-moment.ensures.told ∙ ap (moment_of c.args.cluster.now) c.within-entries.ensures.same in
-    broke-off rest c.from_residual.ensures.0
-    (put-more (f x ++ rest) (same-rest (marked-next f c.loop-one.mark.now other js i x (drop-next js i x c.one-item.is (omega arith))) c.loop-one.invariant.put) c.put.ensures) (c.put_expectation.ensures log told)
-
-pub loop-one-preserved : goal.loop-one-preserved
-loop-one-preserved g c =
-    let log = c.args.log.now.entries in
-    let f = expectation c.args.cluster.now log in
-    let js = c.args.judgements.now in
-    let i = c.loop-one.one-index in
-    let x = c.one-item.result in
-    let other = codes "," in
-    let rest = with_separators other other (map f (drop (i + 1) js)) in
-    let told = c.at-moment.ensures.told ∙ ap (moment_of c.args.cluster.now) c.within-entries.ensures.same in
-    let one = rw c.in_ok-put_expectation.was at (c.put_expectation.ensures log told) in
-    record {
-      put =
-          put-all rest
-          (put-more (f x ++ rest) (same-rest (marked-next f c.loop-one.mark.now other js i x (drop-next js i x c.one-item.is (omega arith))) c.loop-one.invariant.put) c.put.ensures) one;
-      told = c.at-moment.ensures.told;
-      time = c.at-moment.ensures.time;
-      count = c.at-moment.ensures.count;
-      few = c.within-entries.ensures.there;
-    }
+pub returns-in_err-checks : goal.returns-in_err-checks
+returns-in_err-checks g c = puts-some (with_commas (expectation_objects c.args.cluster.now c.args.log.now.entries c.args.judgements.now)) c.from_residual.ensures.0 refl (grows-nothing c.args.out.now)
 
 pub returns : goal.returns
 returns g c =
-    let f = expectation c.args.cluster.now c.args.log.now.entries in
-    puts-all refl
-    (put-whole (same-rest (marked-end f c.loop-one.mark.now (codes ",") c.args.judgements.now c.loop-one.one-index (omega arith)) c.loop-one.invariant.put))
+    let same = ap (map (λ (j : Bor Judgement). j.now)) c.as_slice.ensures.value ∙ c.in_ok-checks.ensures in
+    same-puts (ap with_commas (texts-of (expectation c.args.cluster.now c.args.log.now.entries) _ _ same)) c.put_checks.ensures
