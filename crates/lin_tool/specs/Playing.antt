@@ -97,9 +97,23 @@ abbrev pub first_of_names : List (List ℕ) → Option (List ℕ)
 first_of_names [] = None
 first_of_names (n ∷ ns) = Some (fold least_name n ns)
 
+abbrev pub given_names : List GivenParameter → List (List ℕ)
+given_names gs = map (λ (g : GivenParameter). g.name.now) gs
+
+abbrev pub unused_names : SourceData → List (List ℕ) → List (List ℕ)
+unused_names s ns = filter (λ n. not (is_used s n)) ns
+
 abbrev pub unused_parameter : SourceData → Option (List ℕ)
-unused_parameter s =
-    first_of_names (filter (λ n. not (is_used s n)) (map (λ (g : GivenParameter). g.name.now) s.given))
+unused_parameter s = first_of_names (unused_names s (given_names s.given))
+
+-- of several scripts one may leave to others what it doesn't use
+abbrev pub unused_alone : PlayedScript → Option (List ℕ)
+unused_alone script = if script.is_alone then unused_parameter (source_data script.source) else None
+
+-- a script that was read with them
+pub record ReadScriptData : Type 0 where
+  pub text : List ℕ
+  pub files : List ScriptFile
 
 abbrev pub ChecksUsed : Result Unit Fault → Option (List ℕ) → Type 0
 ChecksUsed (Ok done) unused = unused ≡ None

@@ -42,7 +42,7 @@ use crate::fault::Fault;
 use crate::notes::Notes;
 use crate::opening::{Opened, Settings, begin, within_limits};
 use crate::play_command::{Script, bench_lines, check_used, judge};
-use crate::plays::{ScriptInput, included_files, script_bytes};
+use crate::plays::{ScriptInput, read_script};
 use lin_bench::{Judgement, NodeLimits, SlotFault, Source, some_unmet};
 use lin_core::Core;
 use lin_export::ExportFault;
@@ -400,6 +400,7 @@ pub fn campaign_source<W: Write, E: Write>(
         is_strict: opened.settings.is_strict,
         faults: 0,
         missed: 0,
+        is_alone: true,
     };
     let lines = bench_lines(alloc, &opened, script, errors, notes)?;
     check_used(alloc, &opened.cluster, script)?;
@@ -471,18 +472,8 @@ fn campaign_file<R: AllocGlobal + Files + Input + Print, E: Write>(
     requires table { planned.opened.table < length planned.opened.cluster.tables }
     requires part { IsPart planned.plan.now.part }
 {
-    let bytes = script_bytes(rt, script.path)?;
-    let source = Source {
-        name: script.path.unwrap_or("").as_bytes(),
-        text: bytes.as_slice(),
-        files: &[],
-        given: script.given,
-    };
-    let files = included_files(rt, &planned.opened.cluster, source)?;
-    let source = Source {
-        files: files.as_slice(),
-        ..source
-    };
+    let read = read_script(rt, &planned.opened.cluster, script)?;
+    let source = read.source(script);
     let mut writer = io::writer(rt);
     campaign_source(rt.alloc(), planned, source, &mut writer, errors, notes)
 }

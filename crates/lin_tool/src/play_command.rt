@@ -1,14 +1,16 @@
 //! `linsim play`: makes the slots and steps that a bench script says, writes their log, and judges
 //! what the script expects.
 
-ghost use Rattle.std.specs.Prelude.{◌≡◌, ◌≤◌, ◌<◌, [], length, option_map, IfOk};
+ghost use Rattle.std.specs.Prelude.{◌≡◌, ◌≤◌, ◌<◌, [], is_ok, length, map, option_map, IfOk};
 ghost use Rattle.lin_text.specs.Written.{WritesText};
 ghost use Rattle.lin_export.specs.WhereTold.{given_coding};
 ghost use Rattle.lin_tool.specs.Placing.{missed_text};
 ghost use Rattle.lin_tool.specs.Playing.{judgements_with_meanings, coding_if_physical};
 ghost use Rattle.lin_bench.specs.Files.{source_data};
 ghost use Rattle.std.specs.Option.{option_map_or};
-ghost use Rattle.lin_tool.specs.Playing.{fault_of_bad, goes_before, included_file, last_reason, least_name, limit_fault};
+ghost use Rattle.lin_bench.specs.Scripts.{read};
+ghost use Rattle.lin_tool.specs.Playing.{fault_of_bad, first_of_names, given_names, goes_before, included_file, last_reason};
+ghost use Rattle.lin_tool.specs.Playing.{least_name, limit_fault, unused_alone, unused_names};
 ghost use Rattle.lin_tool.specs.Playing.{play_fails, script_counts, script_verdict};
 ghost use Rattle.lin_tool.specs.Playing.{unused_parameter, ChecksUsed, PlaysOpened};
 ghost use Rattle.lin_tool.specs.Playing.{PlaysSource, ReadsScriptLines, ReportsPlay, TellsBad, WritesShown};
@@ -20,9 +22,9 @@ use crate::opening::{Opened, within_limits};
 use crate::placing::{FileNames, write_bad_lines, write_placed_unmet};
 use crate::tally::{write_missed_faults, write_tally};
 use lin_bench::{
-    Judgement, LinePlace, PlayedUnder, ReadFault, Reason, ScriptFile, ScriptLine, SlotFault,
-    Source, bad_lines, file_name, play_under, read, some_unmet, test_names, told_meanings,
-    uses_parameter, write_bad_line, write_unmet,
+    GivenParameter, Judgement, LinePlace, PlayedUnder, ReadFault, Reason, ScriptFile, ScriptLine,
+    SlotFault, Source, bad_lines, file_name, play_under, read, some_unmet, test_names,
+    told_meanings, uses_parameter, write_bad_line, write_unmet,
 };
 use lin_core::Core;
 use lin_log::read_bytes;
@@ -47,6 +49,8 @@ pub(crate) struct Script<'a> {
     pub(crate) faults: usize,
     /// How many of these changed no slot, as far as it was played.
     pub(crate) missed: usize,
+    /// Whether no other script is played with the same parameters.
+    pub(crate) is_alone: bool,
 }
 
 /// The names of a script's files, where its own one has this name.
@@ -216,6 +220,51 @@ fn first_name<'a>(least: Option<&'a [u8]>, name: &'a [u8]) -> &'a [u8]
     }
 }
 
+/// The names of the parameters that are given with a script. An error means out of memory.
+pub(crate) fn given_names<'a>(
+    alloc: Global,
+    given: &[GivenParameter<'a>],
+) -> Result<Vec<&'a [u8]>, AllocError>
+    ensures { IfOk result (λ v. map (λ n. n.now) v.items ≡ given_names given.now) }
+{
+    let mut names = Vec::new(alloc);
+    for one in given {
+        names.push(one.name)?;
+    }
+    Ok(names)
+}
+
+/// Those of these names of parameters that no line of a script uses. An error means out of memory.
+pub(crate) fn unused_names<'a>(
+    alloc: Global,
+    cluster: &Cluster,
+    source: Source<'_>,
+    names: &[&'a [u8]],
+) -> Result<Vec<&'a [u8]>, AllocError>
+    requires { length source.text.now ≤ 16777216 }
+    ensures { IfOk result (λ v. map (λ n. n.now) v.items
+        ≡ unused_names (source_data source.entry) (map (λ n. n.now) names.now)) }
+{
+    let mut unused = Vec::new(alloc);
+    for name in names {
+        if !uses_parameter(alloc, cluster, source, *name)? {
+            unused.push(*name)?;
+        }
+    }
+    Ok(unused)
+}
+
+/// The first one of some names in the order of bytes.
+pub(crate) fn first_of_names<'a>(names: &[&'a [u8]]) -> Option<&'a [u8]>
+    ensures { option_map (λ n. n.now) result ≡ first_of_names (map (λ n. n.now) names.now) }
+{
+    let mut first: Option<&'a [u8]> = None;
+    for name in names {
+        first = Some(first_name(first, *name));
+    }
+    first
+}
+
 /// The first of the parameters, in the order of bytes, that no line of a script uses. An error means out of
 /// memory.
 fn unused_parameter<'a>(
@@ -227,26 +276,43 @@ fn unused_parameter<'a>(
     ensures { IfOk result (λ name. option_map (λ n. n.now) name
         ≡ unused_parameter (source_data script.entry.source)) }
 {
-    let mut first: Option<&'a [u8]> = None;
-    for one in script.source.given {
-        if !uses_parameter(alloc, cluster, script.source, one.name)? {
-            first = Some(first_name(first, one.name));
-        }
-    }
-    Ok(first)
+    let names = given_names(alloc, script.source.given)?;
+    let unused = unused_names(alloc, cluster, script.source, names.as_slice())?;
+    Ok(first_of_names(unused.as_slice()))
 }
 
-/// Checks that the lines of a script use each of its parameters.
+/// Checks that the lines of a script use each of its parameters, unless others are played with the same ones.
 ///
 /// # Errors
 /// `UnusedParameter`, `OutOfMemory`.
 pub(crate) fn check_used(alloc: Global, cluster: &Cluster, script: Script<'_>) -> Result<(), Fault>
     requires { length script.source.text.now ≤ 16777216 }
-    ensures { ChecksUsed result (unused_parameter (source_data script.entry.source)) }
+    ensures { ChecksUsed result (unused_alone script.entry) }
 {
+    if !script.is_alone {
+        return Ok(());
+    }
     match unused_parameter(alloc, cluster, script)? {
         Some(name) => Err(Fault::UnusedParameter(Text::copied(alloc, name)?)),
         None => Ok(()),
+    }
+}
+
+/// Whether no line of a bench script is bad. An error means out of memory.
+pub(crate) fn is_valid(
+    alloc: Global,
+    opened: &Opened<'_>,
+    source: Source<'_>,
+) -> Result<bool, AllocError>
+    requires { length source.text.now ≤ 16777216 }
+    ensures { IfOk result (λ valid. valid
+        ≡ is_ok (read opened.now.cluster opened.now.coded opened.now.limits (source_data source.entry))) }
+{
+    let (cluster, limits) = (&opened.cluster, opened.limits.as_slice());
+    match read(alloc, cluster, opened.coded.as_ref(), limits, source) {
+        Ok(_) => Ok(true),
+        Err(ReadFault::BadLine { .. }) => Ok(false),
+        Err(ReadFault::OutOfMemory) => Err(AllocError),
     }
 }
 
@@ -422,17 +488,21 @@ pub fn play_script<R: Read, W: Write, E: Write>(
     let play = DisturbedPlay {
         opened,
         faults: &[],
+        is_alone: true,
     };
     let bytes = read_bytes(alloc, reader)?;
     let source = Source::of(bytes.as_slice());
     play_source(alloc, play, source, writer, errors, notes)
 }
 
-/// A cluster that was opened, and the faults under which a script is played on it.
+/// A cluster that was opened, and how a script is played on it.
 #[derive(Drop)]
 pub struct DisturbedPlay<'a> {
     pub opened: Opened<'a>,
+    /// The faults under which it is played.
     pub faults: &'a [SlotFault],
+    /// Whether no other script is played with the same parameters.
+    pub is_alone: bool,
 }
 
 /// Plays a bench script as `play_script` does, with its files and parameters, where the steps of its lines are
@@ -440,7 +510,7 @@ pub struct DisturbedPlay<'a> {
 ///
 /// # Errors
 /// As of `play_script`; `LongFile`; `UnusedParameter` for the first parameter, in the order of bytes, that no
-/// line uses, if no line is bad; `Unmet` also if there are faults, and none of them changed a slot.
+/// line uses, if no line is bad and the script is alone; `Unmet` also if there are faults, and none of them changed a slot.
 pub fn play_source<W: Write, E: Write>(
     alloc: Global,
     play: DisturbedPlay<'_>,
@@ -456,13 +526,15 @@ pub fn play_source<W: Write, E: Write>(
         (W.contents writer.old) (W.contents writer.new)
         (E.contents errors.old) (E.contents errors.new) }
 {
-    let DisturbedPlay { opened, faults } = play;
+    let is_alone = play.is_alone;
+    let DisturbedPlay { opened, faults, .. } = play;
     let script = Script {
         source,
         name: notes.wanted.script,
         is_strict: opened.settings.is_strict,
         faults: faults.len(),
         missed: 0,
+        is_alone,
     };
     let lines = bench_lines(alloc, &opened, script, errors, notes)?;
     check_used(alloc, &opened.cluster, script)?;

@@ -11,14 +11,17 @@ use crate::formats::Format;
 use crate::junit::write_report;
 use crate::notes::{Notes, Wanted};
 use crate::opening::{Opened, Settings, begin};
-use crate::play_command::{DisturbedPlay, play_source};
+use crate::play_command::{
+    DisturbedPlay, first_of_names, given_names, is_valid, play_source, unused_names,
+};
 use lin_bench::{FileText, GivenParameter, ScriptFile, SlotFault, Source, missing_file};
 use lin_log::{ScriptFault, read_bytes};
 use lin_parts::Cluster;
-use lin_text::Many;
+use lin_text::{Many, Text};
 use std::alloc::{AllocError, Global};
 use std::fs::{self, Files};
 use std::io::{self, Write};
+use std::marker::Model;
 
 /// A bench script that is to be read.
 #[derive(Clone, Copy)]
@@ -40,11 +43,47 @@ pub struct PlayOptions<'a> {
     pub report: Option<&'a str>,
 }
 
-/// A bench script that is to be read and played, by the path of its file, and what it is played with.
-#[derive(Clone, Copy)]
+/// A bench script that is to be played, by the path of its file, and what it is played with.
+#[derive(Drop)]
 struct PlayedFile<'a> {
     path: Option<&'a str>,
     options: PlayOptions<'a>,
+    /// The script that was read, if it was read with others.
+    read: Option<Result<ReadScript, Fault>>,
+}
+
+/// A bench script that was read, and the files that it includes.
+#[derive(Drop)]
+pub(crate) struct ReadScript {
+    text: Vec<u8>,
+    files: Vec<ScriptFile>,
+}
+
+impl Model for ReadScript {
+    ghost use Rattle.std.specs.Prelude.{◌≤◌, length};
+    ghost use Rattle.lin_tool.specs.Playing.{ReadScriptData};
+
+    ghost Value = { ReadScriptData };
+
+    ghost view = { λ s. record { text = s.text.items; files = s.files.items } };
+
+    ghost invariant = { λ s. length s.text.items ≤ 16777216 };
+}
+
+impl ReadScript {
+    /// The script with its path and its parameters.
+    pub(crate) fn source<'a>(&'a self, script: ScriptInput<'a>) -> Source<'a>
+        ensures text { result.text.now ≡ self.now.text }
+        ensures files { result.files.now ≡ self.now.files }
+        ensures few { length result.text.now ≤ 16777216 }
+    {
+        Source {
+            name: script.path.unwrap_or("").as_bytes(),
+            text: self.text.as_slice(),
+            files: self.files.as_slice(),
+            given: script.given,
+        }
+    }
 }
 
 /// Reads the faults under which a script is to be played, if there are any, and writes to `errors` why the
@@ -99,7 +138,7 @@ fn included_file<R: AllocGlobal + Files>(rt: &R, name: &[u8]) -> Result<FileText
 
 /// Reads the files that the lines of a bench script include, each once, and at most 1,000,000 of them. An error
 /// means out of memory.
-pub(crate) fn included_files<R: AllocGlobal + Files>(
+fn included_files<R: AllocGlobal + Files>(
     rt: &R,
     cluster: &Cluster,
     source: Source<'_>,
@@ -125,7 +164,7 @@ pub(crate) fn included_files<R: AllocGlobal + Files>(
 ///
 /// # Errors
 /// `ReadFailed`, `ScriptTooLong`, `OutOfMemory`.
-pub(crate) fn script_bytes<R: AllocGlobal + Files + Input>(
+fn script_bytes<R: AllocGlobal + Files + Input>(
     rt: &R,
     path: Option<&str>,
 ) -> Result<Vec<u8>, Fault>
@@ -140,32 +179,50 @@ pub(crate) fn script_bytes<R: AllocGlobal + Files + Input>(
     }
 }
 
-/// Reads a bench script with the files that it includes, and plays it over a cluster that was opened.
+/// Reads a bench script with the files that it includes.
+///
+/// # Errors
+/// `ReadFailed`, `ScriptTooLong`, `OutOfMemory`.
+pub(crate) fn read_script<R: AllocGlobal + Files + Input>(
+    rt: &R,
+    cluster: &Cluster,
+    script: ScriptInput<'_>,
+) -> Result<ReadScript, Fault> {
+    let text = script_bytes(rt, script.path)?;
+    let source = Source {
+        name: script.path.unwrap_or("").as_bytes(),
+        text: text.as_slice(),
+        files: &[],
+        given: script.given,
+    };
+    let files = included_files(rt, cluster, source)?;
+    Ok(ReadScript { text, files })
+}
+
+/// Plays a bench script over a cluster that was opened. The script is read with the files that it includes, unless
+/// it was read before.
 ///
 /// # Errors
 /// `ReadFailed`, `ScriptTooLong`; those of `play_source`.
 fn play_opened<R: AllocGlobal + Files + Input, W: Write, E: Write>(
     rt: &R,
     play: DisturbedPlay<'_>,
-    script: ScriptInput<'_>,
+    file: PlayedFile<'_>,
     writer: &mut W,
     errors: &mut E,
     notes: &mut Notes<'_>,
 ) -> Result<(), Fault>
     requires { play.opened.table < length play.opened.cluster.tables }
 {
-    let bytes = script_bytes(rt, script.path)?;
-    let source = Source {
-        name: script.path.unwrap_or("").as_bytes(),
-        text: bytes.as_slice(),
-        files: &[],
-        given: script.given,
+    let script = ScriptInput {
+        path: file.path,
+        given: file.options.given,
     };
-    let files = included_files(rt, &play.opened.cluster, source)?;
-    let source = Source {
-        files: files.as_slice(),
-        ..source
+    let read = match file.read {
+        Some(read) => read?,
+        None => read_script(rt, &play.opened.cluster, script)?,
     };
+    let source = read.source(script);
     play_source(rt.alloc(), play, source, writer, errors, notes)
 }
 
@@ -184,18 +241,15 @@ fn play_script_file<R: AllocGlobal + Files + Input, W: Write, E: Write>(
 ) -> Result<(), Fault>
     requires { opened.table < length opened.cluster.tables }
 {
-    let PlayedFile { path, options } = file;
-    let faults = faults_of(rt.alloc(), &opened.cluster, options.faults, errors, notes)?;
+    let (path, given) = (file.path, file.options.faults);
+    let faults = faults_of(rt.alloc(), &opened.cluster, given, errors, notes)?;
     notes.begin_script();
     let play = DisturbedPlay {
         opened,
         faults: faults.as_slice(),
+        is_alone: file.read.is_none(),
     };
-    let script = ScriptInput {
-        path,
-        given: options.given,
-    };
-    let answer = play_opened(rt, play, script, writer, errors, notes);
+    let answer = play_opened(rt, play, file, writer, errors, notes);
     notes.add_unread(&answer, path);
     answer
 }
@@ -219,6 +273,7 @@ fn play_file<R: AllocGlobal + Files + Input + Print, E: Write>(
     let file = PlayedFile {
         path: script,
         options,
+        read: None,
     };
     play_script_file(rt, opened, file, &mut io::writer(rt), errors, notes)
 }
@@ -287,8 +342,49 @@ fn least(one: u8, other: u8) -> u8
     }
 }
 
-/// Plays one of several bench scripts on a cluster that was opened. What is said of it goes to `errors`. Returns
-/// its exit status.
+/// The path of a script that is named on the command line; `None` for standard input.
+fn path_of(script: &str) -> Option<&str> {
+    if script == "-" { None } else { Some(script) }
+}
+
+/// Reads bench scripts with the files that they include, in order. Of those without a bad line, if there are any,
+/// a line has to use each parameter.
+///
+/// # Errors
+/// `UnusedParameter` for the first parameter, in the order of bytes, that no line of these uses; `OutOfMemory`.
+fn read_all<R: AllocGlobal + Files + Input>(
+    rt: &R,
+    opened: &Opened<'_>,
+    scripts: &[&str],
+    given: &[GivenParameter<'_>],
+) -> Result<Vec<Result<ReadScript, Fault>>, Fault> {
+    let mut all = Vec::new(rt.alloc());
+    let mut unused = given_names(rt.alloc(), given)?;
+    let mut is_some_valid = false;
+    for name in scripts {
+        let path = path_of(*name);
+        let script = ScriptInput { path, given };
+        let answer = read_script(rt, &opened.cluster, script);
+        if let Ok(read) = &answer
+            && !unused.is_empty()
+            && is_valid(rt.alloc(), opened, read.source(script))?
+        {
+            let source = read.source(script);
+            unused = unused_names(rt.alloc(), &opened.cluster, source, unused.as_slice())?;
+            is_some_valid = true;
+        }
+        all.push(answer)?;
+    }
+    match first_of_names(unused.as_slice()) {
+        Some(name) if is_some_valid => {
+            Err(Fault::UnusedParameter(Text::copied(rt.alloc(), name)?))
+        }
+        _ => Ok(all),
+    }
+}
+
+/// Plays one of several bench scripts, which was read, on a cluster that was opened. What is said of it goes to
+/// `errors`. Returns its exit status.
 ///
 /// # Errors
 /// `OutOfMemory`.
@@ -296,23 +392,21 @@ fn play_next<'a, R: AllocGlobal + Files + Input, E: Write>(
     rt: &R,
     opened: Opened<'_>,
     script: &'a str,
-    options: PlayOptions<'_>,
+    file: PlayedFile<'_>,
     errors: &mut E,
     notes: &mut Notes<'a>,
 ) -> Result<u8, Fault>
     requires { opened.table < length opened.cluster.tables }
 {
     notes.begin_next(script);
-    let path = Some(script).filter(|path| *path != "-");
-    let file = PlayedFile { path, options };
     let answer = play_script_file(rt, opened, file, &mut io::sink(), errors, notes);
     notes.add_unplayed(rt.alloc(), &answer)?;
     notes.tell_now(answer.as_ref().err(), errors);
     Ok(exit_status(&answer))
 }
 
-/// Plays bench scripts in order, each on a new cluster, of which the first was opened. What is said of each goes
-/// to `errors` before the next one begins. Returns the smallest exit status that isn't 0.
+/// Plays bench scripts that were read, in order, each on a new cluster, of which the first was opened. What is said
+/// of each goes to `errors` before the next one begins. Returns the smallest exit status that isn't 0.
 ///
 /// # Errors
 /// `OutOfMemory`.
@@ -320,6 +414,7 @@ fn play_in_turn<'a, R: AllocGlobal + Files + Input, E: Write>(
     rt: &R,
     opened: Opened<'_>,
     scripts: &[&'a str],
+    read: Vec<Result<ReadScript, Fault>>,
     options: PlayOptions<'_>,
     errors: &mut E,
     notes: &mut Notes<'a>,
@@ -330,20 +425,32 @@ fn play_in_turn<'a, R: AllocGlobal + Files + Input, E: Write>(
         return Ok(0);
     };
     let settings = opened.settings;
-    let mut status = play_next(rt, opened, *first, options, errors, notes)?;
+    let mut left = read.into_iter();
+    let file = PlayedFile {
+        path: path_of(*first),
+        options,
+        read: left.next(),
+    };
+    let mut status = play_next(rt, opened, *first, file, errors, notes)?;
     for script in rest {
         let mut quiet = Notes::new(rt.alloc(), Wanted::default());
         let opened = begin(rt, &settings, true, &mut quiet)?;
-        let next = play_next(rt, opened, *script, options, errors, notes)?;
+        let file = PlayedFile {
+            path: path_of(*script),
+            options,
+            read: left.next(),
+        };
+        let next = play_next(rt, opened, *script, file, errors, notes)?;
         status = least(status, next);
     }
     Ok(status)
 }
 
-/// Opens the cluster of the settings, and plays bench scripts as `play_in_turn` does.
+/// Opens the cluster of the settings, reads bench scripts as `read_all` does, and plays them as `play_in_turn`
+/// does.
 ///
 /// # Errors
-/// Those of `cluster_of_file`, and `NoSuchTable`; those of `play_in_turn`.
+/// Those of `cluster_of_file`, and `NoSuchTable`; those of `read_all`; those of `play_in_turn`.
 fn play_all<'a, R: AllocGlobal + Files + Input, E: Write>(
     rt: &R,
     settings: &Settings<'_>,
@@ -354,7 +461,8 @@ fn play_all<'a, R: AllocGlobal + Files + Input, E: Write>(
 ) -> Result<u8, Fault> {
     let opened = begin(rt, settings, true, notes)?;
     notes.tell_warnings(errors);
-    play_in_turn(rt, opened, scripts, options, errors, notes)
+    let read = read_all(rt, &opened, scripts, options.given)?;
+    play_in_turn(rt, opened, scripts, read, options, errors, notes)
 }
 
 /// Adds the suite of each script to the report, if none of them was played.
@@ -378,8 +486,8 @@ fn add_all_unplayed<'a>(
 /// the format is one, and nothing else. The report is also written to the file of the options, if there is one.
 ///
 /// # Errors
-/// Those of `cluster_of_file`, and `NoSuchTable`, after which nothing but a report was written; `Several` if one
-/// of the scripts came to a fault, or a report can't be written; `OutOfMemory`.
+/// Those of `cluster_of_file`, and `NoSuchTable` and `UnusedParameter`, after which nothing but a report was written;
+/// `Several` if one of the scripts came to a fault, or a report can't be written; `OutOfMemory`.
 pub fn play_scripts<'a, R: AllocGlobal + Files + Input + Print, E: Write>(
     rt: &R,
     settings: &Settings<'_>,

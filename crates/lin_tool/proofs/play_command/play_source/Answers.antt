@@ -5,6 +5,8 @@ use Rattle.lin_bench.specs.Files.{source_data}
 use Rattle.lin_bench.specs.declared.line.ScriptLine.{ScriptLine}
 use Rattle.lin_bench.specs.declared.place.LinePlace.{LinePlace}
 use Rattle.lin_tool.proofs.PlayedScripts.{limited, plays, unplayed, unread, unused, unwritten}
+use Rattle.lin_tool.specs.Playing.{unused_parameter}
+use Rattle.lin_tool.proofs.UnusedNames.{alone-or-not}
 use Rattle.lin_tool.proofs.play_command.play_source.Goals as goal
 
 pub returns : goal.returns
@@ -35,7 +37,8 @@ returns-in_err-check_used g c =
     let opened = c.args.play.opened in
     let how = opened.settings in
     let fails = unused c.args.play.faults.now how.format opened.coded opened.limits (source_data c.args.source) how.is_physical c.args.notes.now.wanted.script how.is_strict opened.cluster opened.table (room_for how.capacity)
-    c.in_err-check_used.field-0.0 (g.W.Write.contents c.args.writer.now) _ _ _ c.in_ok-lines.ensures.lines.0 c.in_err-check_used.ensures c.in_ok-lines.ensures.lines.1 in
+    c.in_err-check_used.field-0.0 (g.W.Write.contents c.args.writer.now) _ _ _ c.in_ok-lines.ensures.lines.0
+    (alone-or-not c.args.play.is_alone (unused_parameter (source_data c.args.source)) c.in_err-check_used.field-0.0 c.in_err-check_used.ensures) c.in_ok-lines.ensures.lines.1 in
     search rules
 
 pub returns-in_err-tests : goal.returns-in_err-tests
