@@ -7,6 +7,7 @@ pub mod Moments
 pub mod Tallies
 pub mod TestCases
 pub mod UnusedNames
+pub mod IncludedFiles
 pub mod Reports
 pub mod Inert
 pub mod Leveled

@@ -13,7 +13,7 @@ use Rattle.lin_bench.specs.Meanings.{with_meanings}
 use Rattle.lin_bench.specs.Played.{Run, played_under, some_unmet}
 use Rattle.lin_bench.specs.Plays.{OverfillsUnder, has_rule}
 use Rattle.lin_bench.specs.Tests.{test_names}
-use Rattle.lin_bench.specs.Resolved.{is_used}
+use Rattle.lin_bench.specs.Resolved.{is_used, missing_file}
 use Rattle.lin_bench.specs.declared.faults.SlotFault.{SlotFault}
 use Rattle.lin_bench.specs.declared.parameters.GivenParameter.{GivenParameter}
 use Rattle.lin_bench.specs.declared.fault.PlayFault.{PlayFault}
@@ -110,10 +110,22 @@ unused_parameter s = first_of_names (unused_names s (given_names s.given))
 abbrev pub unused_alone : PlayedScript → Option (List ℕ)
 unused_alone script = if script.is_alone then unused_parameter (source_data script.source) else None
 
+-- the files that are read for a script, one after another: each is the first one that is missing if it has only those
+-- before it
+abbrev pub AreMissing : SourceData → List ScriptFile → List ScriptFile → Type 0
+AreMissing s before [] = Unit
+AreMissing s before (f ∷ fs) =
+    (missing_file (record s { files = before }) ≡ Some f.name) × AreMissing s (before ++ f ∷ []) fs
+
 -- a script that was read with them
 pub record ReadScriptData : Type 0 where
   pub text : List ℕ
   pub files : List ScriptFile
+
+-- none is missing after them, or so many are read at most
+abbrev pub AreIncluded : SourceData → List ScriptFile → Type 0
+AreIncluded s fs =
+    AreMissing s [] fs × ((missing_file (record s { files = fs }) ≡ None) ⊎ (length fs ≡ 1000000))
 
 abbrev pub ChecksUsed : Result Unit Fault → Option (List ℕ) → Type 0
 ChecksUsed (Ok done) unused = unused ≡ None

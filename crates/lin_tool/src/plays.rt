@@ -2,7 +2,8 @@
 //! all of them.
 
 ghost use Rattle.std.specs.Prelude.{◌≡◌, ◌≤◌, ◌<◌, length, IfOk};
-ghost use Rattle.lin_tool.specs.Playing.{TakesFaults};
+ghost use Rattle.lin_bench.specs.Files.{source_data};
+ghost use Rattle.lin_tool.specs.Playing.{AreIncluded, TakesFaults};
 ghost use Rattle.lin_tool.specs.Statuses.{least_status};
 
 use crate::fault::{Fault, exit_status};
@@ -117,7 +118,7 @@ fn faults_of<E: Write>(
 }
 
 /// How many files a bench script includes at most.
-const MOST_FILES: u32 = 1_000_000;
+const MOST_FILES: usize = 1_000_000;
 
 /// Reads a file that a bench script includes. An error means out of memory.
 fn included_file<R: AllocGlobal + Files>(rt: &R, name: &[u8]) -> Result<FileText, AllocError> {
@@ -144,9 +145,10 @@ fn included_files<R: AllocGlobal + Files>(
     source: Source<'_>,
 ) -> Result<Vec<ScriptFile>, AllocError>
     requires { length source.text.now ≤ 16777216 }
+    ensures { IfOk result (λ files. AreIncluded (source_data source.entry) files.items) }
 {
     let mut files: Vec<ScriptFile> = Vec::new(rt.alloc());
-    for _ in 0..MOST_FILES {
+    'files: while files.len() < MOST_FILES {
         let read = Source {
             files: files.as_slice(),
             ..source
