@@ -1,10 +1,13 @@
 //! `--explain` of a bad line of a bench script: the line, and the names that there are.
 
+ghost use Rattle.std.specs.Prelude.{◌<◌, length};
+
 use crate::explaining::{put_line, put_shown};
 use crate::fault_text::FaultReason;
-use lin_bench::Reason;
+use crate::play_command::given_names;
+use lin_bench::{FileText, LineFault, LinePlace, Reason, Source, file_text, present_signal};
 use lin_core::{Listed, Refusal};
-use lin_log::Reason as StepReason;
+use lin_log::{Reason as StepReason, first_field, first_line, without_return};
 use lin_parts::Cluster;
 use std::alloc::{AllocError, Global};
 use strsim::generic_damerau_levenshtein;
@@ -135,6 +138,103 @@ fn has_name(names: &[&[u8]], name: &[u8]) -> bool {
     names.iter().any(|other| *other == name)
 }
 
+/// Whether a node publishes or subscribes a signal.
+fn takes_part(cluster: &Cluster, node: u8, signal: u16) -> bool
+    requires { signal < length cluster.now.signals }
+{
+    let mut subscribers = cluster.subscribers(signal).iter();
+    cluster.publisher(signal) == node || subscribers.any(|other| *other == node)
+}
+
+/// Puts the nodes that publish or subscribe a signal.
+fn put_nodes_with(
+    alloc: Global,
+    out: &mut String,
+    cluster: &Cluster,
+    signal: u16,
+    read: &[u8],
+) -> Result<(), AllocError>
+    requires { signal < length cluster.now.signals }
+{
+    let mut names = Vec::new(alloc);
+    for node in 0..cluster.nodes() as u8 {
+        if takes_part(cluster, node, signal) {
+            names.push(cluster.node_name(node))?;
+        }
+    }
+    put_nearest(alloc, out, "nodes", names.as_slice(), read)
+}
+
+/// Puts the nodes that publish or subscribe the signal with a name or a number.
+fn put_nodes_of(
+    alloc: Global,
+    out: &mut String,
+    cluster: &Cluster,
+    signal: &[u8],
+    read: &[u8],
+) -> Result<(), AllocError> {
+    match present_signal(alloc, cluster, signal) {
+        Ok(number) if usize::from(number) < cluster.signals() => {
+            put_nodes_with(alloc, out, cluster, number, read)
+        }
+        Err(LineFault::OutOfMemory) => Err(AllocError),
+        _ => Ok(()),
+    }
+}
+
+/// The name of the parameter that a line sets, if it sets one.
+fn set_name<'a>(cluster: &Cluster, line: &'a [u8]) -> Option<&'a [u8]> {
+    let (word, rest) = first_field(cluster, line)?;
+    if word != b"set".as_slice() {
+        return None;
+    }
+    let (name, _) = first_field(cluster, rest)?;
+    Some(name)
+}
+
+/// Adds the names of the parameters that the lines of a text set, each once.
+fn add_set_names<'a>(
+    names: &mut Vec<&'a [u8]>,
+    cluster: &Cluster,
+    text: &'a [u8],
+) -> Result<(), AllocError> {
+    let mut rest = text;
+    for _ in 0..text.len() {
+        let (line, others) = first_line(rest);
+        if let Some(name) = set_name(cluster, without_return(line))
+            && !has_name(names.as_slice(), name)
+        {
+            names.push(name)?;
+        }
+        match others {
+            Some(others) => rest = others,
+            None => return Ok(()),
+        }
+    }
+    Ok(())
+}
+
+/// Puts the names of the parameters that are given with a script, or that a line of it sets.
+fn put_parameters(
+    alloc: Global,
+    out: &mut String,
+    cluster: &Cluster,
+    script: Source<'_>,
+    read: &[u8],
+) -> Result<(), AllocError> {
+    let mut names = given_names(alloc, script.given)?;
+    add_set_names(&mut names, cluster, script.text)?;
+    for file in script.files {
+        if let FileText::Read(text) = &file.text {
+            add_set_names(&mut names, cluster, text.as_slice())?;
+        }
+    }
+    if names.is_empty() {
+        return out.push_str("  no line sets a parameter\n");
+    }
+    put_nearest(alloc, out, "parameters", names.as_slice(), read)
+}
+
 /// The names of frames that `expect frame` takes: those of signals, and of messages.
 fn put_frames(
     alloc: Global,
@@ -217,12 +317,12 @@ fn put_file(out: &mut String, name: &[u8]) -> Result<(), AllocError> {
 pub(crate) fn put_bad_bench_line(
     alloc: Global,
     out: &mut String,
-    script: &[u8],
-    line: u64,
+    script: Source<'_>,
+    place: LinePlace,
     cluster: &Cluster,
     reason: &Reason,
 ) -> Result<(), AllocError> {
-    put_line(out, script, line)?;
+    put_line(out, file_text(script, place.file), place.line)?;
     match reason {
         Reason::Step(StepReason::NoNode(name)) => put_nodes(alloc, out, cluster, name.as_slice()),
         Reason::Step(StepReason::NoSignal(name)) => {
@@ -230,6 +330,10 @@ pub(crate) fn put_bad_bench_line(
         }
         Reason::Step(StepReason::NoTable(name)) => put_tables(alloc, out, cluster, name.as_slice()),
         Reason::NoFrame(name) => put_frames(alloc, out, cluster, name.as_slice()),
+        Reason::NotItsSignal { node, signal } => {
+            put_nodes_of(alloc, out, cluster, signal.as_slice(), node.as_slice())
+        }
+        Reason::NoParameter(name) => put_parameters(alloc, out, cluster, script, name.as_slice()),
         Reason::Unread(name) => put_file(out, name.as_slice()),
         Reason::NoRefusal(name) => put_refusals(alloc, out, name.as_slice()),
         Reason::Step(StepReason::UnknownStep(word)) => put_words(alloc, out, word.as_slice()),

@@ -23,7 +23,7 @@ use crate::locating::{problems_of_fault, problems_of_remarks, put_places};
 use crate::misspelled::count_if_similar;
 use crate::nearest::{put_bad_bench_line, put_fault_form};
 use crate::placing::{FileNames, write_bad_lines};
-use lin_bench::{LinePlace, Reason, Source, file_text};
+use lin_bench::{LinePlace, Reason, Source};
 use lin_core::{Core, Log};
 use lin_field::Remark;
 use lin_ldf::UnknownWords;
@@ -540,8 +540,7 @@ impl<'a> Notes<'a> {
         reason: &Reason,
     ) {
         if self.is_more_explained() {
-            let (text, line) = (file_text(script, place.file), place.line);
-            let put = put_bad_bench_line(alloc, &mut self.text, text, line, cluster, reason);
+            let put = put_bad_bench_line(alloc, &mut self.text, script, place, cluster, reason);
             self.is_cut |= put.is_err();
         }
     }
