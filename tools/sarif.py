@@ -28,9 +28,22 @@ def result_of(file, told):
     }
 
 
-def sarif_of(objects):
-    """The log of all problems."""
-    results = [result_of(one["file"], told) for one in objects for told in one["told"]]
+def results_of(lines):
+    """The results of all problems, of at least one object."""
+    results, number = [], 0
+    for number, line in enumerate(lines, 1):
+        try:
+            one = json.loads(line)
+            results += [result_of(one["file"], told) for told in one["told"]]
+        except (KeyError, TypeError, ValueError):
+            sys.exit(f"tools/sarif.py: line {number} of standard input isn't an object of `linsim check FILE --to json`")
+    if number == 0:
+        sys.exit("tools/sarif.py: no line on standard input; expected the output of `linsim check FILE --to json`")
+    return results
+
+
+def sarif_of(results):
+    """The log of these results."""
     rules = [{"id": rule} for rule in sorted({result["ruleId"] for result in results})]
     run = {
         "tool": {"driver": {"name": "linsim", "rules": rules}},
@@ -40,5 +53,5 @@ def sarif_of(objects):
     return {"$schema": "https://json.schemastore.org/sarif-2.1.0.json", "version": "2.1.0", "runs": [run]}
 
 
-json.dump(sarif_of(json.loads(line) for line in sys.stdin), sys.stdout, indent=1)
+json.dump(sarif_of(results_of(sys.stdin)), sys.stdout, indent=1)
 print()
