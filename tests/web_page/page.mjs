@@ -75,7 +75,7 @@ await begin(0);
 await typed('bench', 'repeat 2\nslot\nexpect seen good\nwrte x\nend\n');
 is('in a block, too', [await page.eval('[lastRun.upTo, lastRun.plays]'), await state()], [[36, true], '1 bad line; played up to line 36']);
 await put('bench', 'test A\nslots 4\nexpect seen good\nexpect asleep\nset $state asleep\n\ntest B\nrepeat 2\nexpect awake\nend\n');
-is('a name that is none is marked', (await marks('bench')).map(it => it.slice(0, 3)), [[5, 'state', 'error']]);
+is('a name that is none is marked, and what failed before it', (await marks('bench')).map(it => it.slice(0, 3)), [[4, 'expect asleep', 'missed'], [5, 'state', 'error']]);
 await put('bench', 'test A\nslots 4\nexpect seen good\nexpect asleep\nset state awake\n\ntest B\nrepeat 2\nexpect $state\nend\n');
 is('checks of tests and of blocks are counted', await state(), '1 of 4 expectations failed');
 is('and marked', await page.eval('[...editors.bench.icons]'), [[3, 'met'], [9, 'met'], [4, 'missed']]);
