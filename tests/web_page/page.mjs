@@ -74,6 +74,8 @@ is('which is said', [await state(), await page.eval('byId("note").hidden')], ['2
 await begin(0);
 await typed('bench', 'repeat 2\nslot\nexpect seen good\nwrte x\nend\n');
 is('in a block, too', [await page.eval('[lastRun.upTo, lastRun.plays]'), await state()], [[36, true], '1 bad line; played up to line 36']);
+await put('bench', 'slots 4\ninclude begin.bench\nexpect seen good\n');
+is('a line that includes a file is marked', await marks('bench'), [[2, 'include begin.bench', 'error', 'begin.bench: read failed; the page can’t include files']]);
 await put('bench', 'test A\nslots 4\nexpect seen good\nexpect asleep\nset $state asleep\n\ntest B\nrepeat 2\nexpect awake\nend\n');
 is('a name that is none is marked, and what failed before it', (await marks('bench')).map(it => it.slice(0, 3)), [[4, 'expect asleep', 'missed'], [5, 'state', 'error']]);
 await put('bench', 'test A\nslots 4\nexpect seen good\nexpect asleep\nset state awake\n\ntest B\nrepeat 2\nexpect $state\nend\n');

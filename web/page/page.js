@@ -104,7 +104,7 @@ async function played(found, isCurrent) {
 		marks.sort((a, b) => a.line - b.line);
 	}
 	found.plays = it.status === 0 || it.status === 6;
-	if (!found.plays && !marks.length) marks.push(whole(it.failed || firstLine(it.err)));
+	if (!found.plays && !marks.length) marks.push(unplayed(it.failed || firstLine(it.err), lines));
 	const untested = found.plays && withoutTests(text);
 	if (untested) {
 		it = await report({...found.given, [name]: bytesOf('bench', untested)});
@@ -117,6 +117,11 @@ async function played(found, isCurrent) {
 	return found;
 }
 const firstLine = bytes => decoded(bytes).split('\n')[0];
+// Why a script without a bad line isn't played. The page has no files that it could include.
+function unplayed(text, lines) {
+	const at = / read failed$/.test(text) ? lines.findIndex(it => /^[ \t]*include[ \t]/.test(it)) : -1;
+	return at < 0 ? whole(text) : {...whole(`${text}; the page can’t include files`), line: at + 1, to: lines[at].length};
+}
 
 // Shows these parts, each a kind and a text, as the state of the page.
 function tell(parts, ms) {
