@@ -24,7 +24,7 @@
  * 4,294,967,295 entries of a log. A line of a bench script runs 1,000,000 slots at most. The log of a handle grows until the
  * handle is closed; a bench also keeps its newest answer.
  *
- * Stack: in the tests, linsim_replay, linsim_open, linsim_open_bench and linsim_line of a bench script used less than 160 KiB, and
+ * Stack: in the tests, linsim_replay, linsim_open, linsim_open_bench and linsim_line of a bench script used less than 192 KiB, and
  * each other call less than 80 KiB, in the unproved library. The proved one used less.
  *
  * Versions: names, arguments, values, layouts and the text of logs stay the same in all libraries with the soname

@@ -8,7 +8,7 @@
 #include <stdlib.h>
 #include <string.h>
 
-enum { LEAST = 80 * 1024, MOST = 160 * 1024, ROOM = 1 << 20, PAINT = 0xA5 };
+enum { LEAST = 80 * 1024, MOST = 192 * 1024, ROOM = 1 << 20, PAINT = 0xA5 };
 
 static uint8_t ldf[1 << 22], script[1 << 24], out[1 << 24], stack[ROOM] __attribute__((aligned(4096)));
 static size_t ldf_length, script_length;
