@@ -1,5 +1,5 @@
 -- The checks that a row names: one check more.
-use Rattle.std.proofs.Common.{◌≡◌, ◌∙◌, ◌+◌, ◌++◌, ℕ, Bool, true, false, if◌then◌else◌, List, [], ◌∷◌, ap, append-nil, append_assoc, drop, map, refl, sym}
+use Rattle.std.proofs.Common.{◌≡◌, ◌∙◌, ◌+◌, ◌++◌, ℕ, Bool, true, false, if◌then◌else◌, List, [], ◌∷◌, ap, append-nil, append_assoc, drop, map, refl}
 use Rattle.std.specs.Borrow.{Bor}
 use Rattle.lin_parts.specs.declared.parts.Parts.{Parts}
 use Rattle.lin_bench.specs.declared.got.Judgement.{Judgement}

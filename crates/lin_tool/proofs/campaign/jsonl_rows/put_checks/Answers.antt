@@ -3,10 +3,11 @@ use Rattle.std.specs.Prelude.{codes}
 use Rattle.std.specs.Borrow.{Bor}
 use Rattle.lin_bench.specs.declared.got.Judgement.{Judgement}
 use Rattle.lin_export.proofs.Puttings.{puts-all}
+use Rattle.lin_export.proofs.Slots.{drop-next}
 use Rattle.lin_tool.specs.Placing.{moment_of}
 use Rattle.lin_tool.specs.campaign.Jsonl.{expectation}
 use Rattle.lin_tool.specs.Separated.{with_separators}
-use Rattle.lin_tool.proofs.CampaignTexts.{at-item, commas, marked-end, marked-next}
+use Rattle.lin_tool.proofs.CampaignTexts.{commas, marked-end, marked-next}
 use Rattle.lin_tool.proofs.Remaining.{broke-off, none-put, put-all, put-more, put-whole, same-rest}
 use Rattle.lin_tool.proofs.campaign.jsonl_rows.put_checks.Goals as goal
 
@@ -29,7 +30,7 @@ returns-in_err-put_expectation g c =
     let rest = with_separators other other (map f (drop (i + 1) js)) in
     let told = c.at-moment.ensures.told ∙ ap (moment_of c.args.cluster.now) c.within-entries.ensures.same in
     broke-off rest c.from_residual.ensures.0
-    (put-more _ (same-rest (marked-next f c.loop-one.mark.now other js i _ (at-item js i _ (omega arith))) c.loop-one.invariant.put) c.put.ensures) (c.put_expectation.ensures log told)
+    (put-more _ (same-rest (marked-next f c.loop-one.mark.now other js i _ (drop-next js i c.one-item.result c.one-item.is (omega arith))) c.loop-one.invariant.put) c.put.ensures) (c.put_expectation.ensures log told)
 
 pub loop-one-preserved : goal.loop-one-preserved
 loop-one-preserved g c =
@@ -44,7 +45,7 @@ loop-one-preserved g c =
     record {
       put =
           put-all rest
-          (put-more _ (same-rest (marked-next f c.loop-one.mark.now other js i _ (at-item js i _ (omega arith))) c.loop-one.invariant.put) c.put.ensures) one;
+          (put-more _ (same-rest (marked-next f c.loop-one.mark.now other js i _ (drop-next js i c.one-item.result c.one-item.is (omega arith))) c.loop-one.invariant.put) c.put.ensures) one;
       told = c.at-moment.ensures.told;
       time = c.at-moment.ensures.time;
       count = c.at-moment.ensures.count;

@@ -3,9 +3,10 @@ use Rattle.std.specs.Prelude.{codes}
 use Rattle.std.specs.Borrow.{Bor}
 use Rattle.lin_bench.specs.declared.got.Judgement.{Judgement}
 use Rattle.lin_export.proofs.Puttings.{puts-all}
+use Rattle.lin_export.proofs.Slots.{drop-next}
 use Rattle.lin_tool.specs.campaign.Jsonl.{failure_object}
 use Rattle.lin_tool.specs.Separated.{with_separators}
-use Rattle.lin_tool.proofs.CampaignTexts.{at-item, commas, marked-end, marked-next}
+use Rattle.lin_tool.proofs.CampaignTexts.{commas, marked-end, marked-next}
 use Rattle.lin_tool.proofs.Remaining.{broke-off, none-put, put-all, put-more, put-whole, same-rest}
 use Rattle.lin_tool.proofs.campaign.jsonl_rows.put_failures.Goals as goal
 
@@ -21,7 +22,7 @@ returns-in_err-put_failed g c =
     let other = codes "," in
     let rest = with_separators other other (map f (drop (i + 1) js)) in
     broke-off rest c.from_residual.ensures.0
-    (put-more _ (same-rest (marked-next f c.loop-one.mark.now other js i _ (at-item js i _ (omega arith))) c.loop-one.invariant) c.put.ensures) c.put_failed.ensures
+    (put-more _ (same-rest (marked-next f c.loop-one.mark.now other js i _ (drop-next js i c.one-item.result c.one-item.is (omega arith))) c.loop-one.invariant) c.put.ensures) c.put_failed.ensures
 
 pub loop-one-preserved : goal.loop-one-preserved
 loop-one-preserved g c =
@@ -32,7 +33,7 @@ loop-one-preserved g c =
     let rest = with_separators other other (map f (drop (i + 1) js)) in
     let one = rw c.in_ok-put_failed.was at c.put_failed.ensures in
     put-all rest
-    (put-more _ (same-rest (marked-next f c.loop-one.mark.now other js i _ (at-item js i _ (omega arith))) c.loop-one.invariant) c.put.ensures) one
+    (put-more _ (same-rest (marked-next f c.loop-one.mark.now other js i _ (drop-next js i c.one-item.result c.one-item.is (omega arith))) c.loop-one.invariant) c.put.ensures) one
 
 pub returns : goal.returns
 returns g c =

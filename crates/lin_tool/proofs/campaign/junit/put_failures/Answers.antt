@@ -3,10 +3,11 @@ use Rattle.std.specs.Borrow.{Bor}
 use Rattle.lin_bench.specs.declared.got.Judgement.{Judgement}
 use Rattle.lin_text.proofs.Growing.{same-growth}
 use Rattle.lin_export.proofs.Puttings.{puts-all}
+use Rattle.lin_export.proofs.Slots.{drop-next}
 use Rattle.lin_tool.specs.Junit.{xml_text}
 use Rattle.lin_tool.specs.Placing.{moment_of, placed_missed}
 use Rattle.lin_tool.specs.Separated.{with_separators}
-use Rattle.lin_tool.proofs.CampaignTexts.{at-item, marked-end, marked-next}
+use Rattle.lin_tool.proofs.CampaignTexts.{marked-end, marked-next}
 use Rattle.lin_tool.proofs.Remaining.{left-out, none-put, put-more, put-whole, same-rest}
 use Rattle.lin_tool.proofs.campaign.junit.put_failures.Goals as goal
 
@@ -36,7 +37,7 @@ loop-one-preserved g c =
     record {
       put =
           put-more rest
-          (put-more _ (same-rest (marked-next f c.loop-one.mark.now other js i _ (at-item js i _ there)) c.loop-one.invariant.put) c.put.ensures)
+          (put-more _ (same-rest (marked-next f c.loop-one.mark.now other js i _ (drop-next js i c.one-item.result c.one-item.is there)) c.loop-one.invariant.put) c.put.ensures)
           (same-growth (ap xml_text missed) c.put_escaped.ensures);
       told = c.at-moment.ensures.told;
       time = c.at-moment.ensures.time;
