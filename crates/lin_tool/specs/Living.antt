@@ -37,6 +37,7 @@ hand_of_cluster format k limits is_physical c opening capacity = record {
   coded = k;
   limits = limits;
   is_physical = is_physical;
+  sets = [];
   bench = record { past = []; rules = no_rules; taken = []; left = slot_limit };
   marks = [];
   begun = false;

@@ -56,6 +56,7 @@ hand_of_settings s d = record {
   coded = Some d.coded;
   limits = d.limits;
   is_physical = s.is_physical;
+  sets = [];
   bench = record { past = []; rules = no_rules; taken = []; left = slot_limit };
   marks = [];
   begun = false;
