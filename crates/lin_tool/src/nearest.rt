@@ -5,7 +5,9 @@ ghost use Rattle.std.specs.Prelude.{◌<◌, length};
 use crate::explaining::{put_line, put_shown};
 use crate::fault_text::FaultReason;
 use crate::play_command::given_names;
-use lin_bench::{FileText, LineFault, LinePlace, Reason, Source, file_text, present_signal};
+use lin_bench::{
+    FileText, LineFault, LinePlace, Reason, Source, file_text, parameter_of_line, present_signal,
+};
 use lin_core::{Listed, Refusal};
 use lin_log::{Reason as StepReason, first_field, first_line, without_return};
 use lin_parts::Cluster;
@@ -182,18 +184,31 @@ fn put_nodes_of(
     }
 }
 
-/// The name of the parameter that a line sets, if it sets one.
-fn set_name<'a>(cluster: &Cluster, line: &'a [u8]) -> Option<&'a [u8]> {
-    let (word, rest) = first_field(cluster, line)?;
+/// The name of the parameter that a line sets, if it sets one. An error means out of memory.
+fn set_name<'a>(
+    alloc: Global,
+    cluster: &Cluster,
+    line: &'a [u8],
+) -> Result<Option<&'a [u8]>, AllocError> {
+    let Some((word, rest)) = first_field(cluster, line) else {
+        return Ok(None);
+    };
     if word != b"set".as_slice() {
-        return None;
+        return Ok(None);
     }
-    let (name, _) = first_field(cluster, rest)?;
-    Some(name)
+    match parameter_of_line(alloc, cluster, rest) {
+        Ok(_) => match first_field(cluster, rest) {
+            Some((name, _)) => Ok(Some(name)),
+            None => Ok(None),
+        },
+        Err(LineFault::Bad(_)) => Ok(None),
+        Err(LineFault::OutOfMemory) => Err(AllocError),
+    }
 }
 
 /// Adds the names of the parameters that the lines of a text set, each once.
 fn add_set_names<'a>(
+    alloc: Global,
     names: &mut Vec<&'a [u8]>,
     cluster: &Cluster,
     text: &'a [u8],
@@ -201,7 +216,7 @@ fn add_set_names<'a>(
     let mut rest = text;
     for _ in 0..text.len() {
         let (line, others) = first_line(rest);
-        if let Some(name) = set_name(cluster, without_return(line))
+        if let Some(name) = set_name(alloc, cluster, without_return(line))?
             && !has_name(names.as_slice(), name)
         {
             names.push(name)?;
@@ -223,10 +238,10 @@ fn put_parameters(
     read: &[u8],
 ) -> Result<(), AllocError> {
     let mut names = given_names(alloc, script.given)?;
-    add_set_names(&mut names, cluster, script.text)?;
+    add_set_names(alloc, &mut names, cluster, script.text)?;
     for file in script.files {
         if let FileText::Read(text) = &file.text {
-            add_set_names(&mut names, cluster, text.as_slice())?;
+            add_set_names(alloc, &mut names, cluster, text.as_slice())?;
         }
     }
     if names.is_empty() {
@@ -344,10 +359,7 @@ pub(crate) fn put_bad_bench_line(
             )
         }
         Reason::UntilForm | Reason::UnknownUntil(_) => {
-            writeln!(
-                out,
-                "  until takes {FORMS}, changed NODE SIGNAL, not changed NODE SIGNAL"
-            )
+            writeln!(out, "  until takes {FORMS}, changed NODE SIGNAL")
         }
         Reason::WhileForm | Reason::UnknownWhile(_) => {
             writeln!(
