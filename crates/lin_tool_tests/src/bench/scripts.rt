@@ -226,7 +226,7 @@ fn name_of(line: &ScriptLine) -> &'static str {
             "slots without two nodes" => "slots without two nodes until asleep",
             _ => "anything else",
         },
-        ScriptLine::Until(
+        ScriptLine::While(
             _,
             Expected::Not(
                 Condition::Changed {
@@ -235,7 +235,7 @@ fn name_of(line: &ScriptLine) -> &'static str {
                     first: None,
                 },
             ),
-        ) => "slots until a signal is as before",
+        ) => "slots while a signal is as before",
         ScriptLine::Until(_, Expected::Table(0)) => "slots until a table runs",
         ScriptLine::While(slots, Expected::NoLost { host: None }) => match name_of_slots(slots) {
             "slots of 200 ms" => "slots while nothing is lost",
@@ -307,8 +307,8 @@ const ON_DOOR_ZONE: Lines<'static> = &[
     (b"expect signal DCU WinTemp 690..0x2C6", "signal in a range"),
     (b"expect table Mixed", "running table"),
     (
-        b"slots 4 until not changed WinMot WinCmd",
-        "slots until a signal is as before",
+        b"slots 4 while not changed WinMot WinCmd",
+        "slots while a signal is as before",
     ),
 ];
 

@@ -90,12 +90,12 @@ const ON_DOOR_ZONE: Rows<'static> = &[
     ),
     // Values and counts.
     (
-        b"expect waiting Panel 1\nexpect waiting 2 0\nexpect signal DCU WinPos 0x11\nexpect signal DCU WinPos x11\nexpect signal DCU PanelId x31323334\nexpect signal DCU PanelId 49\n",
-        b"script 1 expected waiting Panel 1: 0\nscript 3 expected signal DCU WinPos 17: 0\nscript 4 expected signal DCU WinPos x11: 0\nscript 6 expected signal DCU PanelId 49: x31323334\n",
+        b"expect waiting Panel 1\nexpect waiting 2 0\nexpect signal DCU WinPos 0x11\nexpect signal DCU PanelId x31323334\nexpect signal DCU PanelId x31000000\n",
+        b"script 1 expected waiting Panel 1: 0\nscript 3 expected signal DCU WinPos 17: 0\nscript 5 expected signal DCU PanelId x31000000: x31323334\n",
     ),
     (
-        b"expect signal DCU WinTemp 450..450\nexpect signal DCU WinTemp 0..449\nexpect signal DCU WinTemp 451..0xFFFF\nexpect signal DCU PanelId 0..65535\n",
-        b"script 2 expected signal DCU WinTemp 0..449: 450\nscript 3 expected signal DCU WinTemp 451..65535: 450\nscript 4 expected signal DCU PanelId 0..65535: x31323334\n",
+        b"expect signal DCU WinTemp 450..450\nexpect signal DCU WinTemp 0..449\nexpect signal DCU WinTemp 451..0xFFFF\n",
+        b"script 2 expected signal DCU WinTemp 0..449: 450\nscript 3 expected signal DCU WinTemp 451..65535: 450\n",
     ),
 ];
 
