@@ -40,7 +40,6 @@ pub mod Unders
 pub mod Benches
 pub mod Back
 pub mod Rows
-pub mod LastTwo
 pub mod LineByLine
 pub mod PlainFields
 pub mod QuietTests
@@ -48,10 +47,13 @@ pub mod Pieces
 pub mod AddedTexts
 pub mod ReplacedFields
 pub mod LastItems
-pub mod LastFields
+pub mod WrittenFields
 pub mod WrittenLines
 pub mod OpenFiles
 pub mod Readings
+pub mod FieldParts
+pub mod RuleEnds
+pub mod JoinedFields
 pub mod Places
 pub mod HeardLinks
 pub mod AddedSteps

@@ -1,14 +1,11 @@
 -- The pieces of a field between `$`, and names at the beginning of texts.
 use Rattle.std.proofs.Common.{◌≡◌, ◌∙◌, ◌==◌, ◌<◌, ◌≤◌, ◌+◌, ◌-◌, ℕ, zero, suc, Bool, true, false, List, [], ◌∷◌, ◌++◌, refl, sym, ap, add-one, arith, drop, drop-cons, get_or, length, slice_index, take}
-use Rattle.std.specs.Prelude.{◌||◌}
-use Rattle.std.specs.Borrow.{Bor}
-use Rattle.std.specs.List.{All, list_any, slice_split, take_while}
+use Rattle.std.specs.List.{All, slice_split, take_while}
 use Rattle.std.proofs.lemmas.Grind.{common_steps}
 use Rattle.std.proofs.lemmas.List.{take-append-drop}
 use Rattle.std.proofs.lemmas.List.Elements.{All-head, All-tail}
 use Rattle.std.proofs.lemmas.List.Splits.{slice_split_at, slice_split_none}
 use Rattle.std.proofs.lemmas.List.Sums.{take_while-cons}
-use Rattle.lin_bench.specs.Fields.{field_texts}
 
 abbrev is_dollar : ℕ → Bool
 is_dollar b = b == 36
@@ -36,8 +33,3 @@ taken p (x ∷ xs) zero within clean ends = let no : p x ≡ false = ends (omega
 taken p (x ∷ xs) (suc n) within clean ends =
     let yes : p x ≡ true = All-head (λ x. p x ≡ true) x (take n xs) clean in
     ap (λ l. x ∷ l) (taken p xs n (omega (arith, within)) (All-tail (λ x. p x ≡ true) x (take n xs) clean) (λ lt. ends (omega (arith, lt)))) ∙ sym (take_while-cons p x xs ∙ rw yes refl)
-
--- fields that are lent, one of which passes a test
-pub any-field : (p : List ℕ → Bool) (fs : List (Bor (List ℕ))) → list_any (λ (f : Bor (List ℕ)). p f.now) fs ≡ list_any p (field_texts fs)
-any-field p [] = refl
-any-field p (f ∷ fs) = ap (λ b. p f.now || b) (any-field p fs)

@@ -1,13 +1,13 @@
 -- Fields whose parameters are replaced, and the line to which their texts are added.
-use Rattle.std.proofs.Common.{◌≡◌, ◌∙◌, ◌+◌, ◌++◌, ◌==◌, ◌≤◌, ◌<◌, ℕ, List, [], ◌∷◌, true, false, Option, Result, Ok, Err, add-one, ap, append-nil, append_assoc, arith, drop, drop-cons, flat_map, get_or, length, refl, subst, sym, take}
+use Rattle.std.proofs.Common.{◌≡◌, ◌∙◌, ◌++◌, ◌==◌, ◌≤◌, ◌<◌, ℕ, List, [], ◌∷◌, true, false, Option, Result, Ok, Err, ap, append-nil, append_assoc, arith, flat_map, length, refl, sym, take}
 use Rattle.std.specs.Prelude.{nat_le}
 use Rattle.std.specs.Borrow.{Bor}
 use Rattle.std.specs.List.{slice_split}
 use Rattle.std.proofs.lemmas.Bool.Decides.{nat_tests}
 use Rattle.std.proofs.lemmas.Grind.{flat_map-append}
-use Rattle.std.proofs.lemmas.List.{drop_all, length-take, take_all}
+use Rattle.std.proofs.lemmas.List.{length-take, take_all}
 use Rattle.lin_log.specs.Words.{spaced_word}
-use Rattle.lin_bench.specs.Fields.{◌>>=◌, field_texts}
+use Rattle.lin_bench.specs.Fields.{◌>>=◌}
 use Rattle.lin_bench.specs.LineWords.{fields_text}
 use Rattle.lin_bench.specs.Read.{Fails}
 use Rattle.lin_bench.specs.Replacing.{pieces_left}
@@ -141,21 +141,3 @@ module _ (given : List GivenParameter) (sets : List Parameter) where
       let fits : length text ≤ 65536 = omega (arith, kept, most, short) in
       let yes : nat_le (length text) 65536 ≡ true = grind (arith, nat_tests) in
       whole-text fields now gap h ∙ rw yes refl ∙ ap without_comments (sym (h.1 ∙ take_all 65537 text (omega (arith, fits))))
-
-  -- ---- one field more
-  field-at : (fs : List (Bor (List ℕ))) (i : ℕ) (d : Bor (List ℕ)) → i < length fs → field_texts (drop i fs) ≡ (get_or fs i d).now ∷ field_texts (drop (i + 1) fs)
-  field-at fs i d lt = ap field_texts (drop-cons fs i d lt) ∙ ap (λ j. (get_or fs i d).now ∷ field_texts (drop j fs)) (sym (add-one i))
-
-  pub next-replaced : (fs : List (Bor (List ℕ))) (i : ℕ) (d : Bor (List ℕ)) (now gap mid new : List ℕ) → i < length fs → AreReplaced (field_texts fs) now gap (field_texts (drop i fs))
-      → mid ≡ take 65537 (now ++ gap) → (u : List ℕ) × (replaced_field given sets (get_or fs i d).now ≡ Ok u) × (new ≡ take 65537 (mid ++ u))
-      → AreReplaced (field_texts fs) new (32 ∷ []) (field_texts (drop (i + 1) fs))
-  next-replaced fs i d now gap mid new lt h m k =
-      field-replaced (field_texts fs) (field_texts (drop (i + 1) fs)) now gap mid new (get_or fs i d).now (subst (AreReplaced (field_texts fs) now gap) (field-at fs i d lt) h) m k
-
-  pub next-fails : (fs : List (Bor (List ℕ))) (i : ℕ) (d : Bor (List ℕ)) (now gap : List ℕ) (e : LineFault) → i < length fs → AreReplaced (field_texts fs) now gap (field_texts (drop i fs))
-      → Fails e (replaced_field given sets (get_or fs i d).now) → Fails e (replaced_text given sets (field_texts fs))
-  next-fails fs i d now gap e lt h k =
-      field-fails (field_texts fs) (field_texts (drop (i + 1) fs)) now gap (get_or fs i d).now e (subst (AreReplaced (field_texts fs) now gap) (field-at fs i d lt) h) k
-
-  pub all-replaced : (fs : List (Bor (List ℕ))) (i : ℕ) (now gap : List ℕ) → length fs ≤ i → AreReplaced (field_texts fs) now gap (field_texts (drop i fs)) → AreReplaced (field_texts fs) now gap []
-  all-replaced fs i now gap le h = subst (AreReplaced (field_texts fs) now gap) (ap field_texts (drop_all i fs le)) h

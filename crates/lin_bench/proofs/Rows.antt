@@ -1,10 +1,8 @@
 -- Rows of which each adds what it stands for to what stood there.
-use Rattle.std.proofs.Common.{◌≡◌, ◌∙◌, ℕ, suc, zero, ◌-◌, ◌==◌, ◌+◌, ◌<◌, ◌≤◌, Bool, true, false, List, [], ◌∷◌, ◌++◌, Option, Some, None, option_map, refl, sym, ap, add-one, append_assoc, append-nil, arith, drop, drop-cons, get_or, length, take}
+use Rattle.std.proofs.Common.{◌≡◌, ◌∙◌, ℕ, suc, zero, ◌-◌, ◌==◌, ◌+◌, ◌<◌, ◌≤◌, Bool, true, false, List, [], ◌∷◌, ◌++◌, Option, Some, None, option_map, refl, sym, ap, append_assoc, append-nil, arith, drop, get_or, length, take}
 use Rattle.std.specs.Option.{option_map_or}
 use Rattle.std.proofs.lemmas.Grind.{common_steps}
-use Rattle.std.specs.Borrow.{Bor}
-use Rattle.lin_bench.specs.Fields.{field_texts}
-use Rattle.lin_bench.specs.RuleLines.{AddsRow, fields_before, all_parts, last_field, row_of_pairs}
+use Rattle.lin_bench.specs.RuleLines.{AddsRow, all_parts, row_of_pairs}
 
 abbrev pub behind : {A : Type 0} → List A → Option (List A) → Option (List A)
 behind xs o = option_map (λ more. xs ++ more) o
@@ -24,10 +22,6 @@ is-added (Some more) old new h = (refl, cc)
 pub is-not-added : {A : Type 0} (r : Option (List A)) (old new : List A) → behind old r ≡ None → AddsRow r old false new
 is-not-added None old new h = refl
 is-not-added (Some more) old new h = cc
-
-pub added : {A : Type 0} (r : Option (List A)) (old new : List A) → AddsRow r old true new → behind old r ≡ Some new
-added None old new h = cc
-added (Some more) old new h = ap Some (sym h.1)
 
 pub not-added : {A : Type 0} (r : Option (List A)) (old new : List A) → AddsRow r old false new → r ≡ None
 not-added None old new h = refl
@@ -59,39 +53,28 @@ row-is-over pair (x ∷ []) is r old new h e same = rw e (is-not-added r old new
 row-is-over pair (x ∷ y ∷ zs) is r old new h e same = absurd (omega arith)
 
 -- ---- rows in turn
-pub words-at : (fs : List (Bor (List ℕ))) (i : ℕ) (d : Bor (List ℕ)) → i < length fs → field_texts (drop i fs) ≡ (get_or fs i d).now ∷ field_texts (drop (i + 1) fs)
-words-at fs i d h = ap field_texts (drop-cons fs i d h) ∙ ap (λ j. (get_or fs i d).now ∷ field_texts (drop j fs)) (sym (add-one i))
-
 step-adds : {A : Type 0} (o others : Option (List A)) (before new : List A) → AddsRow o before true new
     → behind before (option_map_or (λ some. behind some others) o None) ≡ behind new others
 step-adds None others before new h = cc
 step-adds (Some some) others before new h = behind-append before some others ∙ ap (λ l. behind l others) (sym h.1)
 
-pub next-adds : {A : Type 0} (read : List ℕ → Option (List A)) (fs : List (Bor (List ℕ))) (i : ℕ) (d : Bor (List ℕ)) (is : Bool) (r : Option (List A)) (old before new : List A)
-    → i < length fs → is ≡ true → AddsRow (read (get_or fs i d).now) before is new
-    → behind old r ≡ behind before (all_parts read (field_texts (drop i fs))) → behind old r ≡ behind new (all_parts read (field_texts (drop (i + 1) fs)))
-next-adds read fs i d is r old before new h was adds e =
-    let f = (get_or fs i d).now in
-    let others = all_parts read (field_texts (drop (i + 1) fs)) in
-    e ∙ ap (λ l. behind before (all_parts read l)) (words-at fs i d h) ∙ step-adds (read f) others before new (rw was at adds)
+pub next-adds : {A : Type 0} (read : List ℕ → Option (List A)) (f : List ℕ) (left rest : List (List ℕ)) (is : Bool) (r : Option (List A)) (old before new : List A)
+    → left ≡ f ∷ rest → is ≡ true → AddsRow (read f) before is new
+    → behind old r ≡ behind before (all_parts read left) → behind old r ≡ behind new (all_parts read rest)
+next-adds read f left rest is r old before new here was adds e =
+    e ∙ ap (λ fs. behind before (all_parts read fs)) here ∙ step-adds (read f) (all_parts read rest) before new (rw was at adds)
 
-pub next-fails : {A : Type 0} (read : List ℕ → Option (List A)) (fs : List (Bor (List ℕ))) (i : ℕ) (d : Bor (List ℕ)) (is : Bool) (r : Option (List A)) (old before new : List A)
-    → i < length fs → is ≡ false → AddsRow (read (get_or fs i d).now) before is new
-    → behind old r ≡ behind before (all_parts read (field_texts (drop i fs))) → AddsRow r old false new
-next-fails read fs i d is r old before new h was adds e =
-    let none : read (get_or fs i d).now ≡ None = not-added (read (get_or fs i d).now) before new (rw was at adds) in
-    is-not-added r old new (e ∙ ap (λ l. behind before (all_parts read l)) (words-at fs i d h) ∙ rw none refl)
+pub next-fails : {A : Type 0} (read : List ℕ → Option (List A)) (f : List ℕ) (left rest : List (List ℕ)) (is : Bool) (r : Option (List A)) (old before new : List A)
+    → left ≡ f ∷ rest → is ≡ false → AddsRow (read f) before is new
+    → behind old r ≡ behind before (all_parts read left) → AddsRow r old false new
+next-fails read f left rest is r old before new here was adds e =
+    let none : read f ≡ None = not-added (read f) before new (rw was at adds) in
+    is-not-added r old new (e ∙ ap (λ fs. behind before (all_parts read fs)) here ∙ rw none refl)
 
-pub dropped : {A : Type 0} (xs : List A) (i : ℕ) → length xs ≤ i → drop i xs ≡ []
-dropped [] zero h = refl
-dropped [] (suc i) h = refl
-dropped (x ∷ xs) zero h = absurd (omega arith)
-dropped (x ∷ xs) (suc i) h = dropped xs i (omega arith)
-
-pub all-added : {A : Type 0} (read : List ℕ → Option (List A)) (fs : List (Bor (List ℕ))) (i : ℕ) (r : Option (List A)) (old new : List A) → length fs ≤ i
-    → behind old r ≡ behind new (all_parts read (field_texts (drop i fs))) → AddsRow r old true new
-all-added read fs i r old new h e =
-    is-added r old new (e ∙ ap (λ l. behind new (all_parts read (field_texts l))) (dropped fs i h) ∙ ap Some (append-nil new))
+pub all-added : {A : Type 0} (read : List ℕ → Option (List A)) (left : List (List ℕ)) (r : Option (List A)) (old new : List A) → left ≡ []
+    → behind old r ≡ behind new (all_parts read left) → AddsRow r old true new
+all-added read left r old new none e =
+    is-added r old new (e ∙ ap (λ fs. behind new (all_parts read fs)) none ∙ ap Some (append-nil new))
 
 one-more : {A : Type 0} (o : Option (List A)) → option_map_or (λ some. behind some (Some [])) o None ≡ behind [] o
 one-more None = refl
@@ -125,18 +108,3 @@ pub first-fails : {A : Type 0} (read : List ℕ → Option (List A)) (fs : List 
     → AddsRow (all_parts read fs) old was mid → AddsRow (all_parts read (fs ++ f ∷ [])) old false new
 first-fails read fs f was old mid new e h =
     rw (joined-append read fs f, not-added (all_parts read fs) old mid (rw e at h)) refl
-
--- ---- the last field, and those before it
-pub words-before : (fs : List (Bor (List ℕ))) → 1 ≤ length fs → field_texts (take (length fs - 1) fs) ≡ fields_before (field_texts fs)
-words-before [] h = absurd (omega arith)
-words-before (f ∷ []) h = refl
-words-before (f ∷ g ∷ fs) h =
-    let e : length (f ∷ g ∷ fs) - 1 ≡ suc (length (g ∷ fs) - 1) = omega arith in
-    ap (λ n. field_texts (take n (f ∷ g ∷ fs))) e ∙ ap (λ l. f.now ∷ l) (words-before (g ∷ fs) (omega arith))
-
-pub words-last : (fs : List (Bor (List ℕ))) (d : Bor (List ℕ)) → 1 ≤ length fs → (get_or fs (length fs - 1) d).now ≡ last_field (field_texts fs)
-words-last [] d h = absurd (omega arith)
-words-last (f ∷ []) d h = refl
-words-last (f ∷ g ∷ fs) d h =
-    let e : length (f ∷ g ∷ fs) - 1 ≡ suc (length (g ∷ fs) - 1) = omega arith in
-    ap (λ n. (get_or (f ∷ g ∷ fs) n d).now) e ∙ words-last (g ∷ fs) d (omega arith)

@@ -1,112 +1,151 @@
--- The fields of a line with words, as code lends them.
-use Rattle.std.proofs.Common.{◌≡◌, ◌∙◌, ◌+◌, ◌-◌, ◌<◌, ◌≤◌, ℕ, zero, suc, Bool, true, false, cond, List, [], ◌∷◌, refl, sym, ap, arith, drop, get_or, length, nat_lt, take}
-use Rattle.std.specs.Borrow.{Bor}
-use Rattle.std.specs.Prelude.{Option, Some, None, not, option_and_then, option_map, position, slice_index_or}
-use Rattle.std.specs.List.{prefix_len}
+-- The fields of a line with words, as code cuts them.
+use Rattle.std.proofs.Common.{◌≡◌, ◌≢◌, ◌∙◌, ◌+◌, ◌-◌, ◌<◌, ◌≤◌, ℕ, zero, suc, Bool, true, false, not, cond, List, [], ◌∷◌, ◌++◌, refl, sym, ap, arith, drop, get_or, length, nat_lt, take}
+use Rattle.std.specs.Prelude.{Option, Some, None, codes, option_and_then, option_map, position, slice_index_or}
 use Rattle.std.specs.Str.{bytes_eq}
 use Rattle.std.proofs.lemmas.Bool.Decides.{nat_tests}
-use Rattle.std.proofs.lemmas.List.{drop-drop, drop-map, get_or-drop, get_or-map, get_or-take, length-drop, length-map, length-take, take-map, take_all}
-use Rattle.std.proofs.lemmas.List.Quantifiers.{position-Some}
-use Rattle.lin_bench.specs.Fields.{field_texts}
-use Rattle.lin_bench.specs.Words.{from_end, is_value_mark, mark_at, wish_of, worded, worded_at, WordedLine}
+use Rattle.lin_bench.specs.Fields.{Cuts}
+use Rattle.lin_bench.specs.OnLines.{off_at}
+use Rattle.lin_bench.specs.Words.{equals_place, form_end, from_end, is_on_signal, mark_at, marked_form, on_line_at, or_off, wish_of, worded, worded_at, worded_on, OnLine, WordedLine}
 use Rattle.lin_bench.specs.declared.words.Wish.{Wish}
-
-pub field-at : (fs : List (Bor (List ℕ))) (d : Bor (List ℕ)) (i : ℕ) → i < length fs → slice_index_or (field_texts fs) i [] ≡ (get_or fs i d).now
-field-at fs d i lt = get_or-map (λ f. f.now) fs i d [] lt
+use Rattle.lin_bench.proofs.FieldParts.{at-end, front-parts, longer, some-after}
 
 -- ---- a field counted from the end
 
-pub field-from-end : (fs : List (Bor (List ℕ))) (d : Bor (List ℕ)) (n : ℕ) → n < length fs → from_end (field_texts fs) n ≡ (get_or fs (length fs - 1 - n) d).now
-field-from-end fs d n lt =
+pub field-from-end : (fs : List (List ℕ)) (n at : ℕ) (before : List (List ℕ)) (x : List ℕ) (after : List (List ℕ)) → n < length fs → at ≡ length fs - 1 - n → Cuts fs at before x after
+    → from_end fs n ≡ x
+field-from-end fs n at before x after lt e cut =
     let some : nat_lt n (length fs) ≡ true = grind (arith, nat_tests) in
-    ap (λ m. cond (nat_lt n m) (slice_index_or (field_texts fs) (m - 1 - n) []) []) (length-map fs (λ f. f.now))
-    ∙ ap (λ b. cond b (slice_index_or (field_texts fs) (length fs - 1 - n) []) []) some
-    ∙ field-at fs d (length fs - 1 - n) (omega arith)
+    ap (λ b. cond b (slice_index_or fs (length fs - 1 - n) []) []) some ∙ ap (λ i. slice_index_or fs i []) (sym e) ∙ cut.field
 
-pub none-from-end : (fs : List (Bor (List ℕ))) (n : ℕ) → length fs ≤ n → from_end (field_texts fs) n ≡ []
+pub none-from-end : (fs : List (List ℕ)) (n : ℕ) → length fs ≤ n → from_end fs n ≡ []
 none-from-end fs n le =
     let none : nat_lt n (length fs) ≡ false = grind (arith, nat_tests) in
-    ap (λ m. cond (nat_lt n m) (slice_index_or (field_texts fs) (m - 1 - n) []) []) (length-map fs (λ f. f.now))
-    ∙ ap (λ b. cond b (slice_index_or (field_texts fs) (length fs - 1 - n) []) []) none
+    ap (λ b. cond b (slice_index_or fs (length fs - 1 - n) []) []) none
+
+pub last-from-end : (fs before : List (List ℕ)) (x : List ℕ) → fs ≡ before ++ x ∷ [] → from_end fs 0 ≡ x
+last-from-end fs before x e =
+    let long : length fs ≡ suc (length before) = longer fs before x e in
+    let some : nat_lt 0 (length fs) ≡ true = grind (arith, nat_tests) in
+    let at : length fs - 1 - 0 ≡ length before = omega (arith, long) in
+    ap (λ b. cond b (slice_index_or fs (length fs - 1 - 0) []) []) some ∙ ap (λ i. slice_index_or fs i []) at ∙ ap (λ l. slice_index_or l (length before) []) e ∙ at-end before x
 
 pub no-word : (word : List ℕ) → 0 < length word → bytes_eq [] word ≡ false
 no-word [] some = absurd (omega arith)
 no-word (c ∷ cs) some = refl
 
--- ---- the first mark
-
-abbrev before_mark : List ℕ → Bool
-before_mark f = not (is_value_mark f)
-
-marks-behind : (fs : List (Bor (List ℕ))) → prefix_len before_mark (field_texts fs) ≡ prefix_len (λ f. before_mark f.now) fs
-marks-behind [] = refl
-marks-behind (f ∷ fs) = ap (λ n. cond (before_mark f.now) (1 + n) 0) (marks-behind fs)
-
-pub mark-lent : (fs : List (Bor (List ℕ))) → position (λ f. is_value_mark f.now) fs ≡ mark_at (field_texts fs)
-mark-lent fs =
-    let n : ℕ = prefix_len (λ f. before_mark f.now) fs in
-    sym (
-    ap (λ m. cond (nat_lt m (length (field_texts fs))) (Some m) None) (marks-behind fs)
-    ∙ ap (λ m. cond (nat_lt n m) (Some n) None) (length-map fs (λ f. f.now)))
-
 -- ---- the parts of a line
 
-no-mark-no-words : (ws : List (List ℕ)) (o : Option ℕ) → mark_at ws ≡ o → worded ws ≡ option_and_then (worded_at ws) o
+by-mark : (fs : List (List ℕ)) (o : Option ℕ) → mark_at fs ≡ o → worded fs ≡ option_and_then (worded_at fs) o
 unfolding worded
-no-mark-no-words ws o e = ap (option_and_then (worded_at ws)) e
+by-mark fs o e = ap (option_and_then (worded_at fs)) e
 
-pub none-marked : (fs : List (Bor (List ℕ))) → position (λ f. is_value_mark f.now) fs ≡ None → worded (field_texts fs) ≡ None
-none-marked fs e = no-mark-no-words (field_texts fs) None (sym (mark-lent fs) ∙ e)
+pub none-marked : (fs : List (List ℕ)) → mark_at fs ≡ None → worded fs ≡ None
+none-marked fs e = by-mark fs None e
 
-pub marked-at : (fs : List (Bor (List ℕ))) (at : ℕ) → position (λ f. is_value_mark f.now) fs ≡ Some at → worded (field_texts fs) ≡ worded_at (field_texts fs) at
-marked-at fs at e = no-mark-no-words (field_texts fs) (Some at) (sym (mark-lent fs) ∙ e)
+-- no field is before the mark
+pub first-marked : (fs : List (List ℕ)) (at : ℕ) → mark_at fs ≡ Some at → at ≡ 0 → worded fs ≡ None
+first-marked fs at e z = by-mark fs (Some at) e ∙ ap (worded_at fs) z
 
-pub mark-within : (fs : List (Bor (List ℕ))) (at : ℕ) → position (λ f. is_value_mark f.now) fs ≡ Some at → at < length fs
-mark-within fs at e = (position-Some (λ f. is_value_mark f.now) fs at (record { ref_ptr = (0, 0); now = [] }) e).0
-
--- no field stands before the mark
-pub first-marked : (fs : List (Bor (List ℕ))) (at : ℕ) → position (λ f. is_value_mark f.now) fs ≡ Some at → at ≡ 0 → worded (field_texts fs) ≡ None
-first-marked fs at e z = marked-at fs at e ∙ ap (worded_at (field_texts fs)) z
-
-take-fewer : {X : Type 0} (m n : ℕ) (xs : List X) → m ≤ n → take m (take n xs) ≡ take m xs
-take-fewer zero n xs le = refl
-take-fewer (suc m) zero xs le = absurd (omega arith)
-take-fewer (suc m) (suc n) [] le = refl
-take-fewer (suc m) (suc n) (x ∷ xs) le = ap (λ ys. x ∷ ys) (take-fewer m n xs (omega arith))
+abbrev with-wish : List (List ℕ) → List ℕ → List (List ℕ) → Wish → WordedLine
+with-wish before signal words wish = record { wish = wish; before = before; signal = signal; words = words }
 
 all-three : {a b : List (List ℕ)} {c d : List ℕ} {e f : List (List ℕ)} → a ≡ b → c ≡ d → e ≡ f → ◌≡◌ {A = List (List ℕ) × List ℕ × List (List ℕ)} (a, c, e) (b, d, f)
 all-three p q r = cc
 
-abbrev lent : List (Bor (List ℕ)) → ℕ → List (Bor (List ℕ)) → List (Bor (List ℕ)) → Bor (List ℕ) → Wish → WordedLine
-lent fs at front rest d wish = record {
-  wish = wish;
-  before = field_texts (take (length front - 1) front);
-  signal = (get_or front (length front - 1) d).now;
-  words = field_texts (take (length rest - 1) (drop 1 rest));
-}
+pub marked-parts : (fs : List (List ℕ)) (at : ℕ) (front before : List (List ℕ)) (signal mark : List ℕ) (words : List (List ℕ)) (wish : Option Wish)
+    → mark_at fs ≡ Some at → Cuts fs at front mark words → front ≡ before ++ signal ∷ [] → wish ≡ wish_of before mark
+    → option_map (with-wish before signal words) wish ≡ worded fs
+marked-parts fs at front before signal mark words wish e cut last w =
+    let p = front-parts fs at front before signal mark words cut last in
+    let n = length before in
+    let less : at - 1 ≡ n = omega (arith, p.0) in
+    let start : take (at - 1) fs ≡ before = ap (λ i. take i fs) less ∙ p.1 in
+    let name : slice_index_or fs (at - 1) [] ≡ signal = ap (λ i. slice_index_or fs i []) less ∙ p.2 in
+    let same : wish ≡ wish_of (take (at - 1) fs) (slice_index_or fs at []) = w ∙ ap (λ b. wish_of b mark) (sym start) ∙ ap (wish_of (take (at - 1) fs)) (sym cut.field) in
+    ap (option_map (with-wish before signal words)) same
+    ∙ ap (λ (q : List (List ℕ) × List ℕ × List (List ℕ)). option_map (with-wish q.0 q.1 q.2) (wish_of (take (at - 1) fs) (slice_index_or fs at [])))
+    (all-three (sym start) (sym name) (sym cut.after))
+    ∙ sym (by-mark fs (Some at) e)
 
-pub lent-parts : (fs : List (Bor (List ℕ))) (at : ℕ) (front rest : List (Bor (List ℕ))) (d : Bor (List ℕ)) (wish : Option Wish)
-    → position (λ f. is_value_mark f.now) fs ≡ Some at → front ≡ take at fs → rest ≡ drop at fs → 1 ≤ length front
-    → wish ≡ wish_of (field_texts (take (length front - 1) front)) (get_or rest 0 d).now
-    → option_map (lent fs at front rest d) wish ≡ worded (field_texts fs)
-lent-parts fs at front rest d wish e f r some w =
-    let lt : at < length fs = mark-within fs at e in
-    let long : length front ≡ at = omega (arith, ap length f, length-take at fs) in
-    let left : length rest ≡ length fs - at = ap length r ∙ length-drop at fs in
-    let n : length front - 1 ≡ at - 1 = omega arith in
-    let before : field_texts (take (length front - 1) front) ≡ take (at - 1) (field_texts fs) =
-    ap (λ i. field_texts (take i front)) n ∙ ap (λ xs. field_texts (take (at - 1) xs)) f ∙ ap field_texts (take-fewer (at - 1) at fs (omega arith)) ∙ sym (take-map (λ g. g.now) (at - 1) fs) in
-    let signal : (get_or front (length front - 1) d).now ≡ slice_index_or (field_texts fs) (at - 1) [] =
-    ap (λ i. (get_or front i d).now) n ∙ ap (λ xs. (get_or xs (at - 1) d).now) f ∙ ap (λ g. g.now) (get_or-take at fs (at - 1) d (omega arith)) ∙ sym (field-at fs d (at - 1) (omega arith)) in
-    let zero-more : at + 0 ≡ at = omega arith in
-    let mark : (get_or rest 0 d).now ≡ slice_index_or (field_texts fs) at [] =
-    ap (λ xs. (get_or xs 0 d).now) r ∙ ap (λ g. g.now) (get_or-drop at fs 0 d) ∙ ap (λ i. (get_or fs i d).now) zero-more ∙ sym (field-at fs d at lt) in
-    let more : field_texts (take (length rest - 1) (drop 1 rest)) ≡ drop (at + 1) (field_texts fs) =
-    ap field_texts (take_all (length rest - 1) (drop 1 rest) (omega (arith, length-drop 1 rest)))
-    ∙ ap (λ xs. field_texts (drop 1 xs)) r ∙ ap field_texts (drop-drop 1 at fs) ∙ sym (drop-map (λ g. g.now) (at + 1) fs) in
-    let same : wish ≡ wish_of (take (at - 1) (field_texts fs)) (slice_index_or (field_texts fs) at []) =
-    w ∙ ap (λ xs. wish_of xs (get_or rest 0 d).now) before ∙ ap (wish_of (take (at - 1) (field_texts fs))) mark in
-    ap (λ o. option_map (lent fs at front rest d) o) same
-    ∙ ap (λ (p : List (List ℕ) × List ℕ × List (List ℕ)). option_map (λ v. record { wish = v; before = p.0; signal = p.1; words = p.2 }) (wish_of (take (at - 1) (field_texts fs)) (slice_index_or (field_texts fs) at [])))
-    (all-three before signal more)
-    ∙ sym (marked-at fs at e)
+-- ---- lines of `on`
+
+pub no-do : (word : List ℕ) (fs : List (List ℕ)) (o : Option ℕ) → word ≡ codes "do" → o ≡ position (λ f. bytes_eq f word) fs → form_end fs ≡ or_off fs o
+no-do word fs o same e = sym (ap (or_off fs) (e ∙ ap (λ w. position (λ f. bytes_eq f w) fs) same))
+
+pub off-at : (before : List (List ℕ)) (last : List ℕ) → off_at (before ++ last ∷ []) ≡ cond (bytes_eq last (codes "off")) (Some (length before)) None
+off-at [] last = refl
+off-at (f ∷ before) last =
+    ap (λ n. cond (bytes_eq (slice_index_or (f ∷ (before ++ last ∷ [])) n []) (codes "off")) (Some n) None) (some-after before last)
+    ∙ ap (λ w. cond (bytes_eq w (codes "off")) (Some (suc (length before))) None) (at-end before last)
+
+pub not-on-signal : (fs : List (List ℕ)) → length fs ≢ 3 → length fs ≢ 4 → is_on_signal fs ≡ false
+not-on-signal [] h k = refl
+not-on-signal (a ∷ []) h k = refl
+not-on-signal (a ∷ b ∷ []) h k = refl
+not-on-signal (a ∷ b ∷ c ∷ []) h k = absurd (h refl)
+not-on-signal (a ∷ b ∷ c ∷ d ∷ []) h k = absurd (k refl)
+not-on-signal (a ∷ b ∷ c ∷ d ∷ e ∷ fs) h k = refl
+
+-- the first `=`
+pub equals-at : (word : List ℕ) (fs : List (List ℕ)) (o : Option ℕ) → word ≡ codes "=" → o ≡ position (λ f. bytes_eq f word) fs → equals_place fs ≡ o
+equals-at word fs o same e = sym (e ∙ ap (λ w. position (λ f. bytes_eq f w) fs) same)
+
+pub none-equals : (form behind : List (List ℕ)) → equals_place form ≡ None → marked_form form behind ≡ None
+none-equals form behind e = ap (option_and_then (on_line_at form behind)) e
+
+pub first-equals : (form behind : List (List ℕ)) (at : ℕ) → equals_place form ≡ Some at → at ≡ 0 → marked_form form behind ≡ None
+first-equals form behind at e z = ap (option_and_then (on_line_at form behind)) (e ∙ ap Some z)
+
+abbrev on-line : List (List ℕ) → List ℕ → List (List ℕ) → List (List ℕ) → OnLine
+on-line before signal words behind = record { before = before; signal = signal; words = words; behind = behind }
+
+pub equals-parts : (form behind : List (List ℕ)) (at : ℕ) (front before : List (List ℕ)) (signal mark : List ℕ) (words : List (List ℕ)) (b : Bool)
+    → equals_place form ≡ Some at → Cuts form at front mark words → front ≡ before ++ signal ∷ [] → is_on_signal before ≡ b
+    → marked_form form behind ≡ cond b (Some (on-line before signal words behind)) None
+equals-parts form behind at front before signal mark words b e cut last is =
+    let p = front-parts form at front before signal mark words cut last in
+    let n = length before in
+    let next : at + 1 ≡ suc (suc n) = omega (arith, p.0) in
+    let rest : drop (suc (suc n)) form ≡ words = ap (λ i. drop i form) (sym next) ∙ cut.after in
+    ap (option_and_then (on_line_at form behind)) (e ∙ ap Some p.0)
+    ∙ ap (λ (q : List (List ℕ) × List ℕ × List (List ℕ)). cond (is_on_signal q.0) (Some (on-line q.0 q.1 q.2 behind)) None) (all-three p.1 p.2 rest)
+    ∙ ap (λ t. cond t (Some (on-line before signal words behind)) None) is
+
+-- a line whose form is marked begins with `on`
+pub worded-by-end : (fs : List (List ℕ)) (o : Option ℕ) → o ≡ form_end fs → option_and_then (λ at. marked_form (take at fs) (drop at fs)) o ≡ worded_on fs
+unfolding worded_on
+worded-by-end fs o e = ap (option_and_then (λ at. marked_form (take at fs) (drop at fs))) e
+
+starts-not : (w : List ℕ) (fs : List (List ℕ)) → bytes_eq w (codes "on") ≡ false → is_on_signal (w ∷ fs) ≡ false
+starts-not w [] h = refl
+starts-not w (a ∷ []) h = refl
+starts-not w (a ∷ b ∷ []) h = rw h refl
+starts-not w (a ∷ b ∷ c ∷ []) h = rw h refl
+starts-not w (a ∷ b ∷ c ∷ d ∷ fs) h = refl
+
+before-not : (w : List ℕ) (fs : List (List ℕ)) (at n : ℕ) → bytes_eq w (codes "on") ≡ false → is_on_signal (take n (take at (w ∷ fs))) ≡ false
+before-not w fs zero zero h = refl
+before-not w fs zero (suc n) h = refl
+before-not w fs (suc at) zero h = refl
+before-not w fs (suc at) (suc n) h = starts-not w (take n (take at fs)) h
+
+marked-not : (w : List ℕ) (fs : List (List ℕ)) (at : ℕ) (o : Option ℕ) → bytes_eq w (codes "on") ≡ false → option_and_then (on_line_at (take at (w ∷ fs)) (drop at (w ∷ fs))) o ≡ None
+marked-not w fs at None h = refl
+marked-not w fs at (Some zero) h = refl
+marked-not w fs at (Some (suc n)) h = rw (before-not w fs at n h) refl
+
+ended-not : (w : List ℕ) (fs : List (List ℕ)) (o : Option ℕ) → bytes_eq w (codes "on") ≡ false → option_and_then (λ at. marked_form (take at (w ∷ fs)) (drop at (w ∷ fs))) o ≡ None
+ended-not w fs None h = refl
+ended-not w fs (Some at) h = marked-not w fs at (equals_place (take at (w ∷ fs))) h
+
+is-other : (b : Bool) → true ≡ not b → b ≡ false
+is-other true h = h
+is-other false h = refl
+
+pub worded-not : (w : List ℕ) (fs : List (List ℕ)) → true ≡ not (bytes_eq w (codes "on")) → worded_on (w ∷ fs) ≡ None
+worded-not w fs h =
+    sym (worded-by-end (w ∷ fs) (form_end (w ∷ fs)) refl) ∙ ended-not w fs (form_end (w ∷ fs)) (is-other (bytes_eq w (codes "on")) h)
+
+pub worded-none : worded_on [] ≡ None
+unfolding worded_on
+worded-none = refl

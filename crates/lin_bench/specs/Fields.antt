@@ -1,7 +1,7 @@
 -- The fields of a bench script's line, as the language of a cluster's names has them, and what is
 -- said of one that is bad.
 use Rattle.std.specs.Prelude.{ℕ, ◌==◌, ◌&&◌, ◌||◌, Bool, not, is_some, nat_lt, if◌then◌else◌, true, false, List, [], ◌∷◌, map}
-use Rattle.std.specs.Prelude.{drop, slice_index, Option, Some, None, option_map, Result, Ok, Err}
+use Rattle.std.specs.Prelude.{◌≡◌, ◌+◌, ◌<◌, take, slice_index_or, drop, slice_index, Option, Some, None, option_map, Result, Ok, Err}
 use Rattle.std.specs.Prelude.{codes, length, reverse}
 use Rattle.std.specs.Borrow.{Bor}
 use Rattle.std.specs.Str.{bytes_eq}
@@ -47,9 +47,12 @@ tab_as_space b = if b == 9 then 32 else b
 abbrev pub all_fields : List ℕ → List (List ℕ)
 all_fields line = log.fields false (map tab_as_space line)
 
--- the bytes of fields that are lent
-abbrev pub field_texts : List (Bor (List ℕ)) → List (List ℕ)
-field_texts fs = map (λ f. f.now) fs
+-- fields cut at a place: those before it, the one at it, and those after it
+pub record Cuts (fs : List (List ℕ)) (at : ℕ) (front : List (List ℕ)) (f : List ℕ) (rest : List (List ℕ)) : Type 0 where
+  pub within : at < length fs
+  pub before : take at fs ≡ front
+  pub field : slice_index_or fs at [] ≡ f
+  pub after : drop (at + 1) fs ≡ rest
 
 abbrev pub maybe_text : Option (Bor (List ℕ)) → Option (List ℕ)
 maybe_text field = option_map (λ f. f.now) field

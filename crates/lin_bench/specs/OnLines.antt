@@ -35,23 +35,19 @@ as_form all wanted (Ok (Some what)) = Ok (record { wanted = wanted; what = what 
 as_form all wanted (Ok None) = Err (UnknownOn all)
 as_form all wanted (Err why) = Err (on_reason all why)
 
-abbrev pub form_of : Parts → List (List ℕ) → List (List ℕ) → Bool → List ℕ → List (List ℕ)
-    → Result Form Reason
-form_of c line all wanted word fs =
-    if may_call wanted word then as_form all wanted (condition_form c line word fs)
+abbrev pub form_of : Parts → List (List ℕ) → Bool → List ℕ → List (List ℕ) → Result Form Reason
+form_of c all wanted word fs =
+    if may_call wanted word then as_form all wanted (condition_form c all word fs)
     else Err (UnknownOn all)
 
-abbrev pub after_not : Parts → List (List ℕ) → List (List ℕ) → List ℕ → List (List ℕ)
-    → Result Form Reason
-after_not c line all f [] = form_of c line all true f []
-after_not c line all f (word ∷ fs) =
-    if bytes_eq f (codes "not") then form_of c line all false word fs
-    else form_of c line all true f (word ∷ fs)
+abbrev pub after_not : Parts → List (List ℕ) → List ℕ → List (List ℕ) → Result Form Reason
+after_not c all f [] = form_of c all true f []
+after_not c all f (word ∷ fs) =
+    if bytes_eq f (codes "not") then form_of c all false word fs else form_of c all true f (word ∷ fs)
 
--- by the fields of the line and, of these, those of the form
-abbrev pub form_fields : Parts → List (List ℕ) → List (List ℕ) → Result Form Reason
-form_fields c line [] = Err OnForm
-form_fields c line (f ∷ fs) = after_not c line (f ∷ fs) f fs
+abbrev pub form_fields : Parts → List (List ℕ) → Result Form Reason
+form_fields c [] = Err OnForm
+form_fields c (f ∷ fs) = after_not c (f ∷ fs) f fs
 
 -- ---- the step
 abbrev pub called_step : PortId × Step → Result (PortId × Step) Reason
@@ -88,16 +84,15 @@ some_fields fs = None
 abbrev pub step_after : List (List ℕ) → Option (List (List ℕ))
 step_after fs = some_fields (after_do fs)
 
-abbrev pub called_by : Parts → List (List ℕ) → List (List ℕ) → Option (List (List ℕ))
-    → Result Rule Reason
-called_by c line form (Some (word ∷ fs)) = do
-  what ← form_fields c line form
+abbrev pub called_by : Parts → List (List ℕ) → Option (List (List ℕ)) → Result Rule Reason
+called_by c form (Some (word ∷ fs)) = do
+  what ← form_fields c form
   s ← on_step c word fs
   Ok (rule.On (record { on = record { form = what; by = s.0; step = s.1 }; held = false }))
-called_by c line form other = Err OnForm
+called_by c form other = Err OnForm
 
 abbrev pub on_do : Parts → List (List ℕ) → List (List ℕ) → Result Rule Reason
-on_do c form line = called_by c line form (step_after line)
+on_do c form fs = called_by c form (step_after fs)
 
 -- where `off` is the last field
 abbrev pub off_at : List (List ℕ) → Option ℕ
@@ -105,19 +100,19 @@ off_at [] = None
 off_at (f ∷ fs) =
     if bytes_eq (slice_index_or (f ∷ fs) (length fs) []) (codes "off") then Some (length fs) else None
 
-abbrev pub ended_form : Parts → List (List ℕ) → List (List ℕ) → Result Rule Reason
-ended_form c line form = form_fields c line form >>= (λ what. Ok (rule.End (end.On what)))
+abbrev pub ended_form : Parts → List (List ℕ) → Result Rule Reason
+ended_form c form = form_fields c form >>= (λ what. Ok (rule.End (end.On what)))
 
-abbrev pub on_end_at : Parts → List (List ℕ) → List (List ℕ) → Option ℕ → Result Rule Reason
-on_end_at c line fs None = Err OnForm
-on_end_at c line fs (Some zero) = Ok rule.OnOff
-on_end_at c line fs (Some (suc n)) = ended_form c line (take (suc n) fs)
+abbrev pub on_end_at : Parts → List (List ℕ) → Option ℕ → Result Rule Reason
+on_end_at c fs None = Err OnForm
+on_end_at c fs (Some zero) = Ok rule.OnOff
+on_end_at c fs (Some (suc n)) = ended_form c (take (suc n) fs)
 
-abbrev pub on_end : Parts → List (List ℕ) → List (List ℕ) → Result Rule Reason
-on_end c line fs = on_end_at c line fs (off_at fs)
+abbrev pub on_end : Parts → List (List ℕ) → Result Rule Reason
+on_end c fs = on_end_at c fs (off_at fs)
 
 abbrev pub on_by : Parts → List (List ℕ) → Option ℕ → Result Rule Reason
-on_by c fs None = on_end c fs fs
+on_by c fs None = on_end c fs
 on_by c fs (Some at) = on_do c (take at fs) fs
 
 unfoldable pub on_form : Parts → List (List ℕ) → Result Rule Reason

@@ -3,9 +3,10 @@ use Rattle.std.specs.Prelude.{◌≡◌, ◌+◌, ◌≤◌, ℕ, Bool, true, fa
 use Rattle.std.specs.Borrow.{Bor}
 use Rattle.std.specs.Str.Lines.{strip_carriage_return}
 use Rattle.lin_log.specs.Judged.{lines_left}
+use Rattle.lin_bench.specs.Fields.{line_fields}
 use Rattle.lin_bench.specs.Files.{source_data}
 use Rattle.lin_bench.specs.Resolved.{Act, Block, Item, OpenFile, Reading, bad_item, items_by, items_from, place_in, unended}
-use Rattle.lin_bench.specs.Written.{Written, goes_on, lines_of, written_after, written_lines}
+use Rattle.lin_bench.specs.Written.{Written, goes_on, lines_of, part_fields, written_after, written_lines}
 use Rattle.lin_bench.specs.Resolved.Act.{BadEnd, BadLine, BadRepeat, EndBlock, IncludeFile, RepeatBlock, Say as SayText, SetParameter}
 use Rattle.lin_bench.specs.declared.place.LinePlace.{LinePlace}
 use Rattle.lin_bench.specs.declared.reason.Reason.{Reason}
@@ -48,6 +49,11 @@ alone ls = None
 abbrev pub text_of_line : LineText → List ℕ
 text_of_line (AsWritten text) = text.now
 text_of_line (Resolved text) = text.items
+
+-- the fields of a line, without `\` at its end where it is as it is written
+abbrev pub fields_of_line : LineText → List (List ℕ)
+fields_of_line (AsWritten text) = part_fields text.now
+fields_of_line (Resolved text) = line_fields text.items
 
 abbrev pub item_of : LineItem → Result (List ℕ) Reason
 item_of (Line text) = Ok (text_of_line text)

@@ -9,7 +9,8 @@ ghost use Rattle.lin_bench.specs.Expectations.{message_form, messages_form, next
 ghost use Rattle.lin_bench.specs.Expectations.{refusal_called, refusal_field, refused_form, seen_form, sent_form};
 ghost use Rattle.lin_bench.specs.Expectations.{passes, signal_form, slot_form, table_form, until_form, waiting_form, while_form};
 ghost use Rattle.lin_bench.specs.Expectations.{word_expectation};
-ghost use Rattle.lin_bench.specs.Fields.{field_texts, line_fields, range_ends};
+ghost use Rattle.lin_bench.specs.Fields.{line_fields, range_ends};
+ghost use Rattle.lin_bench.specs.Parts.{fields_of};
 ghost use Rattle.lin_bench.specs.Read.{Gives};
 ghost use Rattle.lin_bench.specs.declared.fault.LineFault.{LineFault};
 ghost use Rattle.lin_bench.specs.declared.reason.Reason.{Reason};
@@ -18,15 +19,15 @@ use crate::answers::has_length;
 use crate::expected::{Condition, Expected, Since};
 use crate::fault::LineFault;
 use crate::fields::{
-    count_field, counts_field, fields, frame_field, host_field, number_field, pair_fields,
-    present_table, range_ends, rows_and_time, signal_fields,
+    Fields, copied_fields, count_field, counts_field, frame_field, host_field, number_field,
+    pair_fields, present_table, range_ends, rows_and_time, signal_fields,
 };
 use crate::raw_values::{raw_range, raw_value};
 use crate::reason::Reason;
 use crate::rule_lines::pattern;
 use crate::times::time_field;
 use lin_core::{Refusal, named, numbered};
-use lin_log::{Carried, Pattern, copied, first_field, is_number, is_over, number};
+use lin_log::{Carried, Pattern, is_number, number};
 use lin_parts::Cluster;
 use lin_text::Text;
 use std::alloc::{AllocError, Global};
@@ -53,11 +54,11 @@ fn refusal_field(alloc: Global, field: &[u8]) -> Result<Refusal, LineFault>
 }
 
 /// There is no form of these fields after `expect`.
-fn no_form(alloc: Global, cluster: &Cluster, all: &[u8]) -> Result<LineFault, AllocError>
+fn no_form(alloc: Global, all: Fields<'_>) -> Result<LineFault, AllocError>
     ensures { IfOk result
-        (λ fault. fault ≡ LineFault.Bad (Reason.UnknownExpectation (line_fields all.now))) }
+        (λ fault. fault ≡ LineFault.Bad (Reason.UnknownExpectation (fields_of all.entry))) }
 {
-    Ok(LineFault::Bad(Reason::UnknownExpectation(copied(alloc, cluster, all)?)))
+    Ok(LineFault::Bad(Reason::UnknownExpectation(copied_fields(alloc, all)?)))
 }
 
 /// A value of a signal, or a range of them, by its field; `name` is the signal's field.
@@ -94,34 +95,34 @@ fn signal_value(
 fn signal(
     alloc: Global,
     cluster: &Cluster,
-    all: &[u8],
-    parts: &[&[u8]],
+    all: Fields<'_>,
+    parts: Fields<'_>,
 ) -> Result<Condition, LineFault>
-    ensures { Gives (λ w. w) result (signal_form cluster.now (line_fields all.now) (field_texts parts.now)) }
+    ensures { Gives (λ w. w) result (signal_form cluster.now (fields_of all.entry) (fields_of parts.entry)) }
 {
-    match parts {
-        [node, name, value] => {
+    match parts.three() {
+        Some((node, name, value)) => {
             let (node, signal) = signal_fields(alloc, cluster, node, name)?;
             signal_value(alloc, cluster, node, name, signal, value)
         }
-        _ => Err(no_form(alloc, cluster, all)?),
+        None => Err(no_form(alloc, all)?),
     }
 }
 
 fn waiting(
     alloc: Global,
     cluster: &Cluster,
-    all: &[u8],
-    parts: &[&[u8]],
+    all: Fields<'_>,
+    parts: Fields<'_>,
 ) -> Result<Condition, LineFault>
-    ensures { Gives (λ w. w) result (waiting_form cluster.now (line_fields all.now) (field_texts parts.now)) }
+    ensures { Gives (λ w. w) result (waiting_form cluster.now (fields_of all.entry) (fields_of parts.entry)) }
 {
-    match parts {
-        [host, count] => Ok(Condition::Waiting {
+    match parts.two() {
+        Some((host, count)) => Ok(Condition::Waiting {
             host: host_field(alloc, cluster, host)?,
             count: number_field(alloc, count, 1024)? as u16,
         }),
-        _ => Err(no_form(alloc, cluster, all)?),
+        None => Err(no_form(alloc, all)?),
     }
 }
 
@@ -132,13 +133,12 @@ fn is_of_last(of: &[u8], last: &[u8]) -> bool
 }
 
 /// The fields before `of last` at the end.
-fn before_last<'a>(all: &'a [&'a [u8]]) -> Option<&'a [&'a [u8]]>
-    ensures { option_map (λ rows. field_texts rows.now) result ≡ before_last (field_texts all.now) }
+fn before_last<'l>(all: Fields<'l>) -> Option<Fields<'l>>
+    ensures { option_map fields_of result ≡ before_last (fields_of all.entry) }
 {
-    let [before @ .., of, last] = all else {
-        return None;
-    };
-    if is_of_last(*of, *last) {
+    let (others, last) = all.last()?;
+    let (before, of) = others.last()?;
+    if is_of_last(of, last) {
         Some(before)
     } else {
         None
@@ -148,9 +148,9 @@ fn before_last<'a>(all: &'a [&'a [u8]]) -> Option<&'a [&'a [u8]]>
 /// Rows, and the field of the number after them where they end with `within`, a number and `ms`, and
 /// then `of last` or nothing: from which earlier message the time counts.
 #[tactic(auto, unfolding(crate::specs::Expectations::rows_and_limit))]
-fn rows_and_limit<'a>(all: &'a [&'a [u8]]) -> (&'a [&'a [u8]], Option<(&'a [u8], Since)>)
-    ensures { (field_texts result.0.now, option_map (λ limit. (limit.0.now, limit.1)) result.1)
-        ≡ rows_and_limit (field_texts all.now) }
+fn rows_and_limit<'l>(all: Fields<'l>) -> (Fields<'l>, Option<(&'l [u8], Since)>)
+    ensures { (fields_of result.0, option_map (λ limit. (limit.0.now, limit.1)) result.1)
+        ≡ rows_and_limit (fields_of all.entry) }
 {
     match before_last(all) {
         Some(before) => match rows_and_time(b"within".as_slice(), before) {
@@ -168,18 +168,17 @@ fn rows_and_limit<'a>(all: &'a [&'a [u8]]) -> (&'a [&'a [u8]], Option<(&'a [u8],
 #[tactic(auto, unfolding(crate::specs::Expectations::pattern_form))]
 fn message_pattern(
     alloc: Global,
-    cluster: &Cluster,
     from: u8,
     to: u8,
-    all: &[u8],
-    parts: &[&[u8]],
+    all: Fields<'_>,
+    parts: Fields<'_>,
 ) -> Result<Expected, LineFault>
     ensures { Gives (λ e. e) result
-        (pattern_form (line_fields all.now) from to (rows_and_limit (field_texts parts.now))) }
+        (pattern_form (fields_of all.entry) from to (rows_and_limit (fields_of parts.entry))) }
 {
     let (rows, limit) = rows_and_limit(parts);
     if rows.is_empty() {
-        return Err(no_form(alloc, cluster, all)?);
+        return Err(no_form(alloc, all)?);
     }
     let pattern = pattern(alloc, rows)?;
     match limit {
@@ -194,75 +193,83 @@ fn message_pattern(
     }
 }
 
-fn message(alloc: Global, cluster: &Cluster, all: &[u8], line: &[u8]) -> Result<Expected, LineFault>
-    ensures { Gives (λ e. e) result (message_form cluster.now (line_fields all.now) (line_fields line.now)) }
+fn message(
+    alloc: Global,
+    cluster: &Cluster,
+    all: Fields<'_>,
+    parts: Fields<'_>,
+) -> Result<Expected, LineFault>
+    ensures { Gives (λ e. e) result (message_form cluster.now (fields_of all.entry) (fields_of parts.entry)) }
 {
-    let Some((from, rest)) = first_field(cluster, line) else {
-        return Err(no_form(alloc, cluster, all)?);
+    let Some((from, rest)) = parts.first() else {
+        return Err(no_form(alloc, all)?);
     };
-    let Some((to, rest)) = first_field(cluster, rest) else {
-        return Err(no_form(alloc, cluster, all)?);
+    let Some((to, rest)) = rest.first() else {
+        return Err(no_form(alloc, all)?);
     };
-    if is_over(cluster, rest) {
-        return Err(no_form(alloc, cluster, all)?);
+    if rest.is_empty() {
+        return Err(no_form(alloc, all)?);
     }
     let (from, to) = pair_fields(alloc, cluster, from, to)?;
-    let parts = fields(alloc, cluster, rest)?;
-    message_pattern(alloc, cluster, from, to, all, parts.as_slice())
+    message_pattern(alloc, from, to, all, rest)
 }
 
 /// The oldest message of all, by the fields after `next message`.
 fn next_message(
     alloc: Global,
     cluster: &Cluster,
-    all: &[u8],
-    line: &[u8],
+    all: Fields<'_>,
+    parts: Fields<'_>,
 ) -> Result<Expected, LineFault>
     ensures { Gives (λ e. e) result
-        (next_message_form cluster.now (line_fields all.now) (line_fields line.now)) }
+        (next_message_form cluster.now (fields_of all.entry) (fields_of parts.entry)) }
 {
-    let Some((from, rest)) = first_field(cluster, line) else {
-        return Err(no_form(alloc, cluster, all)?);
+    let Some((from, rest)) = parts.first() else {
+        return Err(no_form(alloc, all)?);
     };
-    let Some((to, rest)) = first_field(cluster, rest) else {
-        return Err(no_form(alloc, cluster, all)?);
+    let Some((to, rest)) = rest.first() else {
+        return Err(no_form(alloc, all)?);
     };
-    if is_over(cluster, rest) {
-        return Err(no_form(alloc, cluster, all)?);
+    if rest.is_empty() {
+        return Err(no_form(alloc, all)?);
     }
     let (from, to) = pair_fields(alloc, cluster, from, to)?;
-    let parts = fields(alloc, cluster, rest)?;
-    let pattern = pattern(alloc, parts.as_slice())?;
+    let pattern = pattern(alloc, rest)?;
     Ok(Expected::NextMessage { from, to, pattern })
 }
 
 /// What is next, by the fields after `next`.
-fn next(alloc: Global, cluster: &Cluster, all: &[u8], line: &[u8]) -> Result<Expected, LineFault>
-    ensures { Gives (λ e. e) result (next_form cluster.now (line_fields all.now) (line_fields line.now)) }
+fn next(
+    alloc: Global,
+    cluster: &Cluster,
+    all: Fields<'_>,
+    parts: Fields<'_>,
+) -> Result<Expected, LineFault>
+    ensures { Gives (λ e. e) result (next_form cluster.now (fields_of all.entry) (fields_of parts.entry)) }
 {
-    let Some((word, rest)) = first_field(cluster, line) else {
-        return Err(no_form(alloc, cluster, all)?);
+    let Some((word, rest)) = parts.first() else {
+        return Err(no_form(alloc, all)?);
     };
     if word == b"message".as_slice() {
         next_message(alloc, cluster, all, rest)
     } else {
-        Err(no_form(alloc, cluster, all)?)
+        Err(no_form(alloc, all)?)
     }
 }
 
 fn sent(
     alloc: Global,
     cluster: &Cluster,
-    all: &[u8],
-    parts: &[&[u8]],
+    all: Fields<'_>,
+    parts: Fields<'_>,
 ) -> Result<Expected, LineFault>
-    ensures { Gives (λ e. e) result (sent_form cluster.now (line_fields all.now) (field_texts parts.now)) }
+    ensures { Gives (λ e. e) result (sent_form cluster.now (fields_of all.entry) (fields_of parts.entry)) }
 {
-    match parts {
-        [host] => Ok(Expected::Sent {
+    match parts.one() {
+        Some(host) => Ok(Expected::Sent {
             host: host_field(alloc, cluster, host)?,
         }),
-        _ => Err(no_form(alloc, cluster, all)?),
+        None => Err(no_form(alloc, all)?),
     }
 }
 
@@ -270,32 +277,31 @@ fn sent(
 fn loss(
     alloc: Global,
     cluster: &Cluster,
-    all: &[u8],
+    all: Fields<'_>,
     host: &[u8],
     why: &[u8],
 ) -> Result<Expected, LineFault>
-    ensures { Gives (λ e. e) result (loss_expectation cluster.now (line_fields all.now) host.now why.now) }
+    ensures { Gives (λ e. e) result (loss_expectation cluster.now (fields_of all.entry) host.now why.now) }
 {
     let host = host_field(alloc, cluster, host)?;
     match named(why) {
         Some(cause) => Ok(Expected::Lost { host, cause }),
-        None => Err(no_form(alloc, cluster, all)?),
+        None => Err(no_form(alloc, all)?),
     }
 }
 
-fn lost(alloc: Global, cluster: &Cluster, all: &[u8], line: &[u8]) -> Result<Expected, LineFault>
-    ensures { Gives (λ e. e) result (lost_form cluster.now (line_fields all.now) (line_fields line.now)) }
+fn lost(
+    alloc: Global,
+    cluster: &Cluster,
+    all: Fields<'_>,
+    parts: Fields<'_>,
+) -> Result<Expected, LineFault>
+    ensures { Gives (λ e. e) result (lost_form cluster.now (fields_of all.entry) (fields_of parts.entry)) }
 {
-    let Some((host, rest)) = first_field(cluster, line) else {
-        return Err(no_form(alloc, cluster, all)?);
-    };
-    let Some((why, rest)) = first_field(cluster, rest) else {
-        return Err(no_form(alloc, cluster, all)?);
-    };
-    if !is_over(cluster, rest) {
-        return Err(no_form(alloc, cluster, all)?);
+    match parts.two() {
+        Some((host, why)) => loss(alloc, cluster, all, host, why),
+        None => Err(no_form(alloc, all)?),
     }
-    loss(alloc, cluster, all, host, why)
 }
 
 /// How many data bytes a frame has; 1 if the cluster has no such frame.
@@ -336,9 +342,9 @@ fn frame_with(
     alloc: Global,
     cluster: &Cluster,
     name: &[u8],
-    rows: &[&[u8]],
+    rows: Fields<'_>,
 ) -> Result<Condition, LineFault>
-    ensures { Gives (λ w. w) result (frame_with cluster.now name.now (field_texts rows.now)) }
+    ensures { Gives (λ w. w) result (frame_with cluster.now name.now (fields_of rows.entry)) }
 {
     let frame = frame_field(alloc, cluster, name)?;
     let said = pattern(alloc, rows)?;
@@ -352,35 +358,32 @@ fn frame_with(
 fn frame(
     alloc: Global,
     cluster: &Cluster,
-    all: &[u8],
-    parts: &[&[u8]],
+    all: Fields<'_>,
+    parts: Fields<'_>,
 ) -> Result<Condition, LineFault>
-    ensures { Gives (λ w. w) result (frame_form cluster.now (line_fields all.now) (field_texts parts.now)) }
+    ensures { Gives (λ w. w) result (frame_form cluster.now (fields_of all.entry) (fields_of parts.entry)) }
 {
-    match parts {
-        [] => Err(no_form(alloc, cluster, all)?),
-        [frame] => Ok(Condition::Frame {
-            frame: frame_field(alloc, cluster, frame)?,
+    let Some((name, rows)) = parts.first() else {
+        return Err(no_form(alloc, all)?);
+    };
+    if rows.is_empty() {
+        return Ok(Condition::Frame {
+            frame: frame_field(alloc, cluster, name)?,
             pattern: None,
-        }),
-        [frame, rows @ ..] => frame_with(alloc, cluster, frame, rows),
+        });
     }
+    frame_with(alloc, cluster, name, rows)
 }
 
-fn seen(
-    alloc: Global,
-    cluster: &Cluster,
-    all: &[u8],
-    parts: &[&[u8]],
-) -> Result<Condition, LineFault>
-    ensures { Gives (λ w. w) result (seen_form (line_fields all.now) (field_texts parts.now)) }
+fn seen(alloc: Global, all: Fields<'_>, parts: Fields<'_>) -> Result<Condition, LineFault>
+    ensures { Gives (λ w. w) result (seen_form (fields_of all.entry) (fields_of parts.entry)) }
 {
-    let [word] = parts else {
-        return Err(no_form(alloc, cluster, all)?);
+    let Some(word) = parts.one() else {
+        return Err(no_form(alloc, all)?);
     };
     match named(word) {
         Some(look) => Ok(Condition::Seen(look)),
-        None => Err(no_form(alloc, cluster, all)?),
+        None => Err(no_form(alloc, all)?),
     }
 }
 
@@ -409,18 +412,18 @@ fn entry_field(
 fn slot(
     alloc: Global,
     cluster: &Cluster,
-    all: &[u8],
-    parts: &[&[u8]],
+    all: Fields<'_>,
+    parts: Fields<'_>,
 ) -> Result<Condition, LineFault>
-    ensures { Gives (λ w. w) result (slot_form cluster.now (line_fields all.now) (field_texts parts.now)) }
+    ensures { Gives (λ w. w) result (slot_form cluster.now (fields_of all.entry) (fields_of parts.entry)) }
 {
-    match parts {
-        [name, entry] => {
+    match parts.two() {
+        Some((name, entry)) => {
             let table = present_table(alloc, cluster, name)?;
             let entry = entry_field(alloc, cluster, name, table, entry)?;
             Ok(Condition::Slot { table, entry })
         }
-        _ => Err(no_form(alloc, cluster, all)?),
+        None => Err(no_form(alloc, all)?),
     }
 }
 
@@ -428,14 +431,14 @@ fn slot(
 fn table(
     alloc: Global,
     cluster: &Cluster,
-    all: &[u8],
-    parts: &[&[u8]],
+    all: Fields<'_>,
+    parts: Fields<'_>,
 ) -> Result<Expected, LineFault>
-    ensures { Gives (λ e. e) result (table_form cluster.now (line_fields all.now) (field_texts parts.now)) }
+    ensures { Gives (λ e. e) result (table_form cluster.now (fields_of all.entry) (fields_of parts.entry)) }
 {
-    match parts {
-        [table] => Ok(Expected::Table(present_table(alloc, cluster, table)?)),
-        _ => Err(no_form(alloc, cluster, all)?),
+    match parts.one() {
+        Some(table) => Ok(Expected::Table(present_table(alloc, cluster, table)?)),
+        None => Err(no_form(alloc, all)?),
     }
 }
 
@@ -491,100 +494,101 @@ fn is_tolerance(sign: &[u8], unit: &[u8]) -> bool
 fn cycle_within(
     alloc: Global,
     cluster: &Cluster,
-    all: &[u8],
-    parts: &[&[u8]],
+    all: Fields<'_>,
+    parts: Fields<'_>,
 ) -> Result<Expected, LineFault>
     ensures { Gives
-        (λ e. e) result (cycle_within_form cluster.now (line_fields all.now) (field_texts parts.now)) }
+        (λ e. e) result (cycle_within_form cluster.now (fields_of all.entry) (fields_of parts.entry)) }
 {
-    let [frame, time, sign, within, unit] = parts else {
-        return Err(no_form(alloc, cluster, all)?);
+    let Some((frame, others)) = parts.first() else {
+        return Err(no_form(alloc, all)?);
     };
-    if !is_tolerance(sign, unit) {
-        return Err(no_form(alloc, cluster, all)?);
+    let Some((time, others)) = others.first() else {
+        return Err(no_form(alloc, all)?);
+    };
+    match others.three() {
+        Some((sign, within, unit)) if is_tolerance(sign, unit) => {
+            near_cycle(alloc, cluster, frame, time, within)
+        }
+        _ => Err(no_form(alloc, all)?),
     }
-    near_cycle(alloc, cluster, frame, time, within)
 }
 
 /// The cycle of a frame, by the fields after `cycle`.
 fn cycle(
     alloc: Global,
     cluster: &Cluster,
-    all: &[u8],
-    parts: &[&[u8]],
+    all: Fields<'_>,
+    parts: Fields<'_>,
 ) -> Result<Expected, LineFault>
-    ensures { Gives (λ e. e) result (cycle_form cluster.now (line_fields all.now) (field_texts parts.now)) }
+    ensures { Gives (λ e. e) result (cycle_form cluster.now (fields_of all.entry) (fields_of parts.entry)) }
 {
-    let [frame, time, unit] = parts else {
+    let Some((frame, time, unit)) = parts.three() else {
         return cycle_within(alloc, cluster, all, parts);
     };
     if !is_unit(unit) {
-        return Err(no_form(alloc, cluster, all)?);
+        return Err(no_form(alloc, all)?);
     }
     exact_cycle(alloc, cluster, frame, time)
 }
 
-fn refused(
-    alloc: Global,
-    cluster: &Cluster,
-    all: &[u8],
-    parts: &[&[u8]],
-) -> Result<Expected, LineFault>
-    ensures { Gives (λ e. e) result (refused_form (line_fields all.now) (field_texts parts.now)) }
+fn refused(alloc: Global, all: Fields<'_>, parts: Fields<'_>) -> Result<Expected, LineFault>
+    ensures { Gives (λ e. e) result (refused_form (fields_of all.entry) (fields_of parts.entry)) }
 {
-    match parts {
-        [why] => Ok(Expected::Refused(refusal_field(alloc, why)?)),
-        _ => Err(no_form(alloc, cluster, all)?),
+    match parts.one() {
+        Some(why) => Ok(Expected::Refused(refusal_field(alloc, why)?)),
+        None => Err(no_form(alloc, all)?),
     }
 }
 
 fn no_message(
     alloc: Global,
     cluster: &Cluster,
-    all: &[u8],
-    parts: &[&[u8]],
+    all: Fields<'_>,
+    parts: Fields<'_>,
 ) -> Result<Expected, LineFault>
     ensures { Gives (λ e. e) result
-        (no_message_form cluster.now (line_fields all.now) (field_texts parts.now)) }
+        (no_message_form cluster.now (fields_of all.entry) (fields_of parts.entry)) }
 {
-    match parts {
-        [from, to] => {
+    match parts.two() {
+        Some((from, to)) => {
             let (from, to) = pair_fields(alloc, cluster, from, to)?;
             Ok(Expected::NoMessage { from, to })
         }
-        _ => Err(no_form(alloc, cluster, all)?),
+        None => Err(no_form(alloc, all)?),
     }
 }
 
 fn no_lost(
     alloc: Global,
     cluster: &Cluster,
-    all: &[u8],
-    parts: &[&[u8]],
+    all: Fields<'_>,
+    parts: Fields<'_>,
 ) -> Result<Expected, LineFault>
-    ensures { Gives (λ e. e) result (no_lost_form cluster.now (line_fields all.now) (field_texts parts.now)) }
+    ensures { Gives (λ e. e) result (no_lost_form cluster.now (fields_of all.entry) (fields_of parts.entry)) }
 {
-    match parts {
-        [] => Ok(Expected::NoLost { host: None }),
-        [host] => Ok(Expected::NoLost {
-            host: Some(host_field(alloc, cluster, host)?),
-        }),
-        _ => Err(no_form(alloc, cluster, all)?),
+    let Some((host, others)) = parts.first() else {
+        return Ok(Expected::NoLost { host: None });
+    };
+    if !others.is_empty() {
+        return Err(no_form(alloc, all)?);
     }
+    let host = Some(host_field(alloc, cluster, host)?);
+    Ok(Expected::NoLost { host })
 }
 
 /// How many messages there are, by the fields after `messages`.
 fn messages(
     alloc: Global,
     cluster: &Cluster,
-    all: &[u8],
-    parts: &[&[u8]],
+    all: Fields<'_>,
+    parts: Fields<'_>,
 ) -> Result<Condition, LineFault>
     ensures { Gives (λ w. w) result
-        (messages_form cluster.now (line_fields all.now) (field_texts parts.now)) }
+        (messages_form cluster.now (fields_of all.entry) (fields_of parts.entry)) }
 {
-    match parts {
-        [from, to, count] => {
+    match parts.three() {
+        Some((from, to, count)) => {
             let (from, to) = pair_fields(alloc, cluster, from, to)?;
             let (low, high) = counts_field(alloc, count)?;
             Ok(Condition::Messages {
@@ -594,54 +598,57 @@ fn messages(
                 high,
             })
         }
-        _ => Err(no_form(alloc, cluster, all)?),
+        None => Err(no_form(alloc, all)?),
     }
 }
 
 /// What isn't to be, by the fields after `no`.
-fn nothing(alloc: Global, cluster: &Cluster, all: &[u8], line: &[u8]) -> Result<Expected, LineFault>
-    ensures { Gives (λ e. e) result (no_form cluster.now (line_fields all.now) (line_fields line.now)) }
+fn nothing(
+    alloc: Global,
+    cluster: &Cluster,
+    all: Fields<'_>,
+    parts: Fields<'_>,
+) -> Result<Expected, LineFault>
+    ensures { Gives (λ e. e) result (no_form cluster.now (fields_of all.entry) (fields_of parts.entry)) }
 {
-    let Some((word, rest)) = first_field(cluster, line) else {
-        return Err(no_form(alloc, cluster, all)?);
+    let Some((word, rest)) = parts.first() else {
+        return Err(no_form(alloc, all)?);
     };
-    let parts = fields(alloc, cluster, rest)?;
     if word == b"message".as_slice() {
-        no_message(alloc, cluster, all, parts.as_slice())
+        no_message(alloc, cluster, all, rest)
     } else if word == b"lost".as_slice() {
-        no_lost(alloc, cluster, all, parts.as_slice())
+        no_lost(alloc, cluster, all, rest)
     } else {
-        Err(no_form(alloc, cluster, all)?)
+        Err(no_form(alloc, all)?)
     }
 }
 
 /// What is expected, where no field stands after its word.
 fn lone(
     alloc: Global,
-    cluster: &Cluster,
     what: Expected,
-    all: &[u8],
-    parts: &[&[u8]],
+    all: Fields<'_>,
+    parts: Fields<'_>,
 ) -> Result<Expected, LineFault>
-    ensures { Gives (λ e. e) result (lone_form (line_fields all.now) what (field_texts parts.now)) }
+    ensures { Gives (λ e. e) result (lone_form (fields_of all.entry) what (fields_of parts.entry)) }
 {
-    match parts {
-        [] => Ok(what),
-        _ => Err(no_form(alloc, cluster, all)?),
+    if parts.is_empty() {
+        return Ok(what);
     }
+    Err(no_form(alloc, all)?)
 }
 
 /// A signal that is to change, by the fields after `changed`.
 fn changed(
     alloc: Global,
     cluster: &Cluster,
-    all: &[u8],
-    parts: &[&[u8]],
+    all: Fields<'_>,
+    parts: Fields<'_>,
 ) -> Result<Condition, LineFault>
-    ensures { Gives (λ w. w) result (changed_form cluster.now (line_fields all.now) (field_texts parts.now)) }
+    ensures { Gives (λ w. w) result (changed_form cluster.now (fields_of all.entry) (fields_of parts.entry)) }
 {
-    match parts {
-        [node, signal] => {
+    match parts.two() {
+        Some((node, signal)) => {
             let (node, signal) = signal_fields(alloc, cluster, node, signal)?;
             Ok(Condition::Changed {
                 node,
@@ -649,7 +656,7 @@ fn changed(
                 first: None,
             })
         }
-        _ => Err(no_form(alloc, cluster, all)?),
+        None => Err(no_form(alloc, all)?),
     }
 }
 
@@ -657,12 +664,12 @@ fn changed(
 pub(crate) fn condition(
     alloc: Global,
     cluster: &Cluster,
-    all: &[u8],
+    all: Fields<'_>,
     word: &[u8],
-    parts: &[&[u8]],
+    parts: Fields<'_>,
 ) -> Result<Option<Condition>, LineFault>
     ensures { Gives (λ w. w) result
-        (condition_form cluster.now (line_fields all.now) word.now (field_texts parts.now)) }
+        (condition_form cluster.now (fields_of all.entry) word.now (fields_of parts.entry)) }
 {
     if word == b"signal".as_slice() {
         Ok(Some(signal(alloc, cluster, all, parts)?))
@@ -671,7 +678,7 @@ pub(crate) fn condition(
     } else if word == b"messages".as_slice() {
         Ok(Some(messages(alloc, cluster, all, parts)?))
     } else if word == b"seen".as_slice() {
-        Ok(Some(seen(alloc, cluster, all, parts)?))
+        Ok(Some(seen(alloc, all, parts)?))
     } else if word == b"frame".as_slice() {
         Ok(Some(frame(alloc, cluster, all, parts)?))
     } else if word == b"slot".as_slice() {
@@ -684,16 +691,20 @@ pub(crate) fn condition(
 }
 
 /// What isn't to hold, by the fields after `not`.
-fn negated(alloc: Global, cluster: &Cluster, all: &[u8], line: &[u8]) -> Result<Expected, LineFault>
-    ensures { Gives (λ e. e) result (not_form cluster.now (line_fields all.now) (line_fields line.now)) }
+fn negated(
+    alloc: Global,
+    cluster: &Cluster,
+    all: Fields<'_>,
+    parts: Fields<'_>,
+) -> Result<Expected, LineFault>
+    ensures { Gives (λ e. e) result (not_form cluster.now (fields_of all.entry) (fields_of parts.entry)) }
 {
-    let Some((word, rest)) = first_field(cluster, line) else {
-        return Err(no_form(alloc, cluster, all)?);
+    let Some((word, rest)) = parts.first() else {
+        return Err(no_form(alloc, all)?);
     };
-    let parts = fields(alloc, cluster, rest)?;
-    match condition(alloc, cluster, all, word, parts.as_slice())? {
+    match condition(alloc, cluster, all, word, rest)? {
         Some(what) => Ok(Expected::Not(what)),
-        None => Err(no_form(alloc, cluster, all)?),
+        None => Err(no_form(alloc, all)?),
     }
 }
 
@@ -701,41 +712,39 @@ fn negated(alloc: Global, cluster: &Cluster, all: &[u8], line: &[u8]) -> Result<
 fn other(
     alloc: Global,
     cluster: &Cluster,
-    all: &[u8],
+    all: Fields<'_>,
     word: &[u8],
-    line: &[u8],
+    parts: Fields<'_>,
 ) -> Result<Expected, LineFault>
     ensures { Gives
-        (λ e. e) result (other_expectation cluster.now (line_fields all.now) word.now (line_fields line.now)) }
+        (λ e. e) result (other_expectation cluster.now (fields_of all.entry) word.now (fields_of parts.entry)) }
 {
-    let parts = fields(alloc, cluster, line)?;
-    let parts = parts.as_slice();
     if word == b"not".as_slice() {
-        negated(alloc, cluster, all, line)
+        negated(alloc, cluster, all, parts)
     } else if word == b"message".as_slice() {
-        message(alloc, cluster, all, line)
+        message(alloc, cluster, all, parts)
     } else if word == b"next".as_slice() {
-        next(alloc, cluster, all, line)
+        next(alloc, cluster, all, parts)
     } else if word == b"no".as_slice() {
-        nothing(alloc, cluster, all, line)
+        nothing(alloc, cluster, all, parts)
     } else if word == b"sent".as_slice() {
         sent(alloc, cluster, all, parts)
     } else if word == b"lost".as_slice() {
-        lost(alloc, cluster, all, line)
+        lost(alloc, cluster, all, parts)
     } else if word == b"cycle".as_slice() {
         cycle(alloc, cluster, all, parts)
     } else if word == b"table".as_slice() {
         table(alloc, cluster, all, parts)
     } else if word == b"done".as_slice() {
-        lone(alloc, cluster, Expected::Done, all, parts)
+        lone(alloc, Expected::Done, all, parts)
     } else if word == b"refused".as_slice() {
-        refused(alloc, cluster, all, parts)
+        refused(alloc, all, parts)
     } else if word == b"asleep".as_slice() {
-        lone(alloc, cluster, Expected::Asleep, all, parts)
+        lone(alloc, Expected::Asleep, all, parts)
     } else if word == b"awake".as_slice() {
-        lone(alloc, cluster, Expected::Awake, all, parts)
+        lone(alloc, Expected::Awake, all, parts)
     } else {
-        Err(no_form(alloc, cluster, all)?)
+        Err(no_form(alloc, all)?)
     }
 }
 
@@ -744,35 +753,34 @@ fn other(
 fn of_word(
     alloc: Global,
     cluster: &Cluster,
-    all: &[u8],
+    all: Fields<'_>,
     word: &[u8],
-    line: &[u8],
+    parts: Fields<'_>,
 ) -> Result<Expected, LineFault>
     ensures { Gives
-        (λ e. e) result (word_expectation cluster.now (line_fields all.now) word.now (line_fields line.now)) }
+        (λ e. e) result (word_expectation cluster.now (fields_of all.entry) word.now (fields_of parts.entry)) }
 {
-    let parts = fields(alloc, cluster, line)?;
-    match condition(alloc, cluster, all, word, parts.as_slice())? {
+    match condition(alloc, cluster, all, word, parts)? {
         Some(what) => Ok(Expected::Is(what)),
-        None => other(alloc, cluster, all, word, line),
+        None => other(alloc, cluster, all, word, parts),
     }
 }
 
 /// Whether fields begin with `changed`.
-fn begins_change(cluster: &Cluster, line: &[u8]) -> bool
-    ensures { result ≡ begins_change (line_fields line.now) }
+fn begins_change(parts: Fields<'_>) -> bool
+    ensures { result ≡ begins_change (fields_of parts.entry) }
 {
-    match first_field(cluster, line) {
+    match parts.first() {
         Some((word, _)) => word == b"changed".as_slice(),
         None => false,
     }
 }
 
 /// Whether a word and the fields after it are `not changed`: no signal has changed at the beginning of its line.
-fn no_change(cluster: &Cluster, word: &[u8], line: &[u8]) -> bool
-    ensures { result ≡ no_change word.now (line_fields line.now) }
+fn no_change(word: &[u8], parts: Fields<'_>) -> bool
+    ensures { result ≡ no_change word.now (fields_of parts.entry) }
 {
-    word == b"not".as_slice() && begins_change(cluster, line)
+    word == b"not".as_slice() && begins_change(parts)
 }
 
 /// Whether a word begins what comes after a step alone, or stands for what doesn't come.
@@ -787,13 +795,14 @@ fn never_comes(word: &[u8]) -> bool
 pub(crate) fn until(alloc: Global, cluster: &Cluster, line: &[u8]) -> Result<Expected, LineFault>
     ensures { Gives (λ e. e) result (until_form cluster.now (line_fields line.now)) }
 {
-    let Some((word, rest)) = first_field(cluster, line) else {
+    let all = Fields::of(cluster, line);
+    let Some((word, parts)) = all.first() else {
         return Err(LineFault::Bad(Reason::UntilForm));
     };
-    if never_comes(word) || no_change(cluster, word, rest) {
-        return Err(LineFault::Bad(Reason::UnknownUntil(copied(alloc, cluster, line)?)));
+    if never_comes(word) || no_change(word, parts) {
+        return Err(LineFault::Bad(Reason::UnknownUntil(copied_fields(alloc, all)?)));
     }
-    match of_word(alloc, cluster, line, word, rest) {
+    match of_word(alloc, cluster, all, word, parts) {
         Err(LineFault::Bad(why)) => Err(LineFault::Bad(why.of_until())),
         answer => answer,
     }
@@ -816,13 +825,14 @@ fn passes(word: &[u8]) -> bool
 pub(crate) fn holding(alloc: Global, cluster: &Cluster, line: &[u8]) -> Result<Expected, LineFault>
     ensures { Gives (λ e. e) result (while_form cluster.now (line_fields line.now)) }
 {
-    let Some((word, rest)) = first_field(cluster, line) else {
+    let all = Fields::of(cluster, line);
+    let Some((word, parts)) = all.first() else {
         return Err(LineFault::Bad(Reason::WhileForm));
     };
     if passes(word) {
-        return Err(LineFault::Bad(Reason::UnknownWhile(copied(alloc, cluster, line)?)));
+        return Err(LineFault::Bad(Reason::UnknownWhile(copied_fields(alloc, all)?)));
     }
-    match of_word(alloc, cluster, line, word, rest) {
+    match of_word(alloc, cluster, all, word, parts) {
         Err(LineFault::Bad(why)) => Err(LineFault::Bad(why.of_while())),
         answer => answer,
     }
@@ -830,10 +840,10 @@ pub(crate) fn holding(alloc: Global, cluster: &Cluster, line: &[u8]) -> Result<E
 
 /// Whether a word and the fields after it are for slots alone: a signal changes from the beginning of its
 /// line on.
-fn needs_slots(cluster: &Cluster, word: &[u8], line: &[u8]) -> bool
-    ensures { result ≡ needs_slots word.now (line_fields line.now) }
+fn needs_slots(word: &[u8], parts: Fields<'_>) -> bool
+    ensures { result ≡ needs_slots word.now (fields_of parts.entry) }
 {
-    word == b"changed".as_slice() || no_change(cluster, word, line)
+    word == b"changed".as_slice() || no_change(word, parts)
 }
 
 /// What is expected, by the fields after `expect`.
@@ -845,13 +855,12 @@ pub(crate) fn expectation(
 ) -> Result<Expected, LineFault>
     ensures { Gives (λ e. e) result (expectation cluster.now (line_fields line.now)) }
 {
-    match first_field(cluster, line) {
-        None => Err(LineFault::Bad(Reason::ExpectForm)),
-        Some((word, rest)) => {
-            if needs_slots(cluster, word, rest) {
-                return Err(no_form(alloc, cluster, line)?);
-            }
-            of_word(alloc, cluster, line, word, rest)
-        }
+    let all = Fields::of(cluster, line);
+    let Some((word, parts)) = all.first() else {
+        return Err(LineFault::Bad(Reason::ExpectForm));
+    };
+    if needs_slots(word, parts) {
+        return Err(no_form(alloc, all)?);
     }
+    of_word(alloc, cluster, all, word, parts)
 }

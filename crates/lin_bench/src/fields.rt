@@ -1,8 +1,9 @@
 //! The fields of a line, as the language of a cluster's names has them.
 
-ghost use Rattle.std.specs.Prelude.{◌≡◌, ◌<◌, ◌&&◌, codes, length, IfOk, map, option_map};
+ghost use Rattle.std.specs.Prelude.{◌≡◌, ◌≢◌, ◌+◌, ◌<◌, ◌≤◌, ◌&&◌, ◌∷◌, ◌++◌, [], codes, drop, false, length, map, option_map, position};
+ghost use Rattle.std.specs.Prelude.{IfOk, IfSome, MatchOption, take};
 ghost use Rattle.std.specs.Str.{bytes_eq};
-ghost use Rattle.lin_log.specs.Said.{fields as said_fields};
+ghost use Rattle.lin_log.specs.Said.{fields as said_fields, no_fields, SplitsField};
 ghost use Rattle.lin_bench.specs.Fields.{bytes_fields, count_field, line_fields, node_field, number_up_to};
 ghost use Rattle.lin_bench.specs.Fields.{counts_between, counts_field};
 ghost use Rattle.lin_bench.specs.Fields.{after_dots, frame_called, frame_field, frame_numbered};
@@ -12,8 +13,11 @@ ghost use Rattle.lin_parts.specs.Cluster.{nodes};
 ghost use Rattle.lin_bench.specs.Fields.{or_bad, range_ends, range_field, rows_and_time};
 ghost use Rattle.lin_bench.specs.Fields.{host_field, pair_fields, present_node, present_signal};
 ghost use Rattle.lin_bench.specs.Fields.{present_table, sends, signal_field, signal_fields};
-ghost use Rattle.lin_bench.specs.Fields.{table_field, takes_part, tab_as_space, value_field, field_texts};
+ghost use Rattle.lin_bench.specs.Fields.{table_field, takes_part, tab_as_space, value_field};
+ghost use Rattle.lin_bench.specs.Fields.{Cuts};
+ghost use Rattle.lin_bench.specs.Parts.{fields_of};
 ghost use Rattle.lin_bench.specs.Read.{Gives};
+ghost use Rattle.lin_bench.specs.RuleLines.{is_only};
 ghost use Rattle.lin_bench.specs.declared.reason.Reason.{Reason};
 
 use crate::carried::has;
@@ -21,26 +25,190 @@ use crate::fault::LineFault;
 use crate::reason::Reason;
 use lin_core::Payload;
 use lin_frame::Value;
-use lin_log::{Carried, Naming, Reason as StepReason, first_field, is_number};
+use lin_log::{Carried, NumberNaming, Reason as StepReason, first_field, is_number};
 use lin_parts::Cluster;
 use lin_text::{Many, Text};
 use std::alloc::{AllocError, Global};
 
-/// The fields of a line, as these names have them.
-pub(crate) fn fields<'a, N: Naming>(
-    alloc: Global,
-    names: &N,
-    line: &'a [u8],
-) -> Result<Vec<&'a [u8]>, AllocError>
-    ensures { IfOk result (λ v. field_texts v.items ≡ said_fields (N.language names.now).free line.now) }
+/// The first fields of a line, `count` of them at most, where they are in the line.
+#[derive(Clone, Copy)]
+pub(crate) struct Fields<'l> {
+    cluster: &'l Cluster,
+    is_free: bool,
+    line: &'l [u8],
+    count: usize,
+}
+
+/// The first field of a line, which is free or not, and the rest of the line.
+fn split<'l>(cluster: &Cluster, is_free: bool, line: &'l [u8]) -> Option<(&'l [u8], &'l [u8])>
+    ensures { MatchOption result (said_fields is_free line.now ≡ [])
+        (λ x. SplitsField is_free line.now x.0.now x.1.now) }
 {
-    let mut fields = Vec::new(alloc);
-    let mut left = line;
-    while let Some((field, rest)) = first_field(names, left) {
-        fields.push(field)?;
-        left = rest;
+    if is_free {
+        first_field(cluster, line)
+    } else {
+        first_field(&NumberNaming, line)
     }
-    Ok(fields)
+}
+
+impl<'l> Fields<'l> {
+    /// The fields of a line. If `is_free` is false, a tab separates no fields, and `#` begins no comment.
+    pub(crate) fn whole(cluster: &'l Cluster, is_free: bool, line: &'l [u8]) -> Fields<'l>
+        ensures { fields_of result ≡ said_fields is_free line.now }
+    {
+        let count = line.len();
+        Fields {
+            cluster,
+            is_free,
+            line,
+            count,
+        }
+    }
+
+    /// All fields of a line.
+    pub(crate) fn of(cluster: &'l Cluster, line: &'l [u8]) -> Fields<'l>
+        ensures { fields_of result ≡ line_fields line.now }
+    {
+        Fields::whole(cluster, true, line)
+    }
+
+    /// The first field, and the others.
+    pub(crate) fn first(self) -> Option<(&'l [u8], Fields<'l>)>
+        ensures split { MatchOption result (fields_of self.entry ≡ [])
+            (λ x. fields_of self.entry ≡ x.0.now ∷ fields_of x.1) }
+        ensures fewer { IfSome result (λ x. x.1.count + 1 ≡ self.entry.count) }
+    {
+        if self.count == 0 {
+            return None;
+        }
+        let (field, line) = split(self.cluster, self.is_free, self.line)?;
+        let count = self.count - 1;
+        Some((
+            field,
+            Fields {
+                line,
+                count,
+                ..self
+            },
+        ))
+    }
+
+    /// Whether there is no field.
+    pub(crate) fn is_empty(self) -> bool
+        ensures { result ≡ no_fields (fields_of self.entry) }
+    {
+        self.first().is_none()
+    }
+
+    /// How many fields there are.
+    pub(crate) fn len(self) -> usize
+        ensures { result ≡ length (fields_of self.entry) }
+    {
+        let mut left = self;
+        while let Some((_, rest)) = left.first() {
+            left = rest;
+        }
+        self.count - left.count
+    }
+
+    /// The first `n` fields, or all if there are fewer.
+    pub(crate) fn take(self, n: usize) -> Fields<'l>
+        ensures { fields_of result ≡ take n (fields_of self.entry) }
+    {
+        Fields {
+            count: self.count.min(n),
+            ..self
+        }
+    }
+
+    /// The fields after the first `n`.
+    pub(crate) fn skip(self, n: usize) -> Fields<'l>
+        ensures { fields_of result ≡ drop n (fields_of self.entry) }
+    {
+        let mut left = self;
+        for _ in 0..n {
+            let Some((_, rest)) = left.first() else {
+                return left;
+            };
+            left = rest;
+        }
+        left
+    }
+
+    /// The fields before field `at`, this field, and those after it.
+    pub(crate) fn cut(self, at: usize) -> Option<(Fields<'l>, &'l [u8], Fields<'l>)>
+        ensures { MatchOption result (length (fields_of self.entry) ≤ at)
+            (λ x. Cuts (fields_of self.entry) at (fields_of x.0) x.1.now (fields_of x.2)) }
+    {
+        let (field, after) = self.skip(at).first()?;
+        Some((self.take(at), field, after))
+    }
+
+    /// The fields before the last one, and the last one.
+    pub(crate) fn last(self) -> Option<(Fields<'l>, &'l [u8])>
+        ensures { MatchOption result (fields_of self.entry ≡ [])
+            (λ x. fields_of self.entry ≡ fields_of x.0 ++ x.1.now ∷ []) }
+    {
+        let count = self.len();
+        if count == 0 {
+            return None;
+        }
+        let (before, last, _) = self.cut(count - 1)?;
+        Some((before, last))
+    }
+
+    /// The place of the first field that is a word.
+    pub(crate) fn word_at(self, word: &[u8]) -> Option<usize>
+        ensures first { result ≡ position (λ f. bytes_eq f word.now) (fields_of self.entry) }
+        ensures within { IfSome result (λ at. at < length (fields_of self.entry)) }
+        ensures few { IfSome result (λ at. at < self.entry.count) }
+    {
+        let mut left = self;
+        while let Some((field, rest)) = left.first() {
+            if field == word {
+                return Some(self.count - left.count);
+            }
+            left = rest;
+        }
+        None
+    }
+
+    /// The only field, if there is one.
+    pub(crate) fn one(self) -> Option<&'l [u8]>
+        ensures { MatchOption result (length (fields_of self.entry) ≢ 1) (λ x. fields_of self.entry ≡ x.now ∷ []) }
+    {
+        let (field, others) = self.first()?;
+        if others.is_empty() { Some(field) } else { None }
+    }
+
+    /// The fields, if there are two.
+    pub(crate) fn two(self) -> Option<(&'l [u8], &'l [u8])>
+        ensures { MatchOption result (length (fields_of self.entry) ≢ 2)
+            (λ x. fields_of self.entry ≡ x.0.now ∷ x.1.now ∷ []) }
+    {
+        let (first, others) = self.first()?;
+        Some((first, others.one()?))
+    }
+
+    /// The fields, if there are three.
+    pub(crate) fn three(self) -> Option<(&'l [u8], &'l [u8], &'l [u8])>
+        ensures { MatchOption result (length (fields_of self.entry) ≢ 3)
+            (λ x. fields_of self.entry ≡ x.0.now ∷ x.1.now ∷ x.2.now ∷ []) }
+    {
+        let (first, others) = self.first()?;
+        let (second, third) = others.two()?;
+        Some((first, second, third))
+    }
+
+    /// Whether the only field is a word.
+    pub(crate) fn is_only(self, word: &[u8]) -> bool
+        ensures { result ≡ is_only word.now (fields_of self.entry) }
+    {
+        match self.one() {
+            Some(field) => field == word,
+            None => false,
+        }
+    }
 }
 
 fn without_tab(byte: u8) -> u8
@@ -78,12 +246,14 @@ pub(crate) fn count_field(alloc: Global, field: &[u8]) -> Result<u32, LineFault>
 }
 
 /// Copies of fields.
-pub(crate) fn copied_fields(alloc: Global, fields: &[&[u8]]) -> Result<Many<Text>, AllocError>
-    ensures { IfOk result (λ all. all ≡ field_texts fields.now) }
+pub(crate) fn copied_fields(alloc: Global, fields: Fields<'_>) -> Result<Many<Text>, AllocError>
+    ensures { IfOk result (λ all. all ≡ fields_of fields.entry) }
 {
     let mut all = Vec::new(alloc);
-    for field in fields {
-        all.push(Text::copied(alloc, *field)?)?;
+    let mut left = fields;
+    while let Some((field, rest)) = left.first() {
+        all.push(Text::copied(alloc, field)?)?;
+        left = rest;
     }
     Ok(Many::new(all))
 }
@@ -320,18 +490,21 @@ fn begins_time(before: &[u8], word: &[u8], unit: &[u8]) -> bool
 }
 
 /// Rows, and the field of the number after them where they end with this word, a number and `ms`.
-pub(crate) fn rows_and_time<'a>(
-    before: &[u8],
-    all: &'a [&'a [u8]],
-) -> (&'a [&'a [u8]], Option<&'a [u8]>)
-    ensures { (field_texts result.0.now, option_map (λ n. n.now) result.1)
-        ≡ rows_and_time before.now (field_texts all.now) }
+pub(crate) fn rows_and_time<'l>(before: &[u8], all: Fields<'l>) -> (Fields<'l>, Option<&'l [u8]>)
+    ensures { (fields_of result.0, option_map (λ n. n.now) result.1)
+        ≡ rows_and_time before.now (fields_of all.entry) }
 {
-    let [rows @ .., word, number, unit] = all else {
+    let Some((others, unit)) = all.last() else {
         return (all, None);
     };
-    if begins_time(before, *word, *unit) {
-        (rows, Some(*number))
+    let Some((others, number)) = others.last() else {
+        return (all, None);
+    };
+    let Some((rows, word)) = others.last() else {
+        return (all, None);
+    };
+    if begins_time(before, word, unit) {
+        (rows, Some(number))
     } else {
         (all, None)
     }

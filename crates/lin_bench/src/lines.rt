@@ -10,7 +10,7 @@ ghost use Rattle.lin_bench.specs.Read.{Gives};
 
 use crate::expectations::{expectation, holding, until};
 use crate::fault::LineFault;
-use crate::fields::{bytes_fields, count_field, fields, node_field};
+use crate::fields::{Fields, bytes_fields, count_field, node_field};
 use crate::line::{Disturbance, Extent, ScriptLine, Slots};
 use crate::on_lines::on;
 use crate::reason::Reason;
@@ -211,11 +211,11 @@ fn forget(alloc: Global, cluster: &Cluster, line: &[u8]) -> Result<ScriptLine, L
 fn test(alloc: Global, cluster: &Cluster, line: &[u8]) -> Result<ScriptLine, LineFault>
     ensures { Gives (λ l. l) result (test_form (line_fields line.now)) }
 {
-    let name = fields(alloc, cluster, line)?;
+    let name = Fields::of(cluster, line);
     if name.is_empty() {
         return Err(LineFault::Bad(Reason::TestForm));
     }
-    let name = joined(alloc, name.as_slice())?;
+    let name = joined(alloc, name)?;
     Ok(ScriptLine::Test(Text::copied(alloc, name.as_slice())?))
 }
 
@@ -287,7 +287,7 @@ fn rule_or_step(
     } else if word == b"every".as_slice() {
         Ok(ScriptLine::Rule(every(alloc, cluster, rest)?))
     } else if word == b"services".as_slice() {
-        Ok(ScriptLine::Rule(services(alloc, cluster, rest)?))
+        Ok(ScriptLine::Rule(services(cluster, rest)?))
     } else if word == b"response_errors".as_slice() {
         Ok(ScriptLine::Rule(response_errors(alloc, cluster, rest)?))
     } else if word == b"state".as_slice() {

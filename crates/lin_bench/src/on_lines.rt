@@ -1,18 +1,18 @@
 //! The forms of lines of steps that signals and frames call for.
 
-ghost use Rattle.std.specs.Prelude.{◌≡◌, ◌≤◌, ◌&&◌, ◌||◌, ◌∷◌, IfOk, IfSome, length, option_map};
-ghost use Rattle.lin_bench.specs.Fields.{field_texts, line_fields};
-ghost use Rattle.lin_bench.specs.OnLines.{after_do, called_step, ended_form, form_fields, form_of, is_called, may_call};
+ghost use Rattle.std.specs.Prelude.{◌≡◌, ◌&&◌, ◌||◌, ◌∷◌, IfOk, option_map};
+ghost use Rattle.lin_bench.specs.Fields.{line_fields};
+ghost use Rattle.lin_bench.specs.OnLines.{after_do, called_step, form_fields, form_of, is_called, may_call};
 ghost use Rattle.lin_bench.specs.OnLines.{off_at, on_do, on_end, on_form, on_step, step_after};
+ghost use Rattle.lin_bench.specs.Parts.{fields_of};
 ghost use Rattle.lin_bench.specs.Read.{Gives};
 ghost use Rattle.lin_bench.specs.declared.fault.LineFault.{LineFault};
 ghost use Rattle.lin_bench.specs.declared.reason.Reason.{Reason};
 
 use crate::expectations::condition;
 use crate::fault::LineFault;
-use crate::fields::{copied_fields, fields};
+use crate::fields::{Fields, copied_fields};
 use crate::reason::Reason;
-use crate::rule_lines::word_at;
 use crate::rules::{Form, On, Rule, RuleEnd, Watched};
 use lin_core::{PortId, Step};
 use lin_log::{first_field, is_port, port_step, step};
@@ -20,8 +20,8 @@ use lin_parts::Cluster;
 use std::alloc::{AllocError, Global};
 
 /// The fault of a line of `on` that is none of its forms.
-fn no_form(alloc: Global, all: &[&[u8]]) -> Result<LineFault, AllocError>
-    ensures { IfOk result (λ fault. fault ≡ LineFault.Bad (Reason.UnknownOn (field_texts all.now))) }
+fn no_form(alloc: Global, all: Fields<'_>) -> Result<LineFault, AllocError>
+    ensures { IfOk result (λ fault. fault ≡ LineFault.Bad (Reason.UnknownOn (fields_of all.entry))) }
 {
     Ok(LineFault::Bad(Reason::UnknownOn(copied_fields(alloc, all)?)))
 }
@@ -38,24 +38,22 @@ fn may_call(word: &[u8], wanted: bool) -> bool
 }
 
 /// The form of a condition that is to hold, or isn't, by its word and the fields after it; `all` are the
-/// fields of the form, and `line` those of the line.
+/// fields of the form.
 fn form_of(
     alloc: Global,
     cluster: &Cluster,
-    line: &[u8],
-    all: &[&[u8]],
+    all: Fields<'_>,
     wanted: bool,
     word: &[u8],
-    parts: &[&[u8]],
+    parts: Fields<'_>,
 ) -> Result<Form, LineFault>
     ensures { Gives (λ f. f) result
-        (form_of cluster.now (line_fields line.now) (field_texts all.now) wanted word.now
-        (field_texts parts.now)) }
+        (form_of cluster.now (fields_of all.entry) wanted word.now (fields_of parts.entry)) }
 {
     if !may_call(word, wanted) {
         return Err(no_form(alloc, all)?);
     }
-    match condition(alloc, cluster, line, word, parts) {
+    match condition(alloc, cluster, all, word, parts) {
         Ok(Some(what)) => Ok(Form { wanted, what }),
         Ok(None) => Err(no_form(alloc, all)?),
         Err(LineFault::Bad(why)) => Err(LineFault::Bad(why.of_on(alloc, all)?)),
@@ -64,21 +62,17 @@ fn form_of(
 }
 
 /// The form that a step waits for, by its fields.
-fn form_fields(
-    alloc: Global,
-    cluster: &Cluster,
-    line: &[u8],
-    all: &[&[u8]],
-) -> Result<Form, LineFault>
-    ensures { Gives (λ f. f) result
-        (form_fields cluster.now (line_fields line.now) (field_texts all.now)) }
+fn form_fields(alloc: Global, cluster: &Cluster, all: Fields<'_>) -> Result<Form, LineFault>
+    ensures { Gives (λ f. f) result (form_fields cluster.now (fields_of all.entry)) }
 {
-    match all {
-        [] => Err(LineFault::Bad(Reason::OnForm)),
-        [first, word, parts @ ..] if *first == b"not".as_slice() => {
-            form_of(alloc, cluster, line, all, false, *word, parts)
+    let Some((first, others)) = all.first() else {
+        return Err(LineFault::Bad(Reason::OnForm));
+    };
+    match others.first() {
+        Some((word, parts)) if first == b"not".as_slice() => {
+            form_of(alloc, cluster, all, false, word, parts)
         }
-        [word, parts @ ..] => form_of(alloc, cluster, line, all, true, *word, parts),
+        _ => form_of(alloc, cluster, all, true, first, others),
     }
 }
 
@@ -145,13 +139,13 @@ fn step_after<'a>(cluster: &Cluster, line: &'a [u8]) -> Option<(&'a [u8], &'a [u
 }
 
 /// A step that these fields of a form call for; `line` is the line after `on`.
-fn on_do(alloc: Global, cluster: &Cluster, line: &[u8], form: &[&[u8]]) -> Result<Rule, LineFault>
-    ensures { Gives (λ r. r) result (on_do cluster.now (field_texts form.now) (line_fields line.now)) }
+fn on_do(alloc: Global, cluster: &Cluster, line: &[u8], form: Fields<'_>) -> Result<Rule, LineFault>
+    ensures { Gives (λ r. r) result (on_do cluster.now (fields_of form.entry) (line_fields line.now)) }
 {
     let Some((word, rest)) = step_after(cluster, line) else {
         return Err(LineFault::Bad(Reason::OnForm));
     };
-    let form = form_fields(alloc, cluster, line, form)?;
+    let form = form_fields(alloc, cluster, form)?;
     let (by, step) = on_step(alloc, cluster, word, rest)?;
     Ok(Rule::On(Watched {
         on: On { form, by, step },
@@ -160,42 +154,28 @@ fn on_do(alloc: Global, cluster: &Cluster, line: &[u8], form: &[&[u8]]) -> Resul
 }
 
 /// The place of `off` at the end.
-pub(crate) fn off_at(all: &[&[u8]]) -> Option<usize>
-    ensures end { result ≡ off_at (field_texts all.now) }
-    ensures within { IfSome result (λ i. i ≤ length all.now) }
+pub(crate) fn off_at(all: Fields<'_>) -> Option<usize>
+    ensures { result ≡ off_at (fields_of all.entry) }
 {
-    let [before @ .., last] = all else {
-        return None;
-    };
-    if *last == b"off".as_slice() {
+    let (before, last) = all.last()?;
+    if last == b"off".as_slice() {
         Some(before.len())
     } else {
         None
     }
 }
 
-/// The end of the steps that a form with these fields calls for.
-fn ended_form(
-    alloc: Global,
-    cluster: &Cluster,
-    line: &[u8],
-    form: &[&[u8]],
-) -> Result<Rule, LineFault>
-    ensures { Gives (λ r. r) result
-        (ended_form cluster.now (line_fields line.now) (field_texts form.now)) }
-{
-    let form = form_fields(alloc, cluster, line, form)?;
-    Ok(Rule::End(RuleEnd::On(form)))
-}
-
 /// The end of the steps that a form calls for, by its fields and `off`.
-fn on_end(alloc: Global, cluster: &Cluster, line: &[u8], all: &[&[u8]]) -> Result<Rule, LineFault>
-    ensures { Gives (λ r. r) result (on_end cluster.now (line_fields line.now) (field_texts all.now)) }
+fn on_end(alloc: Global, cluster: &Cluster, all: Fields<'_>) -> Result<Rule, LineFault>
+    ensures { Gives (λ r. r) result (on_end cluster.now (fields_of all.entry)) }
 {
     match off_at(all) {
         None => Err(LineFault::Bad(Reason::OnForm)),
         Some(0) => Ok(Rule::OnOff),
-        Some(end) => ended_form(alloc, cluster, line, &all[..end]),
+        Some(end) => {
+            let form = form_fields(alloc, cluster, all.take(end))?;
+            Ok(Rule::End(RuleEnd::On(form)))
+        }
     }
 }
 
@@ -204,10 +184,9 @@ fn on_end(alloc: Global, cluster: &Cluster, line: &[u8], all: &[&[u8]]) -> Resul
 pub(crate) fn on(alloc: Global, cluster: &Cluster, line: &[u8]) -> Result<Rule, LineFault>
     ensures { Gives (λ r. r) result (on_form cluster.now (line_fields line.now)) }
 {
-    let all = fields(alloc, cluster, line)?;
-    let all = all.as_slice();
-    match word_at(all, b"do".as_slice()) {
-        Some(end) => on_do(alloc, cluster, line, &all[..end]),
-        None => on_end(alloc, cluster, line, all),
+    let all = Fields::of(cluster, line);
+    match all.word_at(b"do".as_slice()) {
+        Some(end) => on_do(alloc, cluster, line, all.take(end)),
+        None => on_end(alloc, cluster, all),
     }
 }

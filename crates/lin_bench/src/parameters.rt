@@ -6,7 +6,8 @@ ghost use Rattle.std.specs.Option.{option_map_or};
 ghost use Rattle.std.specs.Str.{bytes_eq};
 ghost use Rattle.lin_log.specs.Judged.{left_length};
 ghost use Rattle.lin_log.specs.Said.{is_comment};
-ghost use Rattle.lin_bench.specs.Fields.{all_fields, field_texts, line_fields};
+ghost use Rattle.lin_bench.specs.Fields.{all_fields, line_fields};
+ghost use Rattle.lin_bench.specs.Parts.{fields_of};
 ghost use Rattle.lin_bench.specs.Read.{Gives};
 ghost use Rattle.lin_bench.specs.Resolved.{first_name, has_name, has_parameters, is_first_name};
 ghost use Rattle.lin_bench.specs.Resolved.{names_parameter, parameter_said};
@@ -16,7 +17,7 @@ ghost use Rattle.lin_bench.specs.Replacing.{AddsText, pieces_left};
 ghost use Rattle.lin_bench.specs.RuleLines.{is_name_sign};
 
 use crate::fault::LineFault;
-use crate::fields::{fields, untabbed};
+use crate::fields::{Fields, untabbed};
 use crate::reason::Reason;
 use crate::rule_lines::{is_name, is_name_sign};
 use crate::said_values::joined;
@@ -91,7 +92,7 @@ fn first_piece(text: &[u8]) -> (&[u8], Option<&[u8]>)
 }
 
 /// Whether a parameter stands in a field.
-pub(crate) fn names_parameter(field: &[u8]) -> bool
+fn names_parameter(field: &[u8]) -> bool
     ensures { result ≡ names_parameter field.now }
 {
     let (_, rest) = first_piece(field);
@@ -221,16 +222,18 @@ impl Parameters<'_> {
     /// # Errors
     /// `Bad` with `NoParameter`, `LongLine`, or `HashField` if a text has a field that would begin a
     /// comment; `OutOfMemory`.
-    pub(crate) fn replaced(&self, alloc: Global, fields: &[&[u8]]) -> Result<Vec<u8>, LineFault>
+    pub(crate) fn replaced(&self, alloc: Global, fields: Fields<'_>) -> Result<Vec<u8>, LineFault>
         ensures { Gives (λ v. v.items) result
-            (replaced_text self.now.given.now self.now.sets.now (field_texts fields.now)) }
+            (replaced_text self.now.given.now self.now.sets.now (fields_of fields.entry)) }
     {
         let mut line = Vec::new(alloc);
         let mut gap: &[u8] = b"";
-        for field in fields {
+        let mut left = fields;
+        while let Some((field, rest)) = left.first() {
             add_text(&mut line, gap)?;
-            self.add_field(alloc, &mut line, *field)?;
+            self.add_field(alloc, &mut line, field)?;
             gap = b" ";
+            left = rest;
         }
         if line.len() > LONGEST_LINE {
             return Err(LineFault::Bad(Reason::LongLine));
@@ -292,21 +295,21 @@ pub fn set_parameter(sets: &mut Many<Parameter>, parameter: Parameter) -> Result
 }
 
 /// The parameter that a line sets, by the fields after `set`.
-pub(crate) fn parameter_said(alloc: Global, fields: &[&[u8]]) -> Result<Parameter, LineFault>
-    ensures { Gives (λ p. p) result (parameter_said (field_texts fields.now)) }
+pub(crate) fn parameter_said(alloc: Global, fields: Fields<'_>) -> Result<Parameter, LineFault>
+    ensures { Gives (λ p. p) result (parameter_said (fields_of fields.entry)) }
 {
-    let [name, text @ ..] = fields else {
+    let Some((name, text)) = fields.first() else {
         return Err(LineFault::Bad(Reason::SetForm));
     };
     if text.is_empty() {
         return Err(LineFault::Bad(Reason::SetForm));
     }
-    if !is_name(*name) {
-        return Err(LineFault::Bad(Reason::NoName(Text::copied(alloc, *name)?)));
+    if !is_name(name) {
+        return Err(LineFault::Bad(Reason::NoName(Text::copied(alloc, name)?)));
     }
     let text = joined(alloc, text)?;
     Ok(Parameter {
-        name: Text::copied(alloc, *name)?,
+        name: Text::copied(alloc, name)?,
         text: Text::copied(alloc, text.as_slice())?,
     })
 }
@@ -323,16 +326,15 @@ pub fn parameter_of_line(
 ) -> Result<Parameter, LineFault>
     ensures { Gives (λ p. p) result (parameter_said (line_fields line.now)) }
 {
-    let all = fields(alloc, cluster, line)?;
-    parameter_said(alloc, all.as_slice())
+    parameter_said(alloc, Fields::of(cluster, line))
 }
 
-/// Whether a field of a line names a parameter.
-fn fields_name_parameter(cluster: &Cluster, line: &[u8]) -> bool
-    ensures { result ≡ list_any names_parameter (line_fields line.now) }
+/// Whether a parameter is in one of these fields.
+pub(crate) fn name_a_parameter(fields: Fields<'_>) -> bool
+    ensures { result ≡ list_any names_parameter (fields_of fields.entry) }
 {
-    let mut left = line;
-    while let Some((field, rest)) = first_field(cluster, left) {
+    let mut left = fields;
+    while let Some((field, rest)) = left.first() {
         if names_parameter(field) {
             return true;
         }
@@ -345,7 +347,7 @@ fn fields_name_parameter(cluster: &Cluster, line: &[u8]) -> bool
 fn has_parameters(cluster: &Cluster, line: &[u8]) -> bool
     ensures { result ≡ has_parameters line.now }
 {
-    !matches!(line, [b'>', ..]) && fields_name_parameter(cluster, line)
+    !matches!(line, [b'>', ..]) && name_a_parameter(Fields::of(cluster, line))
 }
 
 /// Returns a line of an interactive session with texts in place of its parameters; `None` if it has none.
@@ -365,7 +367,6 @@ pub fn replaced_line(
     if !has_parameters(cluster, line) {
         return Ok(None);
     }
-    let all = fields(alloc, cluster, line)?;
     let parameters = Parameters { given: &[], sets };
-    Ok(Some(parameters.replaced(alloc, all.as_slice())?))
+    Ok(Some(parameters.replaced(alloc, Fields::of(cluster, line))?))
 }

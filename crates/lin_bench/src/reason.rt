@@ -2,11 +2,11 @@
 
 ghost use Rattle.std.specs.Prelude.{◌≡◌, IfOk};
 ghost use Rattle.lin_bench.specs.Expectations.{until_reason, while_reason};
-ghost use Rattle.lin_bench.specs.Fields.{field_texts};
 ghost use Rattle.lin_bench.specs.OnLines.{on_reason};
+ghost use Rattle.lin_bench.specs.Parts.{fields_of};
 ghost use Rattle.lin_bench.specs.Resolved.{unread_file};
 
-use crate::fields::copied_fields;
+use crate::fields::{Fields, copied_fields};
 use lin_text::{Many, Text};
 use std::alloc::{AllocError, Global};
 
@@ -304,8 +304,8 @@ impl Reason {
     }
 
     /// The same of these fields of a form after `on`. An error means out of memory.
-    pub(crate) fn of_on(self, alloc: Global, all: &[&[u8]]) -> Result<Reason, AllocError>
-        ensures { IfOk result (λ why. why ≡ on_reason (field_texts all.now) self) }
+    pub(crate) fn of_on(self, alloc: Global, all: Fields<'_>) -> Result<Reason, AllocError>
+        ensures { IfOk result (λ why. why ≡ on_reason (fields_of all.entry) self) }
     {
         match self {
             Reason::UnknownExpectation(_fields) => Ok(Reason::UnknownOn(copied_fields(

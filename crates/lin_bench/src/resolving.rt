@@ -1,34 +1,36 @@
 //! The lines of a bench script, with long lines, parameters and repetition resolved while it is read.
 
-ghost use Rattle.std.specs.Prelude.{◌≡◌, ◌≤◌, ◌<◌, ◌+◌, ◌-◌, ◌++◌, ℕ, [], Err, IfOk, List, OnOk, length, map, take};
+ghost use Rattle.std.specs.Prelude.{◌≡◌, ◌≤◌, ◌<◌, ◌+◌, ◌-◌, ℕ, [], Err, IfOk, List, OnOk, length, map, take};
 ghost use Rattle.std.specs.Bool.{OnTrue};
 ghost use Rattle.std.specs.List.{list_any};
 ghost use Rattle.lin_log.specs.Judged.{left_length};
-ghost use Rattle.lin_bench.specs.Fields.{field_texts, line_fields, maybe_text};
+ghost use Rattle.lin_bench.specs.Fields.{line_fields, maybe_text};
+ghost use Rattle.lin_bench.specs.LineWords.{fields_text};
+ghost use Rattle.lin_bench.specs.Parts.{fields_of};
 ghost use Rattle.lin_bench.specs.Read.{Fails, Gives};
 ghost use Rattle.lin_bench.specs.declared.reason.Reason.TheVariants.{LongFile, Unread};
 ghost use Rattle.lin_bench.specs.Files.{source_data};
-ghost use Rattle.lin_bench.specs.Resolved.{Act as Done, act_of, act_of_fields, bad_act, begun, end_act, ended, file_uses, has_name, include_act, included, is_used, place_in, unless_open};
+ghost use Rattle.lin_bench.specs.Resolved.{Act as Done, act_of, act_of_fields, act_of_text, alone_or_joined, bad_act, begun, end_act, ended, file_uses, has_name, include_act, included, is_used, place_in, replaced_text, unless_open};
 ghost use Rattle.lin_bench.specs.Resolved.Act.{IncludeFile};
 ghost use Rattle.lin_bench.specs.Resolved.{items, missing_file, missing_in, names_parameter, parameter_said};
-ghost use Rattle.lin_bench.specs.Resolved.{repeat_act, resolved_text, set_act, sets_name};
+ghost use Rattle.lin_bench.specs.Resolved.{repeat_act, set_act, sets_name};
 ghost use Rattle.lin_bench.specs.Resolved.{text_uses, text_within, uses_in};
 ghost use Rattle.lin_bench.specs.Written.{goes_on, is_said, part_fields, written_fields, written_lines};
 ghost use Rattle.lin_bench.specs.Resolving.{act_done, alone, DoesAct, DoesLine, GivesAct, GivesItem, GivesItemOrEnd, IsAtEnd, IsWhole, KeepsLeft, LeavesFile, NotDone as NotDoneAs};
-ghost use Rattle.lin_bench.specs.Resolving.{TakesLine, TakesUnended, bad_unless, file_opened, following, item_of, items_left, open_file_of, steps_left, text_of_line, written_of};
+ghost use Rattle.lin_bench.specs.Resolving.{TakesLine, TakesUnended, bad_unless, fields_of_line, file_opened, following, item_of, items_left, open_file_of, steps_left, text_of_line, written_of};
 ghost use Rattle.lin_bench.specs.declared.resolving.Undone.TheVariants.{OutOfMemory as NotDone};
 
 use crate::fault::LineFault;
-use crate::fields::{count_field, fields};
+use crate::fields::{Fields, count_field};
 use crate::files::{FileText, MOST_BYTES, ScriptFile, Source, file_name, find_file, included_name};
 use crate::parameters::{
-    Parameter, Parameters, has_name, names_parameter, parameter_said, set_parameter,
+    Parameter, Parameters, has_name, name_a_parameter, parameter_said, set_parameter,
 };
 use crate::place::LinePlace;
 use crate::reason::Reason;
-use crate::said_values::joined;
+use crate::said_values::{add_spaced, joined};
 use crate::script::without_mark;
-use lin_log::{first_field, first_line, is_over, without_return};
+use lin_log::{first_line, is_over, without_return};
 use lin_parts::Cluster;
 use lin_text::{Many, Text};
 use std::alloc::{AllocError, Global};
@@ -59,13 +61,22 @@ fn is_said(cluster: &Cluster, line: &[u8]) -> bool
 fn goes_on(cluster: &Cluster, line: &[u8]) -> bool
     ensures { result ≡ goes_on line.now }
 {
-    let mut last: &[u8] = b"";
-    let mut left = line;
-    while let Some((field, rest)) = first_field(cluster, left) {
-        last = field;
-        left = rest;
+    match Fields::of(cluster, line).last() {
+        Some((_, last)) => last == b"\\".as_slice(),
+        None => false,
     }
-    last == b"\\".as_slice()
+}
+
+/// The fields of one line, without `\` at its end.
+fn part_fields<'a>(cluster: &'a Cluster, part: &'a [u8]) -> Fields<'a>
+    ensures { fields_of result ≡ part_fields part.now }
+{
+    let all = Fields::of(cluster, part);
+    if goes_on(cluster, part) {
+        all.take(all.len().saturating_sub(1))
+    } else {
+        all
+    }
 }
 
 /// The text that follows a line in place of `\`, if it goes on.
@@ -149,40 +160,36 @@ impl<'a> WrittenLine<'a> {
         }
     }
 
-    /// The fields, without `\` at the ends of lines. An error means out of memory.
-    fn fields(self, alloc: Global, cluster: &Cluster) -> Result<Vec<&'a [u8]>, AllocError>
-        ensures { IfOk result (λ v. field_texts v.items ≡ written_fields (written_of self.entry)) }
+    /// The fields, without `\` at the ends of lines, with one space between two. An error means out of memory.
+    fn joined(self, alloc: Global, cluster: &Cluster) -> Result<Vec<u8>, AllocError>
+        ensures { IfOk result (λ v. v.items ≡ fields_text (written_fields (written_of self.entry))) }
     {
         let mut all = Vec::new(alloc);
         let mut left = Some(self.text);
         while let Some(text) = left {
             let (part, rest) = first_line(text);
-            add_part(&mut all, cluster, without_return(part))?;
+            let fields = part_fields(cluster, without_return(part));
+            if all.is_empty() {
+                all = joined(alloc, fields)?;
+            } else {
+                add_spaced(&mut all, fields)?;
+            }
             left = rest;
         }
         Ok(all)
     }
-}
 
-/// Adds the fields of one line, without `\` at its end. An error means out of memory.
-fn add_part<'a>(
-    all: &mut Vec<&'a [u8]>,
-    cluster: &Cluster,
-    part: &'a [u8],
-) -> Result<(), AllocError>
-    ensures { OnOk result
-        (field_texts all.new.items ≡ field_texts all.old.items ++ part_fields part.now) }
-{
-    let goes_on = goes_on(cluster, part);
-    let mut left = part;
-    while let Some((field, rest)) = first_field(cluster, left) {
-        all.push(field)?;
-        left = rest;
+    /// The text: the line, or the fields of several lines. An error means out of memory.
+    fn text(self, alloc: Global, cluster: &Cluster) -> Result<LineText<'a>, AllocError>
+        ensures text { IfOk result (λ t. text_of_line t
+            ≡ alone_or_joined (written_of self.entry).parts (written_fields (written_of self.entry))) }
+        ensures fields { IfOk result (λ t. fields_of_line t ≡ written_fields (written_of self.entry)) }
+    {
+        match self.alone() {
+            Some(text) => Ok(LineText::Written(text)),
+            None => Ok(LineText::Resolved(self.joined(alloc, cluster)?)),
+        }
     }
-    if goes_on {
-        let _ = all.pop();
-    }
-    Ok(())
 }
 
 /// What a line does while the script is read.
@@ -216,8 +223,8 @@ impl From<AllocError> for Undone {
 }
 
 /// A parameter, by the fields after `set`.
-fn set(alloc: Global, fields: &[&[u8]]) -> Result<Act, Undone>
-    ensures { (text : List ℕ) → DoesAct result text (set_act (parameter_said (field_texts fields.now))) }
+fn set(alloc: Global, fields: Fields<'_>) -> Result<Act, Undone>
+    ensures { (text : List ℕ) → DoesAct result text (set_act (parameter_said (fields_of fields.entry))) }
 {
     match parameter_said(alloc, fields) {
         Ok(parameter) => Ok(Act::Set(parameter)),
@@ -227,13 +234,13 @@ fn set(alloc: Global, fields: &[&[u8]]) -> Result<Act, Undone>
 }
 
 /// A block, by the fields after `repeat`.
-fn repeat(alloc: Global, fields: &[&[u8]]) -> Result<Act, Undone>
-    ensures { (text : List ℕ) → DoesAct result text (repeat_act (field_texts fields.now)) }
+fn repeat(alloc: Global, fields: Fields<'_>) -> Result<Act, Undone>
+    ensures { (text : List ℕ) → DoesAct result text (repeat_act (fields_of fields.entry)) }
 {
-    let [count] = fields else {
+    let Some(count) = fields.one() else {
         return Err(Undone::Repeat(Reason::RepeatForm));
     };
-    match count_field(alloc, *count) {
+    match count_field(alloc, count) {
         Ok(times) => Ok(Act::Repeat(times)),
         Err(LineFault::Bad(reason)) => Err(Undone::Repeat(reason)),
         Err(LineFault::OutOfMemory) => Err(Undone::OutOfMemory),
@@ -241,8 +248,8 @@ fn repeat(alloc: Global, fields: &[&[u8]]) -> Result<Act, Undone>
 }
 
 /// The end of a block, by the fields after `end`.
-fn end(alloc: Global, fields: &[&[u8]]) -> Result<Act, Undone>
-    ensures { (text : List ℕ) → DoesAct result text (end_act (field_texts fields.now)) }
+fn end(alloc: Global, fields: Fields<'_>) -> Result<Act, Undone>
+    ensures { (text : List ℕ) → DoesAct result text (end_act (fields_of fields.entry)) }
 {
     if fields.is_empty() {
         return Ok(Act::End);
@@ -254,8 +261,8 @@ fn end(alloc: Global, fields: &[&[u8]]) -> Result<Act, Undone>
 }
 
 /// A file, by the fields after `include`.
-fn include(alloc: Global, fields: &[&[u8]]) -> Result<Act, Undone>
-    ensures { (text : List ℕ) → DoesAct result text (include_act (field_texts fields.now)) }
+fn include(alloc: Global, fields: Fields<'_>) -> Result<Act, Undone>
+    ensures { (text : List ℕ) → DoesAct result text (include_act (fields_of fields.entry)) }
 {
     if fields.is_empty() {
         return Err(Undone::Line(Reason::IncludeForm));
@@ -265,19 +272,19 @@ fn include(alloc: Global, fields: &[&[u8]]) -> Result<Act, Undone>
 }
 
 /// What a line with these fields does.
-fn act_of_fields(alloc: Global, fields: &[&[u8]]) -> Result<Act, Undone>
-    ensures { (text : List ℕ) → DoesAct result text (act_of_fields text (field_texts fields.now)) }
+fn act_of_fields(alloc: Global, fields: Fields<'_>) -> Result<Act, Undone>
+    ensures { (text : List ℕ) → DoesAct result text (act_of_fields text (fields_of fields.entry)) }
 {
-    let [word, rest @ ..] = fields else {
+    let Some((word, rest)) = fields.first() else {
         return Ok(Act::Say);
     };
-    if *word == b"set".as_slice() {
+    if word == b"set".as_slice() {
         set(alloc, rest)
-    } else if *word == b"repeat".as_slice() {
+    } else if word == b"repeat".as_slice() {
         repeat(alloc, rest)
-    } else if *word == b"end".as_slice() {
+    } else if word == b"end".as_slice() {
         end(alloc, rest)
-    } else if *word == b"include".as_slice() {
+    } else if word == b"include".as_slice() {
         include(alloc, rest)
     } else {
         Ok(Act::Say)
@@ -285,15 +292,15 @@ fn act_of_fields(alloc: Global, fields: &[&[u8]]) -> Result<Act, Undone>
 }
 
 /// Why a line with these fields does nothing, whose parameters can't be replaced.
-fn undone_by(fields: &[&[u8]], reason: Reason) -> Undone
-    ensures { NotDoneAs result (bad_act (field_texts fields.now) reason) }
+fn undone_by(fields: Fields<'_>, reason: Reason) -> Undone
+    ensures { NotDoneAs result (bad_act (fields_of fields.entry) reason) }
 {
-    let [word, ..] = fields else {
+    let Some((word, _)) = fields.first() else {
         return Undone::Line(reason);
     };
-    if *word == b"repeat".as_slice() {
+    if word == b"repeat".as_slice() {
         Undone::Repeat(reason)
-    } else if *word == b"end".as_slice() {
+    } else if word == b"end".as_slice() {
         Undone::End(reason)
     } else {
         Undone::Line(reason)
@@ -304,8 +311,7 @@ fn undone_by(fields: &[&[u8]], reason: Reason) -> Undone
 fn act_of_text(alloc: Global, cluster: &Cluster, text: &[u8]) -> Result<Act, Undone>
     ensures { DoesAct result text.now (act_of_fields text.now (line_fields text.now)) }
 {
-    let all = fields(alloc, cluster, text)?;
-    act_of_fields(alloc, all.as_slice())
+    act_of_fields(alloc, Fields::of(cluster, text))
 }
 
 /// A block that is open: the number of its `repeat`, the index of its first line, and how many times it is
@@ -331,6 +337,16 @@ impl LineText<'_> {
         match self {
             LineText::Written(text) => *text,
             LineText::Resolved(text) => text.as_slice(),
+        }
+    }
+
+    /// The fields, without `\` at the end of a line.
+    fn fields<'l>(&'l self, cluster: &'l Cluster) -> Fields<'l>
+        ensures { fields_of result ≡ fields_of_line self.now }
+    {
+        match self {
+            LineText::Written(text) => part_fields(cluster, *text),
+            LineText::Resolved(text) => Fields::of(cluster, text.as_slice()),
         }
     }
 }
@@ -494,18 +510,6 @@ fn text_within<'a>(
     }
 }
 
-/// Whether a parameter stands in one of these fields.
-fn name_a_parameter(fields: &[&[u8]]) -> bool
-    ensures { result ≡ list_any names_parameter (field_texts fields.now) }
-{
-    for field in fields {
-        if names_parameter(*field) {
-            return true;
-        }
-    }
-    false
-}
-
 /// A bench script that is read: the file whose lines are next, those that include it, how many lines may
 /// still be read, how many bytes may still be included, and its parameters.
 #[derive(Drop)]
@@ -540,27 +544,27 @@ impl<'a> ScriptReader<'a> {
         })
     }
 
-    /// The text of a line with these fields, with texts in place of parameters.
-    fn text(
+    /// What a line with these fields does, with texts in place of parameters, and its text.
+    fn act_replaced(
         &self,
         alloc: Global,
-        line: WrittenLine<'a>,
-        fields: &[&[u8]],
-    ) -> Result<LineText<'a>, LineFault>
-        requires { field_texts fields.now ≡ written_fields (written_of line) }
-        ensures { Gives text_of_line result
-            (resolved_text self.now.source.given.now self.now.sets (written_of line.entry)) }
+        cluster: &Cluster,
+        fields: Fields<'_>,
+    ) -> Result<(Act, LineText<'a>), Undone>
+        ensures { GivesAct result (act_of_text (fields_of fields.entry)
+            (replaced_text self.now.source.given.now self.now.sets (fields_of fields.entry))) }
     {
-        if name_a_parameter(fields) {
-            let parameters = Parameters {
-                given: self.source.given,
-                sets: self.sets.as_slice(),
-            };
-            return Ok(LineText::Resolved(parameters.replaced(alloc, fields)?));
-        }
-        match line.alone() {
-            Some(text) => Ok(LineText::Written(text)),
-            None => Ok(LineText::Resolved(joined(alloc, fields)?)),
+        let parameters = Parameters {
+            given: self.source.given,
+            sets: self.sets.as_slice(),
+        };
+        match parameters.replaced(alloc, fields) {
+            Ok(text) => {
+                let act = act_of_text(alloc, cluster, text.as_slice())?;
+                Ok((act, LineText::Resolved(text)))
+            }
+            Err(LineFault::Bad(reason)) => Err(undone_by(fields, reason)),
+            Err(LineFault::OutOfMemory) => Err(Undone::OutOfMemory),
         }
     }
 
@@ -573,15 +577,12 @@ impl<'a> ScriptReader<'a> {
     ) -> Result<(Act, LineText<'a>), Undone>
         ensures { GivesAct result (act_of self.now.source.given.now self.now.sets (written_of line.entry)) }
     {
-        let fields = line.fields(alloc, cluster)?;
-        match self.text(alloc, line, fields.as_slice()) {
-            Ok(text) => {
-                let act = act_of_text(alloc, cluster, text.as_slice())?;
-                Ok((act, text))
-            }
-            Err(LineFault::Bad(reason)) => Err(undone_by(fields.as_slice(), reason)),
-            Err(LineFault::OutOfMemory) => Err(Undone::OutOfMemory),
+        let text = line.text(alloc, cluster)?;
+        if name_a_parameter(text.fields(cluster)) {
+            return self.act_replaced(alloc, cluster, text.fields(cluster));
         }
+        let act = act_of_text(alloc, cluster, text.as_slice())?;
+        Ok((act, text))
     }
 
     /// The file that a line includes under a name, and its text.
@@ -779,30 +780,35 @@ impl<'a> ScriptReader<'a> {
 }
 
 /// Whether a line with these fields sets the parameter with a name.
-fn sets_name(fields: &[&[u8]], name: &[u8]) -> bool
-    ensures { result ≡ sets_name name.now (field_texts fields.now) }
+fn sets_name(fields: Fields<'_>, name: &[u8]) -> bool
+    ensures { result ≡ sets_name name.now (fields_of fields.entry) }
 {
-    match fields {
-        [word, field, ..] => *word == b"set".as_slice() && *field == name,
-        _ => false,
+    let Some((word, others)) = fields.first() else {
+        return false;
+    };
+    match others.first() {
+        Some((field, _)) => word == b"set".as_slice() && field == name,
+        None => false,
     }
 }
 
 /// Whether the parameter with a name is in one of these fields.
-fn is_name_in(fields: &[&[u8]], name: &[u8]) -> bool
-    ensures { result ≡ list_any (has_name name.now) (field_texts fields.now) }
+fn is_name_in(fields: Fields<'_>, name: &[u8]) -> bool
+    ensures { result ≡ list_any (has_name name.now) (fields_of fields.entry) }
 {
-    for field in fields {
-        if has_name(*field, name) {
+    let mut left = fields;
+    while let Some((field, rest)) = left.first() {
+        if has_name(field, name) {
             return true;
         }
+        left = rest;
     }
     false
 }
 
 /// Whether a line with these fields sets the parameter with a name, or has it in a field.
-fn uses_name(fields: &[&[u8]], name: &[u8]) -> bool
-    ensures { result ≡ uses_in name.now (field_texts fields.now) }
+fn uses_name(fields: Fields<'_>, name: &[u8]) -> bool
+    ensures { result ≡ uses_in name.now (fields_of fields.entry) }
 {
     sets_name(fields, name) || is_name_in(fields, name)
 }
@@ -814,8 +820,8 @@ fn text_uses(alloc: Global, cluster: &Cluster, text: &[u8], name: &[u8]) -> Resu
 {
     let lines = written_lines(alloc, cluster, text)?;
     for line in lines.as_slice() {
-        let fields = line.fields(alloc, cluster)?;
-        if uses_name(fields.as_slice(), name) {
+        let whole = line.text(alloc, cluster)?;
+        if uses_name(whole.fields(cluster), name) {
             return Ok(true);
         }
     }

@@ -1,27 +1,27 @@
 //! The forms of lines of rules.
 
-ghost use Rattle.std.specs.Prelude.{◌≡◌, ◌<◌, ◌≤◌, ◌&&◌, ◌∷◌, [], ◌++◌, codes, find, length, option_map, position};
+ghost use Rattle.std.specs.Prelude.{◌≡◌, ◌<◌, ◌&&◌, ◌∷◌, [], ◌++◌, find, length, option_map};
 ghost use Rattle.std.specs.Prelude.{IfOk, IfSome};
 ghost use Rattle.std.specs.List.{list_all};
-ghost use Rattle.std.specs.Str.{bytes_eq};
 ghost use Rattle.hex.specs.Hex.{hex_digit_value};
-ghost use Rattle.lin_bench.specs.Fields.{field_texts, line_fields, maybe_text};
+ghost use Rattle.lin_bench.specs.Fields.{line_fields, maybe_text};
+ghost use Rattle.lin_bench.specs.Parts.{fields_of, when_with};
 ghost use Rattle.lin_bench.specs.Read.{Gives};
-ghost use Rattle.lin_bench.specs.RuleLines.{AddsRow, answer_form, answer_parts, answers_form, answers_of, copied_part};
+ghost use Rattle.lin_bench.specs.RuleLines.{AddsRow, answer_form, answer_parts, answers_form, copied_part};
 ghost use Rattle.lin_bench.specs.RuleLines.{after_state, before_enter, errors_form, errors_on, every_off, is_digit, is_letter};
-ghost use Rattle.lin_bench.specs.RuleLines.{ends_rule, is_name, is_name_sign, is_only, maybe_name, name_field, state_form, state_of_node, silent_or_end};
+ghost use Rattle.lin_bench.specs.RuleLines.{ends_rule, is_name, is_name_sign, maybe_name, name_field, state_form, state_of_node, silent_or_end};
 ghost use Rattle.lin_bench.specs.RuleLines.{any_responder_field, is_on_word, power_form};
 ghost use Rattle.lin_bench.specs.RuleLines.{when_end, when_in, whens_end};
 ghost use Rattle.lin_bench.specs.RuleLines.{services_form, services_on, has_several_bits, every_fields, every_form, has_star, hex_byte, hex_part};
-ghost use Rattle.lin_bench.specs.RuleLines.{all_parts, last_field, parts_field, parts_fields, pattern_byte};
+ghost use Rattle.lin_bench.specs.RuleLines.{all_parts, parts_field, parts_fields, pattern_byte};
 ghost use Rattle.lin_bench.specs.RuleLines.{pattern_fields, pattern_of, repeated_step, responder_field};
 ghost use Rattle.lin_bench.specs.RuleLines.{row_of_pairs, sends_or_writes, timeouts_form};
-ghost use Rattle.lin_bench.specs.RuleLines.{timeouts_of_all, timeouts_of_one};
-ghost use Rattle.lin_bench.specs.RuleLines.{wait_field, when_fields, when_form, when_of, without_star};
+ghost use Rattle.lin_bench.specs.RuleLines.{timeouts_fields, timeouts_of_all, timeouts_of_one};
+ghost use Rattle.lin_bench.specs.RuleLines.{wait_field, when_fields, when_form, without_star};
 ghost use Rattle.lin_bench.specs.declared.rules.Part.{Part};
 
 use crate::fault::LineFault;
-use crate::fields::{copied_fields, count_field, fields, node_field, number_field, rows_and_time};
+use crate::fields::{Fields, copied_fields, count_field, node_field, number_field, rows_and_time};
 use crate::reason::Reason;
 use crate::rules::{Every, Part, Rule, RuleAnswer, RuleEnd, When};
 use lin_core::{PortId, Step};
@@ -86,15 +86,17 @@ fn add_row(bytes: &mut Vec<Option<u8>>, signs: &[u8]) -> Result<bool, AllocError
 }
 
 /// Adds what rows of a pattern stand for, and answers whether they are rows.
-fn add_rows(bytes: &mut Vec<Option<u8>>, rows: &[&[u8]]) -> Result<bool, AllocError>
+fn add_rows(bytes: &mut Vec<Option<u8>>, rows: Fields<'_>) -> Result<bool, AllocError>
     ensures { IfOk result
-        (λ is. AddsRow (all_parts (row_of_pairs pattern_byte) (field_texts rows.now)) bytes.old.items is
+        (λ is. AddsRow (all_parts (row_of_pairs pattern_byte) (fields_of rows.entry)) bytes.old.items is
         bytes.new.items) }
 {
-    for row in rows {
-        if !add_row(bytes, *row)? {
+    let mut left = rows;
+    while let Some((row, rest)) = left.first() {
+        if !add_row(bytes, row)? {
             return Ok(false);
         }
+        left = rest;
     }
     Ok(true)
 }
@@ -102,11 +104,11 @@ fn add_rows(bytes: &mut Vec<Option<u8>>, rows: &[&[u8]]) -> Result<bool, AllocEr
 /// Adds what rows and a last one stand for, and answers whether they are rows.
 fn add_fields(
     bytes: &mut Vec<Option<u8>>,
-    before: &[&[u8]],
+    before: Fields<'_>,
     last: &[u8],
 ) -> Result<bool, AllocError>
     ensures { IfOk result
-        (λ is. AddsRow (all_parts (row_of_pairs pattern_byte) (field_texts before.now ++ last.now ∷ []))
+        (λ is. AddsRow (all_parts (row_of_pairs pattern_byte) (fields_of before.entry ++ last.now ∷ []))
         bytes.old.items is bytes.new.items) }
 {
     if !add_rows(bytes, before)? {
@@ -128,13 +130,13 @@ fn without_star(field: &[u8]) -> (&[u8], bool)
 
 /// The pattern of one or more fields, of which the last one may end with `*`; none where they are no
 /// pattern.
-fn pattern_of(alloc: Global, fields: &[&[u8]]) -> Result<Option<Pattern>, AllocError>
-    ensures { IfOk result (λ p. p ≡ pattern_of (field_texts fields.now)) }
+fn pattern_of(alloc: Global, fields: Fields<'_>) -> Result<Option<Pattern>, AllocError>
+    ensures { IfOk result (λ p. p ≡ pattern_of (fields_of fields.entry)) }
 {
-    let [before @ .., last] = fields else {
+    let Some((before, last)) = fields.last() else {
         return Ok(None);
     };
-    let (row, more) = without_star(*last);
+    let (row, more) = without_star(last);
     let mut bytes = Vec::new(alloc);
     if !add_fields(&mut bytes, before, row)? {
         return Ok(None);
@@ -146,8 +148,8 @@ fn pattern_of(alloc: Global, fields: &[&[u8]]) -> Result<Option<Pattern>, AllocE
 }
 
 /// The pattern of fields.
-pub(crate) fn pattern(alloc: Global, all: &[&[u8]]) -> Result<Pattern, LineFault>
-    ensures { Gives (λ p. p) result (pattern_fields (field_texts all.now)) }
+pub(crate) fn pattern(alloc: Global, all: Fields<'_>) -> Result<Pattern, LineFault>
+    ensures { Gives (λ p. p) result (pattern_fields (fields_of all.entry)) }
 {
     match pattern_of(alloc, all)? {
         Some(pattern) => Ok(pattern),
@@ -204,18 +206,20 @@ fn add_part(parts: &mut Vec<Part>, field: &[u8]) -> Result<bool, AllocError>
 
 /// The bytes of an answer.
 #[tactic(auto, unfolding(crate::specs::RuleLines::parts_fields))]
-fn parts(alloc: Global, all: &[&[u8]]) -> Result<Many<Part>, LineFault>
-    ensures { Gives (λ p. p) result (parts_fields (field_texts all.now)) }
+fn parts(alloc: Global, all: Fields<'_>) -> Result<Many<Part>, LineFault>
+    ensures { Gives (λ p. p) result (parts_fields (fields_of all.entry)) }
 {
     if all.is_empty() {
         return Err(LineFault::Bad(Reason::Step(StepReason::NoBytes)));
     }
     let mut parts = Vec::new(alloc);
-    for field in all {
-        if !add_part(&mut parts, *field)? {
+    let mut left = all;
+    while let Some((field, rest)) = left.first() {
+        if !add_part(&mut parts, field)? {
             let fields = copied_fields(alloc, all)?;
             return Err(LineFault::Bad(Reason::Step(StepReason::NotBytes(fields))));
         }
+        left = rest;
     }
     Ok(Many::new(parts))
 }
@@ -230,8 +234,8 @@ fn wait(alloc: Global, number: Option<&[u8]>) -> Result<u32, LineFault>
 }
 
 /// The bytes of an answer, at most as many as a message has.
-fn answer_parts(alloc: Global, all: &[&[u8]]) -> Result<Many<Part>, LineFault>
-    ensures { Gives (λ p. p) result (answer_parts (field_texts all.now)) }
+fn answer_parts(alloc: Global, all: Fields<'_>) -> Result<Many<Part>, LineFault>
+    ensures { Gives (λ p. p) result (answer_parts (fields_of all.entry)) }
 {
     let parts = parts(alloc, all)?;
     if parts.as_slice().len() > LONGEST_MESSAGE {
@@ -241,8 +245,8 @@ fn answer_parts(alloc: Global, all: &[&[u8]]) -> Result<Many<Part>, LineFault>
 }
 
 /// An answer: its rows, and its wait.
-fn answer(alloc: Global, all: &[&[u8]]) -> Result<RuleAnswer, LineFault>
-    ensures { Gives (λ a. a) result (answer_form (field_texts all.now)) }
+fn answer(alloc: Global, all: Fields<'_>) -> Result<RuleAnswer, LineFault>
+    ensures { Gives (λ a. a) result (answer_form (fields_of all.entry)) }
 {
     let (rows, number) = rows_and_time(b"after".as_slice(), all);
     let parts = answer_parts(alloc, rows)?;
@@ -250,24 +254,16 @@ fn answer(alloc: Global, all: &[&[u8]]) -> Result<RuleAnswer, LineFault>
     Ok(RuleAnswer { parts, wait_ms })
 }
 
-/// The number of the first field that is a word.
-pub(crate) fn word_at(fields: &[&[u8]], word: &[u8]) -> Option<usize>
-    ensures first { result ≡ position (λ f. bytes_eq f.now word.now) fields.now }
-    ensures within { IfSome result (λ i. i < length fields.now) }
-{
-    fields.iter().position(|field| *field == word)
-}
-
 /// An answer, and each further one after `then`.
-fn answers(alloc: Global, all: &[&[u8]]) -> Result<Many<RuleAnswer>, LineFault>
-    ensures { Gives (λ a. a) result (answers_form (field_texts all.now)) }
+fn answers(alloc: Global, all: Fields<'_>) -> Result<Many<RuleAnswer>, LineFault>
+    ensures { Gives (λ a. a) result (answers_form (fields_of all.entry)) }
 {
     let mut answers = Many::new(Vec::new(alloc));
     let mut left = all;
-    while let Some(end) = word_at(left, b"then".as_slice()) {
-        let one = answer(alloc, &left[..end])?;
+    while let Some(end) = left.word_at(b"then".as_slice()) {
+        let one = answer(alloc, left.take(end))?;
         answers.push(one)?;
-        left = &left[end + 1..];
+        left = left.skip(end).skip(1);
     }
     let last = answer(alloc, left)?;
     answers.push(last)?;
@@ -355,14 +351,12 @@ fn when_with(
     alloc: Global,
     cluster: &Cluster,
     whose: Whose<'_>,
-    fields: &[&[u8]],
-    answers_in: Option<&[&[u8]]>,
+    fields: Fields<'_>,
+    answers_in: Option<Fields<'_>>,
     next: Option<&[u8]>,
 ) -> Result<Rule, LineFault>
-    ensures { Gives (λ r. r) result (when_of cluster.now whose.entry.node.now
-        (maybe_text whose.entry.state) (field_texts fields.now)
-        (answers_of (option_map (λ fs. field_texts fs.now) answers_in.entry))
-        (maybe_text next.entry)) }
+    ensures { Gives (λ r. r) result
+        (when_with cluster.now whose.entry fields.entry answers_in.entry (maybe_text next.entry)) }
 {
     let node = responder(alloc, cluster, whose.node)?;
     let state = maybe_name(alloc, whose.state)?;
@@ -386,10 +380,10 @@ fn when_end(
     alloc: Global,
     cluster: &Cluster,
     whose: Whose<'_>,
-    rows: &[&[u8]],
+    rows: Fields<'_>,
 ) -> Result<Rule, LineFault>
     ensures { Gives (λ r. r) result (when_end cluster.now whose.entry.node.now
-        (maybe_text whose.entry.state) (field_texts rows.now)) }
+        (maybe_text whose.entry.state) (fields_of rows.entry)) }
 {
     let node = responder(alloc, cluster, whose.node)?;
     let state = maybe_name(alloc, whose.state)?;
@@ -409,43 +403,31 @@ fn whens_end(alloc: Global, cluster: &Cluster, node: &[u8]) -> Result<Rule, Line
     Ok(Rule::End(RuleEnd::WhensOf(node)))
 }
 
-/// Whether the only field is `off`.
-fn is_off(fields: &[&[u8]]) -> bool
-    ensures { result ≡ is_only (codes "off") (field_texts fields.now) }
-{
-    match fields {
-        [word] => *word == b"off".as_slice(),
-        _ => false,
-    }
-}
-
 /// The state after `in` at the beginning of fields, and the fields after it.
-fn after_state<'a>(fields: &'a [&'a [u8]]) -> (Option<&'a [u8]>, &'a [&'a [u8]])
-    ensures { (option_map (λ s. s.now) result.0, field_texts result.1.now)
-        ≡ after_state (field_texts fields.now) }
+fn after_state<'l>(fields: Fields<'l>) -> (Option<&'l [u8]>, Fields<'l>)
+    ensures { (option_map (λ s. s.now) result.0, fields_of result.1)
+        ≡ after_state (fields_of fields.entry) }
 {
-    let [word, state, rest @ ..] = fields else {
+    let Some((word, others)) = fields.first() else {
         return (None, fields);
     };
-    if *word == b"in".as_slice() {
-        (Some(*state), rest)
-    } else {
-        (None, fields)
+    match others.first() {
+        Some((state, rest)) if word == b"in".as_slice() => (Some(state), rest),
+        _ => (None, fields),
     }
 }
 
 /// The fields before `enter` and a state at their end, and the state.
-fn before_enter<'a>(fields: &'a [&'a [u8]]) -> (&'a [&'a [u8]], Option<&'a [u8]>)
-    ensures { (field_texts result.0.now, option_map (λ s. s.now) result.1)
-        ≡ before_enter (field_texts fields.now) }
+fn before_enter<'l>(fields: Fields<'l>) -> (Fields<'l>, Option<&'l [u8]>)
+    ensures { (fields_of result.0, option_map (λ s. s.now) result.1)
+        ≡ before_enter (fields_of fields.entry) }
 {
-    let [before @ .., word, state] = fields else {
+    let Some((others, state)) = fields.last() else {
         return (fields, None);
     };
-    if *word == b"enter".as_slice() {
-        (before, Some(*state))
-    } else {
-        (fields, None)
+    match others.last() {
+        Some((before, word)) if word == b"enter".as_slice() => (before, Some(state)),
+        _ => (fields, None),
     }
 }
 
@@ -464,23 +446,22 @@ fn unanswered(
     alloc: Global,
     cluster: &Cluster,
     whose: Whose<'_>,
-    fields: &[&[u8]],
+    fields: Fields<'_>,
     next: Option<&[u8]>,
 ) -> Result<Rule, LineFault>
     ensures { Gives (λ r. r) result (silent_or_end cluster.now whose.entry.node.now
-        (maybe_text whose.entry.state) (field_texts fields.now)
-        (maybe_text next.entry)) }
+        (maybe_text whose.entry.state) (fields_of fields.entry) (maybe_text next.entry)) }
 {
-    let [pattern @ .., last] = fields else {
+    let Some((pattern, last)) = fields.last() else {
         return Err(LineFault::Bad(Reason::WhenForm));
     };
     if pattern.is_empty() {
         return Err(LineFault::Bad(Reason::WhenForm));
     }
-    if *last == b"silent".as_slice() {
+    if last == b"silent".as_slice() {
         return when_with(alloc, cluster, whose, pattern, None, next);
     }
-    if ends_rule(*last, next) {
+    if ends_rule(last, next) {
         return when_end(alloc, cluster, whose, pattern);
     }
     Err(LineFault::Bad(Reason::WhenForm))
@@ -491,34 +472,35 @@ fn when_in(
     alloc: Global,
     cluster: &Cluster,
     whose: Whose<'_>,
-    fields: &[&[u8]],
+    fields: Fields<'_>,
 ) -> Result<Rule, LineFault>
     ensures { Gives (λ r. r) result (when_in cluster.now whose.entry.node.now
-        (maybe_text whose.entry.state, field_texts fields.now)) }
+        (maybe_text whose.entry.state, fields_of fields.entry)) }
 {
     let (fields, next) = before_enter(fields);
-    let [_, rest @ ..] = fields else {
+    let Some((_, rest)) = fields.first() else {
         return Err(LineFault::Bad(Reason::WhenForm));
     };
-    if let Some(end) = word_at(rest, b"answer".as_slice()) {
-        let pattern = &fields[..end + 1];
-        return when_with(alloc, cluster, whose, pattern, Some(&rest[end + 1..]), next);
+    if let Some(end) = rest.word_at(b"answer".as_slice()) {
+        let pattern = fields.take(end + 1);
+        let answers = rest.skip(end + 1);
+        return when_with(alloc, cluster, whose, pattern, Some(answers), next);
     }
     unanswered(alloc, cluster, whose, fields, next)
 }
 
 /// A node, and `off`; or what it answers in a state or in every state.
-fn when_by(alloc: Global, cluster: &Cluster, all: &[&[u8]]) -> Result<Rule, LineFault>
-    ensures { Gives (λ r. r) result (when_fields cluster.now (field_texts all.now)) }
+fn when_by(alloc: Global, cluster: &Cluster, all: Fields<'_>) -> Result<Rule, LineFault>
+    ensures { Gives (λ r. r) result (when_fields cluster.now (fields_of all.entry)) }
 {
-    let [node, fields @ ..] = all else {
+    let Some((node, fields)) = all.first() else {
         return Err(LineFault::Bad(Reason::WhenForm));
     };
-    if is_off(fields) {
-        return whens_end(alloc, cluster, *node);
+    if fields.is_only(b"off".as_slice()) {
+        return whens_end(alloc, cluster, node);
     }
     let (state, fields) = after_state(fields);
-    when_in(alloc, cluster, Whose { node: *node, state }, fields)
+    when_in(alloc, cluster, Whose { node, state }, fields)
 }
 
 /// What a node answers, by the fields after `when`.
@@ -526,11 +508,11 @@ fn when_by(alloc: Global, cluster: &Cluster, all: &[&[u8]]) -> Result<Rule, Line
 pub(crate) fn when(alloc: Global, cluster: &Cluster, line: &[u8]) -> Result<Rule, LineFault>
     ensures { Gives (λ r. r) result (when_form cluster.now (line_fields line.now)) }
 {
-    let all = fields(alloc, cluster, line)?;
-    match all.as_slice() {
-        [word] if *word == b"off".as_slice() => Ok(Rule::WhenOff),
-        fields => when_by(alloc, cluster, fields),
+    let all = Fields::of(cluster, line);
+    if all.is_only(b"off".as_slice()) {
+        return Ok(Rule::WhenOff);
     }
+    when_by(alloc, cluster, all)
 }
 
 /// The limit of all responders, or that one has none, by two fields after `timeouts`.
@@ -572,20 +554,33 @@ fn timeouts_of_one(
     })
 }
 
+/// The limit of all responders or of one, by the fields after `timeouts`.
+fn timeouts_by(alloc: Global, cluster: &Cluster, all: Fields<'_>) -> Result<Rule, LineFault>
+    ensures { Gives (λ r. r) result (timeouts_fields cluster.now (fields_of all.entry)) }
+{
+    if let Some((field, word)) = all.two() {
+        return timeouts_of_all(alloc, cluster, field, word);
+    }
+    match all.three() {
+        Some((node, number, unit)) if unit == b"ms".as_slice() => {
+            timeouts_of_one(alloc, cluster, node, number)
+        }
+        _ => Err(LineFault::Bad(Reason::TimeoutsForm)),
+    }
+}
+
 /// When transfers are given up, by the fields after `timeouts`.
 #[tactic(auto, unfolding(crate::specs::RuleLines::timeouts_form))]
 pub(crate) fn timeouts(alloc: Global, cluster: &Cluster, line: &[u8]) -> Result<Rule, LineFault>
     ensures { Gives (λ r. r) result (timeouts_form cluster.now (line_fields line.now)) }
 {
-    let all = fields(alloc, cluster, line)?;
-    match all.as_slice() {
-        [word] if *word == b"off".as_slice() => Ok(Rule::TimeoutsOff),
-        [word] if *word == b"ldf".as_slice() => Ok(Rule::TimeoutsLdf(Many::new(Vec::new(alloc)))),
-        [field, word] => timeouts_of_all(alloc, cluster, *field, *word),
-        [node, number, unit] if *unit == b"ms".as_slice() => {
-            timeouts_of_one(alloc, cluster, *node, *number)
-        }
-        _ => Err(LineFault::Bad(Reason::TimeoutsForm)),
+    let all = Fields::of(cluster, line);
+    if all.is_only(b"off".as_slice()) {
+        Ok(Rule::TimeoutsOff)
+    } else if all.is_only(b"ldf".as_slice()) {
+        Ok(Rule::TimeoutsLdf(Many::new(Vec::new(alloc))))
+    } else {
+        timeouts_by(alloc, cluster, all)
     }
 }
 
@@ -715,14 +710,16 @@ fn services_on(cluster: &Cluster) -> Result<Rule, LineFault>
 
 /// Whether responders answer messages that ask for a service, by the fields after `services`.
 #[tactic(auto, unfolding(crate::specs::RuleLines::services_form))]
-pub(crate) fn services(alloc: Global, cluster: &Cluster, line: &[u8]) -> Result<Rule, LineFault>
+pub(crate) fn services(cluster: &Cluster, line: &[u8]) -> Result<Rule, LineFault>
     ensures { Gives (λ r. r) result (services_form cluster.now (line_fields line.now)) }
 {
-    let all = fields(alloc, cluster, line)?;
-    match all.as_slice() {
-        [word] if *word == b"on".as_slice() => services_on(cluster),
-        [word] if *word == b"off".as_slice() => Ok(Rule::Services(false)),
-        _ => Err(LineFault::Bad(Reason::ServicesForm)),
+    let all = Fields::of(cluster, line);
+    if all.is_only(b"on".as_slice()) {
+        services_on(cluster)
+    } else if all.is_only(b"off".as_slice()) {
+        Ok(Rule::Services(false))
+    } else {
+        Err(LineFault::Bad(Reason::ServicesForm))
     }
 }
 
@@ -735,11 +732,13 @@ pub(crate) fn response_errors(
 ) -> Result<Rule, LineFault>
     ensures { Gives (λ r. r) result (errors_form cluster.now (line_fields line.now)) }
 {
-    let all = fields(alloc, cluster, line)?;
-    match all.as_slice() {
-        [word] if *word == b"on".as_slice() => errors_on(alloc, cluster),
-        [word] if *word == b"off".as_slice() => Ok(Rule::Errors(false)),
-        _ => Err(LineFault::Bad(Reason::ErrorsForm)),
+    let all = Fields::of(cluster, line);
+    if all.is_only(b"on".as_slice()) {
+        errors_on(alloc, cluster)
+    } else if all.is_only(b"off".as_slice()) {
+        Ok(Rule::Errors(false))
+    } else {
+        Err(LineFault::Bad(Reason::ErrorsForm))
     }
 }
 
@@ -757,23 +756,15 @@ fn state_of_node(
     Ok(Rule::State { node, name })
 }
 
-/// The state of a responder, by the fields of both.
-#[tactic(auto, unfolding(crate::specs::RuleLines::state_form))]
-fn state_by(alloc: Global, cluster: &Cluster, all: &[&[u8]]) -> Result<Rule, LineFault>
-    ensures { Gives (λ r. r) result (state_form cluster.now (field_texts all.now)) }
-{
-    match all {
-        [node, field] => state_of_node(alloc, cluster, *node, *field),
-        _ => Err(LineFault::Bad(Reason::StateForm)),
-    }
-}
-
 /// A responder that enters a state, by the fields after `state`.
+#[tactic(auto, unfolding(crate::specs::RuleLines::state_form))]
 pub(crate) fn state(alloc: Global, cluster: &Cluster, line: &[u8]) -> Result<Rule, LineFault>
     ensures { Gives (λ r. r) result (state_form cluster.now (line_fields line.now)) }
 {
-    let all = fields(alloc, cluster, line)?;
-    state_by(alloc, cluster, all.as_slice())
+    match Fields::of(cluster, line).two() {
+        Some((node, field)) => state_of_node(alloc, cluster, node, field),
+        None => Err(LineFault::Bad(Reason::StateForm)),
+    }
 }
 
 /// A responder, with an address or without, by its name or its number.
@@ -806,13 +797,12 @@ fn is_on(word: &[u8]) -> Option<bool>
 pub(crate) fn power(alloc: Global, cluster: &Cluster, line: &[u8]) -> Result<Rule, LineFault>
     ensures { Gives (λ r. r) result (power_form cluster.now (line_fields line.now)) }
 {
-    let all = fields(alloc, cluster, line)?;
-    let [node, word] = all.as_slice() else {
+    let Some((node, word)) = Fields::of(cluster, line).two() else {
         return Err(LineFault::Bad(Reason::NodeForm));
     };
-    let Some(is_on) = is_on(*word) else {
+    let Some(is_on) = is_on(word) else {
         return Err(LineFault::Bad(Reason::NodeForm));
     };
-    let node = any_responder(alloc, cluster, *node)?;
+    let node = any_responder(alloc, cluster, node)?;
     Ok(Rule::Power { node, is_on })
 }

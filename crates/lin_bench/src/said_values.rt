@@ -1,18 +1,19 @@
 //! The values of signals that words say: the one that is written, and those that are expected.
 
-ghost use Rattle.std.specs.Prelude.{◌≡◌, ◌≤◌, ◌<◌, ◌^◌, IfOk, unsigned_abs};
-ghost use Rattle.lin_values.specs.Raws.{values_of};
-ghost use Rattle.lin_bench.specs.Fields.{field_texts};
+ghost use Rattle.std.specs.Prelude.{◌≡◌, ◌≤◌, ◌<◌, ◌^◌, ◌++◌, IfOk, flat_map, unsigned_abs};
+ghost use Rattle.lin_log.specs.Words.{spaced_word};
 ghost use Rattle.lin_bench.specs.Hints.{unit_hint};
+ghost use Rattle.lin_bench.specs.Parts.{fields_of, said_value};
 ghost use Rattle.lin_bench.specs.Read.{Gives};
 ghost use Rattle.lin_bench.specs.LineWords.{fields_text};
 ghost use Rattle.lin_bench.specs.Words.{around, begins_number, values_between, by_text, decimal_field};
 ghost use Rattle.lin_bench.specs.Words.{decimal_fields, expected_values, from_to, is_bad_number};
-ghost use Rattle.lin_bench.specs.Words.{nearest_value, no_value, only_value, some_between, why_none};
+ghost use Rattle.lin_bench.specs.Words.{nearest_value, no_value, some_between, why_none};
 ghost use Rattle.lin_bench.specs.declared.fault.LineFault.{LineFault};
 ghost use Rattle.lin_bench.specs.declared.reason.Reason.{Reason};
 
 use crate::fault::LineFault;
+use crate::fields::Fields;
 use crate::hints::{unit_hint, value_hint};
 use crate::meant::MeantValues;
 use crate::reason::Reason;
@@ -21,29 +22,41 @@ use lin_text::Text;
 use lin_values::{Coded, is_small, number_and_unit, read_decimal, units};
 use std::alloc::{AllocError, Global};
 
-/// What a line says in words: the number and the field of the signal, the text of the words, and the
-/// first of them.
+/// What a line says in words: the number and the field of the signal, the text of the words, the first
+/// of them, and the others.
 #[derive(Clone, Copy)]
 pub(crate) struct Said<'a> {
     pub(crate) signal: u16,
     pub(crate) field: &'a [u8],
     pub(crate) text: &'a [u8],
     pub(crate) first: &'a [u8],
+    pub(crate) others: Fields<'a>,
+}
+
+/// Adds fields to a text, each after a space.
+pub(crate) fn add_spaced(text: &mut Vec<u8>, fields: Fields<'_>) -> Result<(), AllocError>
+    ensures { IfOk result (λ _. text.new.items
+        ≡ text.old.items ++ flat_map spaced_word (fields_of fields.entry)) }
+{
+    let mut left = fields;
+    while let Some((field, rest)) = left.first() {
+        text.push(b' ')?;
+        text.extend_from_slice(field)?;
+        left = rest;
+    }
+    Ok(())
 }
 
 /// Fields with one space between two.
-pub(crate) fn joined(alloc: Global, fields: &[&[u8]]) -> Result<Vec<u8>, AllocError>
-    ensures { IfOk result (λ text. text.items ≡ fields_text (field_texts fields.now)) }
+pub(crate) fn joined(alloc: Global, fields: Fields<'_>) -> Result<Vec<u8>, AllocError>
+    ensures { IfOk result (λ text. text.items ≡ fields_text (fields_of fields.entry)) }
 {
     let mut text = Vec::new(alloc);
-    let [first, others @ ..] = fields else {
+    let Some((first, others)) = fields.first() else {
         return Ok(text);
     };
-    text.extend_from_slice(*first)?;
-    for field in others {
-        text.push(b' ')?;
-        text.extend_from_slice(*field)?;
-    }
+    text.extend_from_slice(first)?;
+    add_spaced(&mut text, others)?;
     Ok(text)
 }
 
@@ -101,9 +114,7 @@ fn why_none(alloc: Global, coded: &Coded, said: Said<'_>) -> Result<LineFault, A
 
 /// The one value that words say.
 pub(crate) fn only_value(alloc: Global, coded: &Coded, said: Said<'_>) -> Result<Value, LineFault>
-    ensures { Gives (λ v. v) result (only_value coded.now said.entry.signal
-        said.entry.field.now said.entry.text.now said.entry.first.now
-        (values_of coded.now said.entry.signal said.entry.text.now)) }
+    ensures { Gives (λ v. v) result (said_value coded.now said.entry) }
 {
     let values = MeantValues::of_text(alloc, coded, said.signal, said.text)?;
     if let Some(value) = values.only() {
@@ -156,18 +167,18 @@ fn decimal_field(alloc: Global, field: &[u8]) -> Result<i128, LineFault>
 fn decimal_fields<'a>(
     alloc: Global,
     text: &'a [u8],
-    fields: &[&[u8]],
+    fields: Fields<'_>,
 ) -> Result<(i128, &'a [u8]), LineFault>
-    requires { text.now ≡ fields_text (field_texts fields.now) }
-    ensures same { Gives (λ p. (p.0, p.1.now)) result (decimal_fields (field_texts fields.now)) }
+    requires { text.now ≡ fields_text (fields_of fields) }
+    ensures same { Gives (λ p. (p.0, p.1.now)) result (decimal_fields (fields_of fields.entry)) }
     ensures small { IfOk result (λ p. unsigned_abs p.0 < 10 ^ 33) }
 {
-    let [first, ..] = fields else {
+    let Some((first, _)) = fields.first() else {
         return Err(LineFault::Bad(Reason::NoWords));
     };
     match number_and_unit(text) {
         Some((number, unit)) if is_small(number) => Ok((units(number), unit)),
-        _ => Err(no_decimal(alloc, *first)?),
+        _ => Err(no_decimal(alloc, first)?),
     }
 }
 
@@ -234,14 +245,12 @@ fn around(
     alloc: Global,
     coded: &Coded,
     said: Said<'_>,
-    first: &[u8],
-    others: &[&[u8]],
+    others: Fields<'_>,
 ) -> Result<MeantValues, LineFault>
-    ensures { Gives (λ m. m) result
-        (around coded.now said.entry.signal said.entry.field.now said.entry.text.now first.now
-        (field_texts others.now)) }
+    ensures { Gives (λ m. m) result (around coded.now said.entry.signal said.entry.field.now
+        said.entry.text.now said.entry.first.now (fields_of others.entry)) }
 {
-    let middle = decimal_field(alloc, first)?;
+    let middle = decimal_field(alloc, said.first)?;
     let rest = joined(alloc, others)?;
     let (tolerance, unit) = decimal_fields(alloc, rest.as_slice(), others)?;
     between(
@@ -259,14 +268,12 @@ fn from_to(
     alloc: Global,
     coded: &Coded,
     said: Said<'_>,
-    first: &[u8],
-    others: &[&[u8]],
+    others: Fields<'_>,
 ) -> Result<MeantValues, LineFault>
-    ensures { Gives (λ m. m) result
-        (from_to coded.now said.entry.signal said.entry.field.now said.entry.text.now first.now
-        (field_texts others.now)) }
+    ensures { Gives (λ m. m) result (from_to coded.now said.entry.signal said.entry.field.now
+        said.entry.text.now said.entry.first.now (fields_of others.entry)) }
 {
-    let low = decimal_field(alloc, first)?;
+    let low = decimal_field(alloc, said.first)?;
     let rest = joined(alloc, others)?;
     let (high, unit) = decimal_fields(alloc, rest.as_slice(), others)?;
     between(alloc, coded, said, low, high, unit)
@@ -285,27 +292,26 @@ fn by_text(alloc: Global, coded: &Coded, said: Said<'_>) -> Result<MeantValues, 
 }
 
 /// The values of a signal that words say: those of a text, those within a tolerance of a decimal, or
-/// those from one decimal to another; `others` are the words after the first.
+/// those from one decimal to another.
 pub(crate) fn expected_values(
     alloc: Global,
     coded: &Coded,
     said: Said<'_>,
-    others: &[&[u8]],
 ) -> Result<MeantValues, LineFault>
-    ensures { Gives (λ m. m) result (expected_values coded.now said.entry.signal
-        said.entry.field.now said.entry.text.now said.entry.first.now (field_texts others.now)) }
+    ensures { Gives (λ m. m) result (expected_values coded.now said.entry.signal said.entry.field.now
+        said.entry.text.now said.entry.first.now (fields_of said.entry.others)) }
 {
-    let [mark, others @ ..] = others else {
+    let Some((mark, others)) = said.others.first() else {
         return by_text(alloc, coded, said);
     };
     if !begins_number(said.first) {
         return by_text(alloc, coded, said);
     }
-    if *mark == b"+-".as_slice() {
-        return around(alloc, coded, said, said.first, others);
+    if mark == b"+-".as_slice() {
+        return around(alloc, coded, said, others);
     }
-    if *mark == b"..".as_slice() {
-        return from_to(alloc, coded, said, said.first, others);
+    if mark == b"..".as_slice() {
+        return from_to(alloc, coded, said, others);
     }
     by_text(alloc, coded, said)
 }

@@ -3,8 +3,9 @@
 ghost use Rattle.std.specs.Prelude.{◌≡◌, ◌<◌, ◌+◌, IfOk, IfSome, Option, Result, length};
 ghost use Rattle.std.specs.Char.{is_ascii_digit};
 ghost use Rattle.std.specs.List.{list_all};
-ghost use Rattle.lin_bench.specs.Fields.{line_fields, signal_field, field_texts};
+ghost use Rattle.lin_bench.specs.Fields.{line_fields, signal_field};
 ghost use Rattle.lin_bench.specs.Lines.{read_line};
+ghost use Rattle.lin_bench.specs.Parts.{fields_of};
 ghost use Rattle.lin_bench.specs.Read.{Gives, is_bad_line};
 ghost use Rattle.lin_bench.specs.Words.{asks_value, begins_hex, is_array_word, is_good_line, is_hex, is_number_or_range};
 ghost use Rattle.lin_bench.specs.Words.{is_raw, is_signal, is_signal_after, missing_hint, or_this};
@@ -14,7 +15,7 @@ ghost use Rattle.lin_bench.specs.declared.line.ScriptLine.{ScriptLine};
 ghost use Rattle.lin_bench.specs.declared.reason.Reason.{Reason};
 
 use crate::fault::LineFault;
-use crate::fields::{copied_fields, fields, range_ends, signal_field};
+use crate::fields::{Fields, copied_fields, range_ends, signal_field};
 use crate::hints::{texts_in, units_hint, units_in, values_hint};
 use crate::line::ScriptLine;
 use crate::lines::read_line;
@@ -68,12 +69,12 @@ fn is_raw(field: &[u8]) -> bool
 }
 
 /// Whether the fields of a value are meant as a raw value or a range.
-fn is_numeric(value: &[&[u8]]) -> bool
-    ensures { result ≡ is_number_or_range (field_texts value.now) }
+fn is_numeric(value: Fields<'_>) -> bool
+    ensures { result ≡ is_number_or_range (fields_of value.entry) }
 {
-    match value {
-        [field] => is_raw(*field) || range_ends(*field).is_some(),
-        _ => false,
+    match value.one() {
+        Some(field) => is_raw(field) || range_ends(field).is_some(),
+        None => false,
     }
 }
 
@@ -90,13 +91,13 @@ fn is_good(read: &Result<Option<ScriptLine>, LineFault>) -> Result<bool, AllocEr
 }
 
 /// Whether a line with a signal's initial value after the signal is good.
-fn reads_initial<'a>(
+fn reads_initial(
     alloc: Global,
     cluster: &Cluster,
-    before: &'a [&'a [u8]],
-    signal: &'a [u8],
+    before: Fields<'_>,
+    signal: &[u8],
 ) -> Result<bool, AllocError>
-    ensures { IfOk result (λ is. is ≡ reads_initial cluster.now (field_texts before.now) signal.now) }
+    ensures { IfOk result (λ is. is ≡ reads_initial cluster.now (fields_of before.entry) signal.now) }
 {
     let value = some_value(alloc, cluster, signal)?;
     let line = in_numbers(alloc, before, signal, &value)?;
@@ -105,21 +106,21 @@ fn reads_initial<'a>(
 }
 
 /// Whether the fields before a signal are those of a write or of an expectation.
-fn asks_value(before: &[&[u8]]) -> bool
-    ensures { result ≡ asks_value (field_texts before.now) }
+fn asks_value(before: Fields<'_>) -> bool
+    ensures { result ≡ asks_value (fields_of before.entry) }
 {
     is_write(before) || is_expect(before)
 }
 
 /// Whether a field after these is a signal with its value after it.
-fn is_signal_after<'a>(
+fn is_signal_after(
     alloc: Global,
     cluster: &Cluster,
-    before: &'a [&'a [u8]],
-    signal: &'a [u8],
+    before: Fields<'_>,
+    signal: &[u8],
 ) -> Result<bool, AllocError>
     ensures { IfOk result
-        (λ is. is ≡ is_signal_after cluster.now (field_texts before.now) signal.now) }
+        (λ is. is ≡ is_signal_after cluster.now (fields_of before.entry) signal.now) }
 {
     if asks_value(before) {
         return reads_initial(alloc, cluster, before, signal);
@@ -128,26 +129,25 @@ fn is_signal_after<'a>(
 }
 
 /// Whether a field is a signal with its value after it.
-fn is_signal<'a>(
+fn is_signal(
     alloc: Global,
     cluster: &Cluster,
-    all: &'a [&'a [u8]],
+    all: Fields<'_>,
     at: usize,
 ) -> Result<bool, AllocError>
-    requires { at < length all.now }
-    ensures { IfOk result (λ is. is ≡ is_signal cluster.now (field_texts all.now) at) }
+    requires { at < length (fields_of all) }
+    ensures { IfOk result (λ is. is ≡ is_signal cluster.now (fields_of all.entry) at) }
 {
-    is_signal_after(alloc, cluster, &all[..at], all[at])
+    match all.cut(at) {
+        Some((before, signal, _)) => is_signal_after(alloc, cluster, before, signal),
+        None => Ok(false),
+    }
 }
 
 /// The last field of a line that is a signal with its value after it.
-fn signal_at<'a>(
-    alloc: Global,
-    cluster: &Cluster,
-    all: &'a [&'a [u8]],
-) -> Result<Option<usize>, AllocError>
-    ensures at { IfOk result (λ o. o ≡ signal_in_fields cluster.now (field_texts all.now)) }
-    ensures within { IfOk result (λ o. IfSome o (λ at. at + 1 < length all.now)) }
+fn signal_at(alloc: Global, cluster: &Cluster, all: Fields<'_>) -> Result<Option<usize>, AllocError>
+    ensures at { IfOk result (λ o. o ≡ signal_in_fields cluster.now (fields_of all.entry)) }
+    ensures within { IfOk result (λ o. IfSome o (λ at. at + 1 < length (fields_of all.entry))) }
 {
     let mut at = all.len().saturating_sub(2).min(MOST_BEFORE);
     while at > 0 {
@@ -182,11 +182,11 @@ fn unmarked(
     coded: &Coded,
     signal: u16,
     ranged: bool,
-    value: &[&[u8]],
+    value: Fields<'_>,
     items: &[PlacedItem],
 ) -> Result<Reason, AllocError>
     ensures { IfOk result
-        (λ r. r ≡ unmarked_reason coded.now signal ranged (field_texts value.now) items.now) }
+        (λ r. r ≡ unmarked_reason coded.now signal ranged (fields_of value.entry) items.now) }
 {
     let text = joined(alloc, value)?;
     let hint = missing_hint(alloc, coded, signal, items, text.as_slice())?;
@@ -204,9 +204,9 @@ fn why_coded(
     coded: &Coded,
     signal: u16,
     ranged: bool,
-    value: &[&[u8]],
+    value: Fields<'_>,
 ) -> Result<Option<Reason>, AllocError>
-    ensures { IfOk result (λ r. r ≡ why_coded coded.now signal ranged (field_texts value.now)) }
+    ensures { IfOk result (λ r. r ≡ why_coded coded.now signal ranged (fields_of value.entry)) }
 {
     match coded.encoding_of(signal) {
         Some(encoding) => {
@@ -224,10 +224,10 @@ fn why_of_signal(
     field: &[u8],
     signal: u16,
     ranged: bool,
-    value: &[&[u8]],
+    value: Fields<'_>,
 ) -> Result<Option<Reason>, AllocError>
     ensures { IfOk result
-        (λ r. r ≡ why_of_signal coded.now field.now signal ranged (field_texts value.now)) }
+        (λ r. r ≡ why_of_signal coded.now field.now signal ranged (fields_of value.entry)) }
 {
     if coded.is_wide(signal) {
         return Ok(Some(Reason::WideSignal(Text::copied(alloc, field)?)));
@@ -243,10 +243,10 @@ fn why_value(
     coded: &Coded,
     signal: &[u8],
     ranged: bool,
-    value: &[&[u8]],
+    value: Fields<'_>,
 ) -> Result<Option<Reason>, AllocError>
     ensures { IfOk result (λ r. r ≡ why_value coded.now signal.now
-        (signal_field cluster.now signal.now) ranged (field_texts value.now)) }
+        (signal_field cluster.now signal.now) ranged (fields_of value.entry)) }
 {
     if is_numeric(value) {
         return Ok(None);
@@ -259,28 +259,33 @@ fn why_value(
 }
 
 /// That `=` is missing after the signal at this field, if it is.
-fn why_at<'a>(
+fn why_at(
     alloc: Global,
     cluster: &Cluster,
     coded: &Coded,
-    all: &'a [&'a [u8]],
+    all: Fields<'_>,
     at: usize,
 ) -> Result<Option<Reason>, AllocError>
-    requires { at + 1 < length all.now }
-    ensures { IfOk result (λ r. r ≡ why_at cluster.now coded.now (field_texts all.now) at) }
+    requires { at + 1 < length (fields_of all) }
+    ensures { IfOk result (λ r. r ≡ why_at cluster.now coded.now (fields_of all.entry) at) }
 {
-    let ranged = is_expect(&all[..at]);
-    why_value(alloc, cluster, coded, all[at], ranged, &all[at + 1..])
+    match all.cut(at) {
+        Some((before, signal, value)) => {
+            let ranged = is_expect(before);
+            why_value(alloc, cluster, coded, signal, ranged, value)
+        }
+        None => Ok(None),
+    }
 }
 
 /// That `=` is missing in a line, if it is.
-fn why_unmarked<'a>(
+fn why_unmarked(
     alloc: Global,
     cluster: &Cluster,
     coded: &Coded,
-    all: &'a [&'a [u8]],
+    all: Fields<'_>,
 ) -> Result<Option<Reason>, AllocError>
-    ensures { IfOk result (λ r. r ≡ why_unmarked cluster.now coded.now (field_texts all.now)) }
+    ensures { IfOk result (λ r. r ≡ why_unmarked cluster.now coded.now (fields_of all.entry)) }
 {
     match signal_at(alloc, cluster, all)? {
         Some(at) => why_at(alloc, cluster, coded, all, at),
@@ -312,8 +317,8 @@ fn with_hint(
 {
     match said {
         Err(LineFault::Bad(why)) => {
-            let all = fields(alloc, cluster, line)?;
-            let found = why_unmarked(alloc, cluster, coded, all.as_slice())?;
+            let all = Fields::of(cluster, line);
+            let found = why_unmarked(alloc, cluster, coded, all)?;
             Err(LineFault::Bad(or_this(found, why)))
         }
         said => said,

@@ -1,21 +1,19 @@
 //! Lines that say values of signals in words: what stands behind `=` or `~`.
 
-ghost use Rattle.std.specs.Prelude.{◌≡◌, ◌<◌, IfOk, drop, is_some, length, option_map, position, true};
-ghost use Rattle.std.specs.List.{list_any};
+ghost use Rattle.std.specs.Prelude.{◌≡◌, ◌<◌, IfOk, length, option_map};
 ghost use Rattle.std.specs.Str.{bytes_eq};
 ghost use Rattle.lin_log.specs.Words.{value_word};
-ghost use Rattle.lin_bench.specs.Fields.{line_fields, field_texts};
 ghost use Rattle.lin_bench.specs.Lines.{read_line};
-ghost use Rattle.lin_bench.specs.Parts.{worded_line_of};
+ghost use Rattle.lin_bench.specs.Parts.{fields_of, said_by_wish, worded_line_of};
 ghost use Rattle.lin_bench.specs.Read.{Gives};
-ghost use Rattle.lin_bench.specs.Words.{expected_line, from_end, in_numbers, is_expect, is_expectation_word, is_value_mark};
-ghost use Rattle.lin_bench.specs.Words.{by_wish, limited, line_in_words, nearest_line, worded_by, written_line};
+ghost use Rattle.lin_bench.specs.Words.{expected_line, from_end, in_numbers, is_expect, is_expectation_word, is_value_mark, mark_at};
+ghost use Rattle.lin_bench.specs.Words.{limited, line_in_words, nearest_line, written_line};
 ghost use Rattle.lin_bench.specs.Words.{is_test, is_write, meant_line, read_worded_line, wish_of};
 ghost use Rattle.lin_bench.specs.Words.{line_with_signal, marked_line, said_line, worded_signal};
-ghost use Rattle.lin_bench.specs.Words.{without_comment, worded, worded_line, worded_or_plain};
+ghost use Rattle.lin_bench.specs.Words.{worded, worded_line};
 
 use crate::fault::LineFault;
-use crate::fields::{fields, signal_field, untabbed};
+use crate::fields::{Fields, signal_field, untabbed};
 use crate::hints::names_hash;
 use crate::line::ScriptLine;
 use crate::lines::read_line;
@@ -27,7 +25,7 @@ use crate::said_values::{Said, expected_values, joined, nearest_value, only_valu
 use crate::unmarked::read_unworded;
 use crate::worded_ons::{read_worded_on, worded_on};
 use lin_frame::Value;
-use lin_log::{NumberNaming, Word, first_field, put_shown};
+use lin_log::{NumberNaming, Word, put_shown};
 use lin_parts::Cluster;
 use lin_text::{Many, Text, TextBuffer, TextWriter};
 use lin_values::Coded;
@@ -48,29 +46,36 @@ pub enum Wish {
 #[derive(Clone, Copy)]
 struct Worded<'a> {
     wish: Wish,
-    before: &'a [&'a [u8]],
+    before: Fields<'a>,
     signal: &'a [u8],
-    words: &'a [&'a [u8]],
+    words: Fields<'a>,
 }
 
 /// Whether a field, counted from the end, is a word.
-fn is_from_end(fields: &[&[u8]], n: usize, word: &[u8]) -> bool
+fn is_from_end(fields: Fields<'_>, n: usize, word: &[u8]) -> bool
     requires { 0 < length word.now }
-    ensures { result ≡ bytes_eq (from_end (field_texts fields.now) n) word.now }
+    ensures { result ≡ bytes_eq (from_end (fields_of fields.entry) n) word.now }
 {
-    n < fields.len() && fields[fields.len() - 1 - n] == word
+    let count = fields.len();
+    if n >= count {
+        return false;
+    }
+    match fields.cut(count - 1 - n) {
+        Some((_, field, _)) => field == word,
+        None => false,
+    }
 }
 
 /// Whether fields are those of a write, before its signal.
-pub(crate) fn is_write(before: &[&[u8]]) -> bool
-    ensures { result ≡ is_write (field_texts before.now) }
+pub(crate) fn is_write(before: Fields<'_>) -> bool
+    ensures { result ≡ is_write (fields_of before.entry) }
 {
     is_from_end(before, 0, b"write") || is_from_end(before, 1, b"write")
 }
 
 /// Whether an expectation begins after a field, counted from the end.
-fn expects_after(fields: &[&[u8]], n: usize) -> bool
-    ensures { result ≡ is_expectation_word (from_end (field_texts fields.now) n) }
+fn expects_after(fields: Fields<'_>, n: usize) -> bool
+    ensures { result ≡ is_expectation_word (from_end (fields_of fields.entry) n) }
 {
     is_from_end(fields, n, b"expect")
         || is_from_end(fields, n, b"until")
@@ -78,26 +83,26 @@ fn expects_after(fields: &[&[u8]], n: usize) -> bool
 }
 
 /// Whether fields are those of an expectation of a signal, before the signal.
-pub(crate) fn is_expect(before: &[&[u8]]) -> bool
-    ensures { result ≡ is_expect (field_texts before.now) }
+pub(crate) fn is_expect(before: Fields<'_>) -> bool
+    ensures { result ≡ is_expect (fields_of before.entry) }
 {
     is_from_end(before, 1, b"signal")
         && (expects_after(before, 2) || is_from_end(before, 2, b"not") && expects_after(before, 3))
 }
 
 /// Whether fields are those of a test.
-fn is_test(before: &[&[u8]]) -> bool
-    ensures { result ≡ is_test (field_texts before.now) }
+fn is_test(before: Fields<'_>) -> bool
+    ensures { result ≡ is_test (fields_of before.entry) }
 {
-    match before {
-        [first, ..] => *first == b"test".as_slice(),
-        [] => false,
+    match before.first() {
+        Some((first, _)) => first == b"test".as_slice(),
+        None => false,
     }
 }
 
 /// What the fields before a signal and the mark behind it ask for; nothing if they are of a test's name.
-fn wish_of(before: &[&[u8]], mark: &[u8]) -> Option<Wish>
-    ensures { result ≡ wish_of (field_texts before.now) mark.now }
+fn wish_of(before: Fields<'_>, mark: &[u8]) -> Option<Wish>
+    ensures { result ≡ wish_of (fields_of before.entry) mark.now }
 {
     if is_test(before) {
         return None;
@@ -119,30 +124,40 @@ fn wish_of(before: &[&[u8]], mark: &[u8]) -> Option<Wish>
     None
 }
 
-/// The place of the first `=` or `~`.
-fn mark_at(all: &[&[u8]]) -> Option<usize>
-    ensures { result ≡ position (λ f. is_value_mark f.now) all.now }
+/// Whether a field is `=` or `~`.
+fn is_value_mark(field: &[u8]) -> bool
+    ensures { result ≡ is_value_mark field.now }
 {
-    all.iter().position(|field| is_value_mark(*field))
+    field == b"=".as_slice() || field == b"~".as_slice()
+}
+
+/// The place of the first `=` or `~`.
+fn mark_at(all: Fields<'_>) -> Option<usize>
+    ensures { result ≡ mark_at (fields_of all.entry) }
+{
+    let mut left = all;
+    while let Some((field, rest)) = left.first() {
+        if is_value_mark(field) {
+            return Some(all.len() - left.len());
+        }
+        left = rest;
+    }
+    None
 }
 
 /// The parts of a line with words, if it is one.
 #[tactic(auto, unfolding(crate::specs::Words::worded))]
-fn worded_parts<'a>(all: &'a [&'a [u8]]) -> Option<Worded<'a>>
-    ensures { option_map worded_line_of result ≡ worded (field_texts all.now) }
+fn worded_parts<'a>(all: Fields<'a>) -> Option<Worded<'a>>
+    ensures { option_map worded_line_of result ≡ worded (fields_of all.entry) }
 {
     let at = mark_at(all)?;
-    let (front, rest) = all.split_at(at);
-    let [before @ .., signal] = front else {
-        return None;
-    };
-    let [mark, words @ ..] = rest else {
-        return None;
-    };
+    let (front, mark, words) = all.cut(at)?;
+    let (before, signal) = front.last()?;
+    let wish = wish_of(before, mark)?;
     Some(Worded {
-        wish: wish_of(before, *mark)?,
+        wish,
         before,
-        signal: *signal,
+        signal,
         words,
     })
 }
@@ -162,20 +177,27 @@ pub(crate) fn raw_word(alloc: Global, value: &Value) -> Result<Vec<u8>, AllocErr
 }
 
 /// The fields up to a signal, and a raw value.
-pub(crate) fn in_numbers<'a>(
+pub(crate) fn in_numbers(
     alloc: Global,
-    before: &'a [&'a [u8]],
-    signal: &'a [u8],
+    before: Fields<'_>,
+    signal: &[u8],
     value: &Value,
 ) -> Result<Vec<u8>, AllocError>
     ensures { IfOk result
-        (λ text. text.items ≡ in_numbers (field_texts before.now) signal.now value.now) }
+        (λ text. text.items ≡ in_numbers (fields_of before.entry) signal.now value.now) }
 {
     let word = raw_word(alloc, value)?;
-    let mut all = Vec::from_slice(alloc, before)?;
-    all.push(signal)?;
-    all.push(word.as_slice())?;
-    joined(alloc, all.as_slice())
+    let mut text = Vec::new(alloc);
+    let mut left = before;
+    while let Some((field, rest)) = left.first() {
+        text.extend_from_slice(field)?;
+        text.push(b' ')?;
+        left = rest;
+    }
+    text.extend_from_slice(signal)?;
+    text.push(b' ')?;
+    text.extend_from_slice(word.as_slice())?;
+    Ok(text)
 }
 
 /// A line that expects a value, or waits for one, with the values that words say in the place of this one.
@@ -205,7 +227,7 @@ fn with_value(
     value: &Value,
 ) -> Result<Option<ScriptLine>, LineFault>
     ensures { Gives (λ l. l) result (read_line cluster.now
-        (in_numbers (field_texts line.now.before.now) line.now.signal.now value.now)) }
+        (in_numbers (fields_of line.now.before) line.now.signal.now value.now)) }
 {
     let numbers = in_numbers(alloc, line.before, line.signal, value)?;
     read_line(alloc, cluster, numbers.as_slice())
@@ -250,13 +272,12 @@ pub(crate) fn expected_line(
     cluster: &Cluster,
     coded: &Coded,
     said: Said<'_>,
-    others: &[&[u8]],
     initial: Option<ScriptLine>,
 ) -> Result<Option<ScriptLine>, LineFault>
     ensures { Gives (λ l. l) result (expected_line cluster.now coded.now said.entry.signal
-        said.entry.field.now said.entry.text.now said.entry.first.now (field_texts others.now) initial) }
+        said.entry.field.now said.entry.text.now said.entry.first.now (fields_of said.entry.others) initial) }
 {
-    let values = expected_values(alloc, coded, said, others)?;
+    let values = expected_values(alloc, coded, said)?;
     let some = unless_all(alloc, cluster, said.signal, said.field, said.text, values)?;
     Ok(meant_line(initial, Text::copied(alloc, said.text)?, some))
 }
@@ -268,46 +289,19 @@ fn by_wish(
     coded: &Coded,
     line: &Worded<'_>,
     said: Said<'_>,
-    others: &[&[u8]],
     initial: Option<ScriptLine>,
 ) -> Result<Option<ScriptLine>, LineFault>
-    ensures { Gives (λ l. l) result (by_wish cluster.now coded.now (worded_line_of line.now) initial
-        said.entry.field.now said.entry.text.now said.entry.first.now (field_texts others.now)
-        said.entry.signal line.now.wish) }
+    ensures { Gives (λ l. l) result (said_by_wish cluster.now coded.now line.now said.entry initial) }
 {
     match line.wish {
         Wish::Write => written_line(alloc, cluster, coded, line, said),
         Wish::Nearest => nearest_line(alloc, cluster, coded, line, said),
-        Wish::Expect => expected_line(alloc, cluster, coded, said, others, initial),
+        Wish::Expect => expected_line(alloc, cluster, coded, said, initial),
     }
 }
 
-/// What a line with these words says, by what it says with the signal's initial value.
-#[tactic(auto, unfolding(crate::specs::Words::worded_by))]
-fn worded_by(
-    alloc: Global,
-    cluster: &Cluster,
-    coded: &Coded,
-    line: &Worded<'_>,
-    first: &[u8],
-    others: &[&[u8]],
-    initial: Option<ScriptLine>,
-    signal: u16,
-) -> Result<Option<ScriptLine>, LineFault>
-    ensures { Gives (λ l. l) result (worded_by cluster.now coded.now (worded_line_of line.now) initial
-        first.now (field_texts others.now) signal) }
-{
-    let text = joined(alloc, line.words)?;
-    let said = Said {
-        signal,
-        field: line.signal,
-        text: text.as_slice(),
-        first,
-    };
-    by_wish(alloc, cluster, coded, line, said, others, initial)
-}
-
 /// What a line with words of a signal says, by what it says with the signal's initial value.
+#[tactic(auto, unfolding(crate::specs::Words::worded_by))]
 fn with_words(
     alloc: Global,
     cluster: &Cluster,
@@ -319,44 +313,18 @@ fn with_words(
     ensures { Gives (λ l. l) result
         (line_with_signal cluster.now coded.now (worded_line_of line.now) initial signal) }
 {
-    match line.words {
-        [first, others @ ..] => {
-            worded_by(alloc, cluster, coded, line, *first, others, initial, signal)
-        }
-        [] => Err(LineFault::Bad(Reason::NoWords)),
-    }
-}
-
-/// The fields after the first ones, so many.
-fn fields_after<'a>(all: &'a [&'a [u8]], n: usize) -> &'a [&'a [u8]]
-    ensures { field_texts result.now ≡ drop n (field_texts all.now) }
-{
-    if n < all.len() { &all[n..] } else { &[] }
-}
-
-/// What a line without a comment says, of which these are the parts with one, by what it says with
-/// the signal's initial value.
-fn without_comment(
-    alloc: Global,
-    cluster: &Cluster,
-    coded: &Coded,
-    line: &Worded<'_>,
-    text: &[u8],
-    initial: Option<ScriptLine>,
-    signal: u16,
-) -> Result<Option<ScriptLine>, LineFault>
-    ensures { Gives (λ l. l) result (line_with_signal cluster.now coded.now
-        (without_comment (worded_line_of line.now) text.now) initial signal) }
-{
-    let text = untabbed(alloc, text)?;
-    let all = fields(alloc, &NumberNaming, text.as_slice())?;
-    let whole = Worded {
-        wish: line.wish,
-        before: line.before,
-        signal: line.signal,
-        words: fields_after(all.as_slice(), line.before.len() + 2),
+    let Some((first, others)) = line.words.first() else {
+        return Err(LineFault::Bad(Reason::NoWords));
     };
-    with_words(alloc, cluster, coded, &whole, initial, signal)
+    let text = joined(alloc, line.words)?;
+    let said = Said {
+        signal,
+        field: line.signal,
+        text: text.as_slice(),
+        first,
+        others,
+    };
+    by_wish(alloc, cluster, coded, line, said, initial)
 }
 
 /// The number of the signal that a field names, whose value words may say: that of a wide signal they may
@@ -392,60 +360,20 @@ fn read_worded(
     let value = some_value(alloc, cluster, line.signal)?;
     let initial = with_value(alloc, cluster, line, &value)?;
     let signal = worded_signal(alloc, cluster, coded, line.signal)?;
-    if names_hash(coded, signal) {
-        return without_comment(alloc, cluster, coded, line, text, initial, signal);
+    if !names_hash(coded, signal) {
+        return with_words(alloc, cluster, coded, line, initial, signal);
     }
-    with_words(alloc, cluster, coded, line, initial, signal)
-}
-
-/// Whether a field is `=` or `~`.
-fn is_value_mark(field: &[u8]) -> bool
-    ensures { result ≡ is_value_mark field.now }
-{
-    field == b"=".as_slice() || field == b"~".as_slice()
-}
-
-/// Whether a field of a line is `=` or `~`.
-fn has_mark(cluster: &Cluster, line: &[u8]) -> bool
-    ensures { result ≡ list_any is_value_mark (line_fields line.now) }
-{
-    let mut left = line;
-    while let Some((field, rest)) = first_field(cluster, left) {
-        if is_value_mark(field) {
-            return true;
-        }
-        left = rest;
-    }
-    false
-}
-
-/// Whether a line has words. An error means out of memory.
-fn has_words(alloc: Global, cluster: &Cluster, line: &[u8]) -> Result<bool, AllocError>
-    ensures { IfOk result (λ found. found ≡ is_some (worded (line_fields line.now))) }
-{
-    if !has_mark(cluster, line) {
-        return Ok(false);
-    }
-    let all = fields(alloc, cluster, line)?;
-    Ok(worded_parts(all.as_slice()).is_some())
-}
-
-/// What a line that has words says.
-fn read_words(
-    alloc: Global,
-    cluster: &Cluster,
-    coded: &Coded,
-    line: &[u8],
-) -> Result<Option<ScriptLine>, LineFault>
-    requires { is_some (worded (line_fields line.now)) ≡ true }
-    ensures { Gives (λ l. l) result
-        (worded_or_plain cluster.now coded.now line.now (worded (line_fields line.now))) }
-{
-    let all = fields(alloc, cluster, line)?;
-    match worded_parts(all.as_slice()) {
-        Some(worded) => read_worded(alloc, cluster, coded, &worded, line),
-        None => Ok(None),
-    }
+    let text = untabbed(alloc, text)?;
+    let all = Fields::whole(cluster, false, text.as_slice());
+    let words = all.skip(line.before.len()).skip(2);
+    with_words(
+        alloc,
+        cluster,
+        coded,
+        &Worded { words, ..*line },
+        initial,
+        signal,
+    )
 }
 
 /// What a line says whose values may be in words after one mark.
@@ -457,10 +385,10 @@ pub(crate) fn read_marked(
 ) -> Result<Option<ScriptLine>, LineFault>
     ensures { Gives (λ l. l) result (marked_line cluster.now coded.now line.now) }
 {
-    if has_words(alloc, cluster, line)? {
-        return read_words(alloc, cluster, coded, line);
+    match worded_parts(Fields::of(cluster, line)) {
+        Some(worded) => read_worded(alloc, cluster, coded, &worded, line),
+        None => read_unworded(alloc, cluster, coded, line),
     }
-    read_unworded(alloc, cluster, coded, line)
 }
 
 /// What a line says whose values may be in words, also in the form of `on`.
@@ -472,8 +400,7 @@ fn read_said(
 ) -> Result<Option<ScriptLine>, LineFault>
     ensures { Gives (λ l. l) result (said_line cluster.now coded.now line.now) }
 {
-    let all = fields(alloc, cluster, line)?;
-    match worded_on(all.as_slice()) {
+    match worded_on(Fields::of(cluster, line)) {
         Some(on) => read_worded_on(alloc, cluster, coded, &on),
         None => read_marked(alloc, cluster, coded, line),
     }
