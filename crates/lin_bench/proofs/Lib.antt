@@ -2,6 +2,7 @@ pub mod LineWords
 pub mod WordedValues
 pub mod Unwished
 pub mod WordedLines
+pub mod WithoutDollar
 pub mod Wordless
 pub mod OnWords
 pub mod OnTexts

@@ -107,7 +107,7 @@ dollarless (b ∷ bs) h =
     let p = or-false (b == 36) (list_any (λ b. b == 36) bs) h in
     All-cons (λ x. (x == 36) ≡ false) b bs p.0 (dollarless bs p.1)
 
-names-nothing : (f : List ℕ) → list_any (λ b. b == 36) f ≡ false → names_parameter f ≡ false
+pub names-nothing : (f : List ℕ) → list_any (λ b. b == 36) f ≡ false → names_parameter f ≡ false
 names-nothing f h =
     ap (λ ps. list_any (λ p. nat_lt 0 (length (first_name p))) (drop 1 ps)) (slice_split_none (λ b. b == 36) f (dollarless f h))
 

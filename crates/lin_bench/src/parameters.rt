@@ -343,10 +343,20 @@ pub(crate) fn name_a_parameter(fields: Fields<'_>) -> bool
     false
 }
 
+/// Whether a line has a `$`.
+fn has_dollar(line: &[u8]) -> bool
+    ensures { result ≡ list_any (λ b. b == 36) line.now }
+{
+    line.iter().any(|b| *b == b'$')
+}
+
 /// Whether parameters are replaced in a line of an interactive session.
 fn has_parameters(cluster: &Cluster, line: &[u8]) -> bool
     ensures { result ≡ has_parameters line.now }
 {
+    if !has_dollar(line) {
+        return false;
+    }
     !matches!(line, [b'>', ..]) && name_a_parameter(Fields::of(cluster, line))
 }
 
