@@ -138,27 +138,54 @@ fn file(alloc: Global, name: &[u8], text: Option<&[u8]>) -> Result<ScriptFile, A
     })
 }
 
-#[test]
-fn files_are_found_and_read(rt: HostRuntime) -> Result<(), Fail> {
-    let alloc = rt.alloc();
-    let cluster = cluster_of(alloc, DOOR_ZONE)?;
-    let script = Source {
-        name: b"tests/suite.bench",
-        ..Source::of(INCLUDER)
-    };
-    let Some(name) = missing_file(alloc, &cluster, script)? else {
-        return Err(Fail::from("no file is missing"));
-    };
-    assert!(rt; name.as_slice() == b"tests/more.bench".as_slice());
+/// The files that `INCLUDER` includes from its folder, the last of them with this text.
+fn included(alloc: Global, last: &[u8]) -> Result<Vec<ScriptFile>, AllocError> {
     let mut files = Vec::new(alloc);
     files.push(file(alloc, b"tests/more.bench", Some(b"slots 2\n\ninclude /x"))?)?;
     files.push(file(alloc, b"/x", Some(b"slots 3"))?)?;
-    files.push(file(alloc, b"tests/sub/more.bench", Some(b"\nslots 4\nrepeat 1"))?)?;
+    files.push(file(alloc, b"tests/sub/more.bench", Some(last))?)?;
+    Ok(files)
+}
+
+#[test]
+fn first_missing_file_is_found(rt: HostRuntime) -> Result<(), Fail> {
+    let alloc = rt.alloc();
+    let cluster = cluster_of(alloc, DOOR_ZONE)?;
     let source = Source {
+        name: b"tests/suite.bench",
+        ..Source::of(INCLUDER)
+    };
+    let Some(name) = missing_file(alloc, &cluster, source)? else {
+        return Err(Fail::from("no file is missing"));
+    };
+    assert!(rt; name.as_slice() == b"tests/more.bench".as_slice());
+    Ok(())
+}
+
+#[test]
+fn no_file_is_missing(rt: HostRuntime) -> Result<(), Fail> {
+    let alloc = rt.alloc();
+    let cluster = cluster_of(alloc, DOOR_ZONE)?;
+    let files = included(alloc, b"\nslots 4\nrepeat 1")?;
+    let source = Source {
+        name: b"tests/suite.bench",
         files: files.as_slice(),
-        ..script
+        ..Source::of(INCLUDER)
     };
     assert!(rt; missing_file(alloc, &cluster, source)?.is_none());
+    Ok(())
+}
+
+#[test]
+fn bad_line_of_a_file_has_its_place(rt: HostRuntime) -> Result<(), Fail> {
+    let alloc = rt.alloc();
+    let cluster = cluster_of(alloc, DOOR_ZONE)?;
+    let files = included(alloc, b"\nslots 4\nrepeat 1")?;
+    let source = Source {
+        name: b"tests/suite.bench",
+        files: files.as_slice(),
+        ..Source::of(INCLUDER)
+    };
     let bad = bad_lines(alloc, &cluster, None, &[], source)?;
     assert!(rt;
         bad.len() == 1
@@ -170,10 +197,18 @@ fn files_are_found_and_read(rt: HostRuntime) -> Result<(), Fail> {
                     test: 0
                 }
     );
-    files[2] = file(alloc, b"tests/sub/more.bench", Some(b"\nslots 4"))?;
+    Ok(())
+}
+
+#[test]
+fn files_are_read(rt: HostRuntime) -> Result<(), Fail> {
+    let alloc = rt.alloc();
+    let cluster = cluster_of(alloc, DOOR_ZONE)?;
+    let files = included(alloc, b"\nslots 4")?;
     let source = Source {
+        name: b"tests/suite.bench",
         files: files.as_slice(),
-        ..script
+        ..Source::of(INCLUDER)
     };
     let Ok(lines) = read(alloc, &cluster, None, &[], source) else {
         return Err(Fail::from("a bad line"));
