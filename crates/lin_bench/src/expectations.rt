@@ -783,7 +783,8 @@ fn no_change(word: &[u8], parts: Fields<'_>) -> bool
     word == b"not".as_slice() && begins_change(parts)
 }
 
-/// Whether a word begins what comes after a step alone, or stands for what doesn't come.
+/// Whether `until` doesn't accept a word: `done` and `refused` are about the last step, and `no` is about
+/// what doesn't occur.
 fn never_comes(word: &[u8]) -> bool
     ensures { result ≡ never_comes word.now }
 {

@@ -93,7 +93,7 @@ impl<'l> Fields<'l> {
         ))
     }
 
-    /// Whether there is no field.
+    /// Whether there are no fields.
     pub(crate) fn is_empty(self) -> bool
         ensures { result ≡ no_fields (fields_of self.entry) }
     {

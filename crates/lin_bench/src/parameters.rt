@@ -29,7 +29,7 @@ use std::alloc::{AllocError, Global};
 /// How many bytes a line may have in which parameters were replaced.
 const LONGEST_LINE: usize = 65_536;
 
-/// A parameter that a line sets: its name, and the text for which the name stands.
+/// A parameter that a line sets: its name, and the text that replaces the name.
 #[derive(Drop)]
 pub struct Parameter {
     pub name: Text,
@@ -91,7 +91,7 @@ fn first_piece(text: &[u8]) -> (&[u8], Option<&[u8]>)
     (&text[..end], Some(&text[end + 1..]))
 }
 
-/// Whether a parameter stands in a field.
+/// Whether a field contains a parameter.
 fn names_parameter(field: &[u8]) -> bool
     ensures { result ≡ names_parameter field.now }
 {
@@ -107,7 +107,7 @@ fn names_parameter(field: &[u8]) -> bool
     false
 }
 
-/// Whether the parameter with a name stands in a field.
+/// Whether a field contains the parameter with a name.
 pub(crate) fn has_name(field: &[u8], name: &[u8]) -> bool
     ensures { result ≡ has_name name.now field.now }
 {
@@ -173,7 +173,7 @@ impl Parameters<'_> {
         }
     }
 
-    /// Adds what stands for a piece of a field after `$` to a line.
+    /// Adds a piece of a field after `$` to a line, with the text of its parameter.
     ///
     /// # Errors
     /// `Bad` if there is no such parameter; `OutOfMemory`.

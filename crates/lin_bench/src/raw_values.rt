@@ -97,8 +97,8 @@ pub(crate) fn raw_value(
     Err(no_value(alloc, name, field)?)
 }
 
-/// The range between two ends, which stands in this field, if it has a value of a signal, and not every one;
-/// `name` is the signal's field.
+/// Returns the range from a field if the signal can have its lowest value, and if it isn't the range of all
+/// values. `name` is the field of the signal, and `field` that of the range.
 pub(crate) fn raw_range(
     alloc: Global,
     cluster: &Cluster,
@@ -150,7 +150,7 @@ fn initial_value(cluster: &Cluster, signal: u16) -> Value
     }
 }
 
-/// A value that the signal with a field can have, its initial one; 0 if there is no such signal. An error means
+/// Returns the initial value of the signal with a name or number; 0 if there is no such signal. An error means
 /// out of memory.
 pub(crate) fn some_value(
     alloc: Global,
